@@ -1,0 +1,149 @@
+-- The rules of the chip file (document 01, "The chip file" and "Refusal table"), as a kind of text.
+use Prim.Native.Nat.{ℕ, zero, suc, _+_}
+use mathlib.Core.List.{List, [], _∷_, _++_}
+use mathlib.Core.Bool.{Bool, true, false, not, _&&_, _||_}
+use lib.Dec.{leb, ltb}
+use lib.ListN.{length, getD}
+use lib.IntN.{ℤ, pos, negsuc, natAbs}
+use Rattle.model.specs.declared.Die.{Die}
+use Rattle.model.specs.declared.Fix.{Fix}
+use Rattle.model.specs.declared.Mac.{Mac}
+use Rattle.model.specs.Meaning.{Pin, Net, Chip}
+use Rattle.model.specs.declared.Word.{Word}
+use Rattle.model.specs.declared.Word.the-variants as word
+use Rattle.grammar.specs.Words.{isWord, isIn, chipWords}
+use Rattle.grammar.specs.Reading.{Kind, Step, next, fault, check}
+
+-- what has been read: the word of the last line (`Nothing` before the first) and the chip so far
+pub record Part : Type 0 where
+  pub last : Word
+  pub chip : Chip
+
+abbrev pub start : Part
+start = record { last = word.Nothing; chip = record { die = record { w = 0; h = 0 }; fixes = []; macs = []; nets = [] } }
+
+-- the words that may stand after a word: the order is die, fixes, macros, nets each with its pins, end. (A net or the end right after a net is refusal 7 and not 5.)
+abbrev pub followers : Word → List Word
+followers word.Nothing = word.Die ∷ []
+followers word.Die = word.Fix ∷ word.Mac ∷ word.Net ∷ word.End ∷ []
+followers word.Fix = word.Fix ∷ word.Mac ∷ word.Net ∷ word.End ∷ []
+followers word.Mac = word.Mac ∷ word.Net ∷ word.End ∷ []
+followers word.Net = word.Net ∷ word.Pin ∷ word.End ∷ []
+followers word.Pin = word.Net ∷ word.Pin ∷ word.End ∷ []
+followers word.End = []
+followers word.Least = []
+followers word.None = []
+followers word.At = []
+followers word.Done = []
+
+-- the number of pins in all nets
+unfoldable pub pinCount : List Net → ℕ
+pinCount [] = 0
+pinCount (t ∷ ts) = length (t .pins) + pinCount ts
+
+-- at most 8 fixes, 8 macros, 32 nets and 128 pins
+abbrev pub room : Chip → Word → Bool
+room c word.Nothing = true
+room c word.Die = true
+room c word.Fix = ltb (length (c .fixes)) 8
+room c word.Mac = ltb (length (c .macs)) 8
+room c word.Net = ltb (length (c .nets)) 32
+room c word.Pin = ltb (pinCount (c .nets)) 128
+room c word.End = true
+room c word.Least = true
+room c word.None = true
+room c word.At = true
+room c word.Done = true
+
+-- a net has a pin: the line after it is a pin
+abbrev pub pinned : Word → Word → Bool
+pinned last w = not (isWord last word.Net) || isWord w word.Pin
+
+-- value i of a line
+abbrev pub value : List ℤ → ℕ → ℤ
+value zs i = getD zs i (pos 0)
+
+abbrev pub size : List ℤ → ℕ → ℕ
+size zs i = natAbs (value zs i)
+
+-- a fix lies in the die
+abbrev pub fixInDie : Die → Fix → Bool
+fixInDie d f = leb (f .x + f .w) (d .w) && leb (f .y + f .h) (d .h)
+
+-- one fix is left of, right of, below or above the other; touching edges are allowed
+abbrev pub fixesApart : Fix → Fix → Bool
+fixesApart a b = leb (a .x + a .w) (b .x) || (leb (b .x + b .w) (a .x) || (leb (a .y + a .h) (b .y) || leb (b .y + b .h) (a .y)))
+
+-- a fix overlaps none of the earlier ones
+unfoldable pub clearOf : Fix → List Fix → Bool
+clearOf f [] = true
+clearOf f (g ∷ gs) = fixesApart f g && clearOf f gs
+
+-- a pin belongs to the last net
+unfoldable pub addPin : Pin → List Net → List Net
+addPin p [] = []
+addPin p (t ∷ []) = record { weight = t .weight; pins = t .pins ++ (p ∷ []) } ∷ []
+addPin p (t ∷ (u ∷ ts)) = t ∷ addPin p (u ∷ ts)
+
+abbrev pub dieOf : List ℤ → Die
+dieOf zs = record { w = size zs 0; h = size zs 1 }
+
+abbrev pub fixOf : List ℤ → Fix
+fixOf zs = record { x = size zs 0; y = size zs 1; w = size zs 2; h = size zs 3 }
+
+abbrev pub macOf : List ℤ → Mac
+macOf zs = record { w = size zs 0; h = size zs 1 }
+
+abbrev pub netOf : List ℤ → Net
+netOf zs = record { weight = size zs 0; pins = [] }
+
+abbrev pub pinOf : List ℤ → Pin
+pinOf zs = record { m = size zs 0; x = value zs 1; y = value zs 2 }
+
+abbrev pub withDie : Chip → Die → Chip
+withDie c d = record { die = d; fixes = c .fixes; macs = c .macs; nets = c .nets }
+
+abbrev pub withFix : Chip → Fix → Chip
+withFix c f = record { die = c .die; fixes = c .fixes ++ (f ∷ []); macs = c .macs; nets = c .nets }
+
+abbrev pub withMac : Chip → Mac → Chip
+withMac c m = record { die = c .die; fixes = c .fixes; macs = c .macs ++ (m ∷ []); nets = c .nets }
+
+abbrev pub withNet : Chip → Net → Chip
+withNet c t = record { die = c .die; fixes = c .fixes; macs = c .macs; nets = c .nets ++ (t ∷ []) }
+
+abbrev pub withPin : Chip → Pin → Chip
+withPin c p = record { die = c .die; fixes = c .fixes; macs = c .macs; nets = addPin p (c .nets) }
+
+abbrev pub after : Word → Chip → Step Part
+after w c = next (record { last = w; chip = c })
+
+-- the last tests of a line and what it adds: no such macro 8; fix leaves the die 9; fix overlaps an earlier fix 10
+abbrev pub add : Part → Word → List ℤ → Step Part
+add s word.Nothing zs = fault 2
+add s word.Die zs = after word.Die (withDie (s .chip) (dieOf zs))
+add s word.Fix zs =
+    check (fixInDie (s .chip .die) (fixOf zs)) 9
+    (check (clearOf (fixOf zs) (s .chip .fixes)) 10
+    (after word.Fix (withFix (s .chip) (fixOf zs))))
+add s word.Mac zs = after word.Mac (withMac (s .chip) (macOf zs))
+add s word.Net zs = after word.Net (withNet (s .chip) (netOf zs))
+add s word.Pin zs =
+    check (leb (size zs 0) (length (s .chip .macs))) 8
+    (after word.Pin (withPin (s .chip) (pinOf zs)))
+add s word.End zs = after word.End (s .chip)
+add s word.Least zs = fault 2
+add s word.None zs = fault 2
+add s word.At zs = fault 2
+add s word.Done zs = fault 2
+
+-- chip files as a kind of text; `end` is the last line
+abbrev pub chipKind : Kind Part
+chipKind = record {
+  words = chipWords;
+  inPlace = λ s w. isIn w (followers (s .last));
+  hasRoom = λ s w. room (s .chip) w;
+  hasPin = λ s w. pinned (s .last) w;
+  add = add;
+  complete = λ s. isWord (s .last) word.End;
+}

@@ -1,0 +1,57 @@
+-- Reading and writing of chips: `readChip` is what a text means, `chipText` the one text of a chip, `writeChip` what writing leaves in a lent buffer.
+use Prim.Native.Nat.{ℕ}
+use mathlib.Core.List.{List, [], _∷_, _++_, map}
+use lib.IntN.{ℤ, pos, negsuc}
+use Rattle.model.specs.declared.Die.{Die}
+use Rattle.model.specs.declared.Fix.{Fix}
+use Rattle.model.specs.declared.Mac.{Mac}
+use Rattle.model.specs.Meaning.{Pin, Net, Chip}
+use Rattle.model.specs.declared.Word.{Word}
+use Rattle.model.specs.declared.Word.the-variants as word
+use Rattle.grammar.specs.Words.{Item, itemsText}
+use Rattle.grammar.specs.Reading.{Reading, accepted, refused, readText}
+use Rattle.grammar.specs.Writing.{Written, writeText}
+use Rattle.chip.specs.Kind.{Part, start, chipKind}
+
+abbrev pub chipRead : Reading Part → Reading Chip
+chipRead (accepted s) = accepted (s .chip)
+chipRead (refused n l) = refused n l
+
+-- a text is accepted as the chip that it means, or refused with number and line
+unfoldable pub readChip : List ℕ → Reading Chip
+readChip text = chipRead (readText chipKind start text)
+
+-- ---- the lines of a chip
+
+abbrev pub dieItem : Die → Item
+dieItem d = record { word = word.Die; values = pos (d .w) ∷ pos (d .h) ∷ [] }
+
+abbrev pub fixItem : Fix → Item
+fixItem f = record { word = word.Fix; values = pos (f .x) ∷ pos (f .y) ∷ pos (f .w) ∷ pos (f .h) ∷ [] }
+
+abbrev pub macItem : Mac → Item
+macItem m = record { word = word.Mac; values = pos (m .w) ∷ pos (m .h) ∷ [] }
+
+abbrev pub pinItem : Pin → Item
+pinItem p = record { word = word.Pin; values = pos (p .m) ∷ p .x ∷ p .y ∷ [] }
+
+abbrev pub netItem : Net → Item
+netItem t = record { word = word.Net; values = pos (t .weight) ∷ [] }
+
+abbrev pub endItem : Item
+endItem = record { word = word.End; values = [] }
+
+unfoldable pub netItems : List Net → List Item
+netItems [] = []
+netItems (t ∷ ts) = netItem t ∷ (map pinItem (t .pins) ++ netItems ts)
+
+unfoldable pub chipItems : Chip → List Item
+chipItems c = dieItem (c .die) ∷ (map fixItem (c .fixes) ++ (map macItem (c .macs) ++ (netItems (c .nets) ++ (endItem ∷ []))))
+
+-- the one text of a chip
+unfoldable pub chipText : Chip → List ℕ
+chipText c = itemsText (chipItems c)
+
+-- a chip held as a value is tested first as its text would be, then written
+abbrev pub writeChip : Chip → List ℕ → Written
+writeChip c out = writeText (readChip (chipText c)) (chipText c) out

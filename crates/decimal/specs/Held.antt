@@ -1,0 +1,30 @@
+-- How the program holds a number that it has read, and what writing into a lent buffer leaves there.
+use Prim.Native.Nat.{ℕ, zero, suc, _+_, _-_, _^_, _≤_, min}
+use mathlib.Core.Path.{_≡_}
+use mathlib.Core.List.{List, [], _∷_}
+use mathlib.Core.Bool.{Bool, true, false}
+use lib.ListN.{length}
+use lib.Seq.{sets}
+use lib.IntN.{ℤ, pos, negsuc}
+use Rattle.decimal.specs.declared.Number.{Number}
+use Rattle.decimal.specs.declared.Number.the-variants as held
+use Rattle.decimal.specs.Number.{Numeral, number, noNumber}
+
+-- above every range of document 01: numbers further from 0 are held as this one
+abbrev pub cap : ℕ
+cap = 1000000000
+
+-- the answer of the number reader for each case: sign (true where negative) and magnitude, or no number
+abbrev pub heldNumber : Numeral → Number
+heldNumber (number (pos n)) = held.Value false (min cap n)
+heldNumber (number (negsuc n)) = held.Value true (min cap (suc n))
+heldNumber noNumber = held.Bad
+
+-- the largest place that a machine word holds; every buffer is shorter
+abbrev pub lastPlace : ℕ
+lastPlace = 18446744073709551615
+
+-- `text` was written from `at` on, as far as the buffer goes; `next` is the place after it
+pub record Wrote (before after text : List ℕ) (at next : ℕ) : Type 0 where
+  pub place : next ≡ min (at + length text) lastPlace
+  pub bytes : after ≡ sets before at text

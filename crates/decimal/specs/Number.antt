@@ -1,0 +1,70 @@
+-- Numbers as text. Document 01, "The chip file": a number is `0`, or digits not starting with 0, after a minus sign where negative; `-0` is no number.
+use Prim.Native.Nat.{ℕ, zero, suc, _+_, _-_, _*_, _/_, _%_}
+use mathlib.Core.List.{List, [], _∷_, _++_}
+use mathlib.Core.Bool.{Bool, true, false, _&&_}
+use lib.Dec.{leb, ltb, eqb}
+use lib.IntN.{ℤ, pos, negsuc}
+
+abbrev pub minusSign : ℕ
+minusSign = 45
+
+-- the bytes `0` to `9`
+abbrev pub isDigit : ℕ → Bool
+isDigit b = leb 48 b && leb b 57
+
+-- every byte of s passes the test
+unfoldable pub allOf : (ℕ → Bool) → List ℕ → Bool
+allOf p [] = true
+allOf p (b ∷ s) = p b && allOf p s
+
+abbrev pub allDigits : List ℕ → Bool
+allDigits s = allOf isDigit s
+
+-- the value of the digits s that follow digits of the value a
+unfoldable pub valueFrom : ℕ → List ℕ → ℕ
+valueFrom a [] = a
+valueFrom a (b ∷ s) = valueFrom (a * 10 + (b - 48)) s
+
+-- `0`, or digits not starting with 0
+unfoldable pub plain : List ℕ → Bool
+plain [] = false
+plain (b ∷ []) = isDigit b
+plain (b ∷ (c ∷ s)) = leb 49 b && allDigits (b ∷ (c ∷ s))
+
+-- what a field's bytes are: a number, or none
+pub data Numeral : Type 0 where
+  number : ℤ → Numeral
+  noNumber : Numeral
+
+abbrev pub natural : Bool → ℕ → Numeral
+natural true n = number (pos n)
+natural false n = noNumber
+
+-- -n, where n is above 0
+abbrev pub negative : Bool → ℕ → Numeral
+negative true zero = noNumber
+negative true (suc n) = number (negsuc n)
+negative false n = noNumber
+
+abbrev pub signed : Bool → ℕ → List ℕ → Numeral
+signed true b s = negative (plain s) (valueFrom 0 s)
+signed false b s = natural (plain (b ∷ s)) (valueFrom 0 (b ∷ s))
+
+-- the number that a field's bytes stand for
+unfoldable pub numeralOf : List ℕ → Numeral
+numeralOf [] = noNumber
+numeralOf (b ∷ s) = signed (eqb b minusSign) b s
+
+-- the last k digits of n at most, the first of them not 0 unless n is 0
+unfoldable pub digitsIn : ℕ → ℕ → List ℕ
+digitsIn zero n = []
+digitsIn (suc k) n = elim (ltb n 10) [ true ↦ (48 + n) ∷ [] | false ↦ digitsIn k (n / 10) ++ ((48 + n % 10) ∷ []) ]
+
+-- the decimal digits of n (n has at most n + 1 of them)
+unfoldable pub digits : ℕ → List ℕ
+digits n = digitsIn (suc n) n
+
+-- the one text of a number
+abbrev pub numberText : ℤ → List ℕ
+numberText (pos n) = digits n
+numberText (negsuc n) = minusSign ∷ digits (suc n)

@@ -1,0 +1,106 @@
+-- The words of chip files and records, their spelling and their fields (document 01, "The chip file", "The search and its record").
+use Prim.Native.Nat.{ℕ, zero, suc}
+use mathlib.Core.List.{List, [], _∷_, _++_}
+use mathlib.Core.Bool.{Bool, true, false, _&&_, _||_}
+use lib.Dec.{eqb}
+use lib.IntN.{ℤ, pos, negsuc}
+use Rattle.model.specs.declared.Word.{Word}
+use Rattle.model.specs.declared.Word.the-variants.{Nothing, Die, Fix, Mac, Net, Pin, End, Least, None, At, Done}
+use Rattle.grammar.specs.Line.{Rule, field, lineFeed, fieldsText}
+
+-- the words spelled out in bytes; `Nothing` is no word
+abbrev pub spell : Word → List ℕ
+spell Nothing = []
+spell Die = 100 ∷ 105 ∷ 101 ∷ []
+spell Fix = 102 ∷ 105 ∷ 120 ∷ []
+spell Mac = 109 ∷ 97 ∷ 99 ∷ []
+spell Net = 110 ∷ 101 ∷ 116 ∷ []
+spell Pin = 112 ∷ 105 ∷ 110 ∷ []
+spell End = 101 ∷ 110 ∷ 100 ∷ []
+spell Least = 108 ∷ 101 ∷ 97 ∷ 115 ∷ 116 ∷ []
+spell None = 110 ∷ 111 ∷ 110 ∷ 101 ∷ []
+spell At = 97 ∷ 116 ∷ []
+spell Done = 100 ∷ 111 ∷ 110 ∷ 101 ∷ []
+
+-- a number for each word, to tell words apart
+abbrev pub rank : Word → ℕ
+rank Nothing = 0
+rank Die = 1
+rank Fix = 2
+rank Mac = 3
+rank Net = 4
+rank Pin = 5
+rank End = 6
+rank Least = 7
+rank None = 8
+rank At = 9
+rank Done = 10
+
+abbrev pub isWord : Word → Word → Bool
+isWord a b = eqb (rank a) (rank b)
+
+unfoldable pub isIn : Word → List Word → Bool
+isIn w [] = false
+isIn w (a ∷ ws) = isWord w a || isIn w ws
+
+unfoldable pub same : List ℕ → List ℕ → Bool
+same [] [] = true
+same [] (b ∷ t) = false
+same (a ∷ s) [] = false
+same (a ∷ s) (b ∷ t) = eqb a b && same s t
+
+-- the word of the list that s spells, or `Nothing`
+unfoldable pub wordIn : List Word → List ℕ → Word
+wordIn [] s = Nothing
+wordIn (w ∷ ws) s = elim (same (spell w) s) [ true ↦ w | false ↦ wordIn ws s ]
+
+abbrev pub chipWords : List Word
+chipWords = Die ∷ Fix ∷ Mac ∷ Net ∷ Pin ∷ End ∷ []
+
+abbrev pub recordWords : List Word
+recordWords = Least ∷ None ∷ At ∷ Done ∷ []
+
+-- field names
+abbrev pub byW : List ℕ
+byW = 119 ∷ []
+
+abbrev pub byH : List ℕ
+byH = 104 ∷ []
+
+abbrev pub byX : List ℕ
+byX = 120 ∷ []
+
+abbrev pub byY : List ℕ
+byY = 121 ∷ []
+
+abbrev pub byM : List ℕ
+byM = 109 ∷ []
+
+abbrev pub byWl : List ℕ
+byWl = 119 ∷ 108 ∷ []
+
+-- the fields of each line with their ranges
+abbrev pub rules : Word → List Rule
+rules Nothing = []
+rules Die = field byW (pos 1) (pos 1024) ∷ field byH (pos 1) (pos 1024) ∷ []
+rules Fix = field byX (pos 0) (pos 1023) ∷ field byY (pos 0) (pos 1023) ∷ field byW (pos 1) (pos 1024) ∷ field byH (pos 1) (pos 1024) ∷ []
+rules Mac = field byW (pos 1) (pos 1024) ∷ field byH (pos 1) (pos 1024) ∷ []
+rules Net = field byW (pos 1) (pos 1000) ∷ []
+rules Pin = field byM (pos 0) (pos 8) ∷ field byX (negsuc 4095) (pos 4096) ∷ field byY (negsuc 4095) (pos 4096) ∷ []
+rules End = []
+rules Least = field byWl (pos 0) (pos 589824000) ∷ []
+rules None = []
+rules At = field byM (pos 1) (pos 8) ∷ field byX (pos 0) (pos 1024) ∷ field byY (pos 0) (pos 1024) ∷ []
+rules Done = []
+
+-- a line as a word and its values, and its one text
+pub record Item : Type 0 where
+  pub word : Word
+  pub values : List ℤ
+
+unfoldable pub itemText : Item → List ℕ
+itemText i = spell (i .word) ++ (fieldsText (rules (i .word)) (i .values) ++ (lineFeed ∷ []))
+
+unfoldable pub itemsText : List Item → List ℕ
+itemsText [] = []
+itemsText (i ∷ is) = itemText i ++ itemsText is

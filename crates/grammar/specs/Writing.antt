@@ -1,0 +1,30 @@
+-- What writing a value leaves in a lent buffer. Document 01: a value is tested first as its text would be, then 15; a refusal writes nothing; bytes past a written text are not touched.
+use Prim.Native.Nat.{ℕ}
+use mathlib.Core.List.{List, _++_}
+use mathlib.Core.Bool.{Bool, true, false}
+use lib.Dec.{leb}
+use lib.ListN.{length, drop}
+use Rattle.grammar.specs.Reading.{Reading, accepted, refused}
+
+-- what a writer answers: the length of the text written, or number and line
+pub data Answer : Type 0 where
+  wrote : ℕ → Answer
+  notWritten : ℕ → ℕ → Answer
+
+-- the answer and the buffer that it leaves
+pub record Written : Type 0 where
+  pub answer : Answer
+  pub buffer : List ℕ
+
+abbrev pub refuse : ℕ → ℕ → List ℕ → Written
+refuse n l out = record { answer = notWritten n l; buffer = out }
+
+-- 15 where the buffer is shorter than the text
+abbrev pub fit : Bool → List ℕ → List ℕ → Written
+fit true text out = record { answer = wrote (length text); buffer = text ++ drop (length text) out }
+fit false text out = refuse 15 0 out
+
+-- a value whose text is read as r, written into out
+abbrev pub writeText : {A : Type 0} → Reading A → List ℕ → List ℕ → Written
+writeText (accepted a) text out = fit (leb (length text) (length out)) text out
+writeText (refused n l) text out = refuse n l out
