@@ -1,1 +1,61 @@
-// Definitions and theorems only: what the text of a chip means, and that a chip has one text.
+// What the text of a chip means, and that a chip has one text; and the tests between fixes that reading and writing share.
+use model::{Die, Fix};
+ghost use mathlib.Core.Path.{_≡_};
+ghost use Prim.Native.Nat.{_+_};
+ghost use lib.ListN.{take};
+ghost use lib.Dec.{leb};
+ghost use Rattle.chip.specs.Kind.{fixInDie, fixesApart, clearOf};
+
+// Whether a + size is at most end, for all numbers.
+fn ends_by(a: u64, size: u64, end: u64) -> bool
+    ensures { λ r. ⌜ r ≡ leb (a + size) end ⌝ }
+{
+    if end < a {
+        return false;
+    }
+    size <= end - a
+}
+
+// A fix lies in the die.
+pub fn fix_in_die(d: Die, f: Fix) -> bool
+    ensures { λ r. ⌜ r ≡ fixInDie d f ⌝ }
+{
+    if !ends_by(f.x, f.w, d.w) {
+        return false;
+    }
+    ends_by(f.y, f.h, d.h)
+}
+
+// One fix is left of, right of, below or above the other.
+fn fixes_apart(a: Fix, b: Fix) -> bool
+    ensures { λ r. ⌜ r ≡ fixesApart a b ⌝ }
+{
+    if ends_by(a.x, a.w, b.x) {
+        return true;
+    }
+    if ends_by(b.x, b.w, a.x) {
+        return true;
+    }
+    if ends_by(a.y, a.h, b.y) {
+        return true;
+    }
+    ends_by(b.y, b.h, a.y)
+}
+
+// A fix overlaps none of the first k fixes.
+pub fn clear_of_fixes(f: Fix, fixes: [Fix; 8], k: usize) -> bool
+    ensures { λ r. ⌜ r ≡ clearOf f (take k fixes) ⌝ }
+{
+    let mut i: usize = 0;
+    while i < 8 {
+        if k <= i {
+            return true;
+        }
+        let g = fixes[i];
+        if !fixes_apart(f, g) {
+            return false;
+        }
+        i += 1;
+    }
+    true
+}

@@ -4,12 +4,26 @@ use mathlib.Core.List.{List, _++_}
 use mathlib.Core.Bool.{Bool, true, false}
 use lib.Dec.{leb}
 use lib.ListN.{length, drop}
+use Rattle.model.specs.declared.WriteAnswer.{WriteAnswer}
+use Rattle.model.specs.declared.WriteAnswer.the-variants as write
+use Rattle.model.specs.declared.Tested.{Tested}
+use Rattle.model.specs.declared.Tested.the-variants as tested
 use Rattle.grammar.specs.Reading.{Reading, accepted, refused}
 
 -- what a writer answers: the length of the text written, or number and line
 pub data Answer : Type 0 where
   wrote : ℕ → Answer
   notWritten : ℕ → ℕ → Answer
+
+-- document 01's number and values for each case of the program's answer
+abbrev pub answerOf : WriteAnswer → Answer
+answerOf (write.Text n) = wrote n
+answerOf (write.Refused f) = notWritten (f .no) (f .line)
+
+-- the same for a test: a that passes, or number and line
+abbrev pub testedAs : {A : Type 0} → A → Tested → Reading A
+testedAs a tested.Passed = accepted a
+testedAs a (tested.Refused f) = refused (f .no) (f .line)
 
 -- the answer and the buffer that it leaves
 pub record Written : Type 0 where

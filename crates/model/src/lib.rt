@@ -1,10 +1,20 @@
 // The things of document 01 as values, each limit with the thing that it limits, and constructors that test the limits.
-ghost use mathlib.Core.Path.{_≡_};
-
 // Why an input is refused: the number and the line of document 01's refusal table.
 pub struct Refusal {
     pub no: usize,
     pub line: usize,
+}
+
+// What testing a value answers.
+pub enum Tested {
+    Passed,
+    Refused(Refusal),
+}
+
+// What writing answers: the length of the text written, or the refusal.
+pub enum WriteAnswer {
+    Text(usize),
+    Refused(Refusal),
 }
 
 // The words of chip files and records. Nothing: no known word.

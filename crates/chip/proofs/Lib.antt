@@ -1,0 +1,9 @@
+pub mod Fixes
+pub mod Values
+pub mod Among
+pub mod Body
+pub mod Staged
+pub mod ItemsChip
+pub mod ItemsRun
+pub mod ReadText
+pub mod TextRead

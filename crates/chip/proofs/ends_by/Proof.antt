@@ -1,0 +1,16 @@
+use Rattle.chip.proofs.Fixes.{starts-past, rest-of}
+use Rattle.chip.proofs.ends_by.Statement.{statement}
+use Rattle.chip.proofs.ends_by.Tie as tie
+use Rattle.chip.proofs.ends_by.Reads as reads
+use Rattle.chip.proofs.ends_by.Lts as lts
+
+-- src/lib.rt:14:9
+returns : tie.Need-returns
+returns c = search starts-past
+
+-- src/lib.rt:10:1
+returns-2 : tie.Need-returns-2
+returns-2 c = search rest-of
+
+pub ends-by-spec : {M : Type 1} → statement M
+ends-by-spec = tie.close (tie.spec returns returns-2)

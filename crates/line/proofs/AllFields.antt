@@ -1,0 +1,90 @@
+-- The steps of the reader of a line's fields: what its loop keeps, and each answer.
+use mathlib.Core.Path.{_≡_, refl, ap, subst, _∙_}
+use mathlib.Core.List.{List, [], _∷_, _++_}
+use Prim.Native.Nat.{ℕ, zero, suc, _+_, _≤_, _<_}
+use native.Mathlib.Numerals.{add-one}
+use native.Mathlib.Omega.{arith}
+use lib.IntN.{ℤ}
+use lib.ListN.{length, getD, take, drop, set, length-set, drop-of-length-le}
+use lib.Seq.{drop-cons, take-all}
+use Rattle.model.specs.declared.Word.{Word}
+use Rattle.model.specs.declared.Refusal.{Refusal}
+use Rattle.grammar.specs.Line.{Fields, got, faulty, andThen, fields}
+use Rattle.line.specs.declared.Rule.{Rule as HeldRule}
+use Rattle.line.specs.declared.Field.{Field}
+use Rattle.line.specs.declared.Field.the-variants as field
+use Rattle.line.specs.declared.Fields.the-variants as held
+use Rattle.line.specs.Held.{lowered, loweredAll, FieldsOk}
+use Rattle.line.specs.Steps.{rulesOf, upsOf, blankRule, LayoutOk, Got, Faulty, FieldOk}
+use Rattle.line.proofs.Laid.{next-rule, next-up, rules-length, ups-length}
+
+-- the values zs in front of those that follow
+pub prefixed : List ℤ → Fields → Fields
+prefixed [] f = f
+prefixed (z ∷ zs) f = andThen z (prefixed zs f)
+
+prefixed-more : (zs : List ℤ) (z : ℤ) (f : Fields) → prefixed zs (andThen z f) ≡ prefixed (zs ++ (z ∷ [])) f
+unfolding prefixed
+prefixed-more [] z f = refl
+prefixed-more (y ∷ zs) z f = rw (prefixed-more zs z f)
+
+prefixed-faulty : (zs : List ℤ) (n : ℕ) → prefixed zs (faulty n) ≡ faulty n
+unfolding prefixed
+prefixed-faulty [] n = refl
+prefixed-faulty (z ∷ zs) n = rw (prefixed-faulty zs n)
+
+prefixed-all : (zs : List ℤ) → prefixed zs (got []) ≡ got zs
+unfolding prefixed
+prefixed-all [] = refl
+prefixed-all (z ∷ zs) = rw (prefixed-all zs)
+
+-- one value more
+lowered-more : (us vs : List ℕ) (j v : ℕ) → j < length us → j < length vs → loweredAll (take j us) vs ++ (lowered (getD us j 0) v ∷ []) ≡ loweredAll (take (suc j) us) (set vs j v)
+unfolding loweredAll
+lowered-more [] vs j v h k = absurd (omega arith)
+lowered-more (u ∷ us) [] j v h k = absurd (omega arith)
+lowered-more (u ∷ us) (x ∷ vs) zero v h k = refl
+lowered-more (u ∷ us) (x ∷ vs) (suc j) v h k = ap (λ (t : List ℤ). lowered u x ∷ t) (lowered-more us vs j v (omega arith) (omega arith))
+
+pub read-place : (text : List ℕ) (a l v b : ℕ) (r : HeldRule) (f : Field) → FieldOk text a r l f → f ≡ field.Value v b → b ≤ length text
+read-place text a l v b r f one e = let g : Got text a r v b = subst (FieldOk text a r l) e one in g .place
+
+-- the first j of the n fields have the values vs, and the next one begins at a
+pub record ReadTo (n : ℕ) (rs : List HeldRule) (text vs : List ℕ) (a j : ℕ) : Type 0 where
+  pub room : length vs ≡ 4
+  pub kept : fields (rulesOf n rs) text ≡ prefixed (loweredAll (take j (upsOf n rs)) vs) (fields (drop j (rulesOf n rs)) (drop a text))
+
+pub read-none : (n : ℕ) (rs : List HeldRule) (text vs : List ℕ) → length vs ≡ 4 → ReadTo n rs text vs 0 0
+unfolding prefixed loweredAll
+read-none n rs text vs h = record { room = h; kept = refl }
+
+module _ (n : ℕ) (rs : List HeldRule) (text vs : List ℕ) (a j : ℕ) (inv : ReadTo n rs text vs a j) (w : Word) (ok : LayoutOk w n rs) (l : ℕ) where
+  module _ (h : j < n) (f : Field) (one : FieldOk text a (getD rs j blankRule) l f) where
+    pub read-more : (v b : ℕ) → f ≡ field.Value v b → ReadTo n rs text (set vs j v) b (j + 1)
+    unfolding fields
+    read-more v b e =
+        let g : Got text a (getD rs j blankRule) v b = subst (FieldOk text a (getD rs j blankRule) l) e one in
+        let m = ok .few in
+        let d = inv .room in
+        let q = ups-length w n rs ok in
+        record { room = length-set vs j v ∙ d; kept = rw (add-one, inv .kept, next-rule w n rs ok j h, g .read (λ t. fields (drop (suc j) (rulesOf n rs)) t), prefixed-more, ← next-up w n rs ok j h, lowered-more (upsOf n rs) vs j v (omega arith) (omega arith)) }
+
+    pub read-refused : (r : Refusal) → f ≡ field.Refused r → FieldsOk w l text (record { answer = held.Refused r; values = 0 ∷ 0 ∷ 0 ∷ 0 ∷ [] })
+    unfolding fields
+    read-refused r e =
+        let g : Faulty text a (getD rs j blankRule) l r = subst (FieldOk text a (getD rs j blankRule) l) e one in
+        record { meant = rw (← ok .means, inv .kept, next-rule w n rs ok j h, g .read (λ t. fields (drop (suc j) (rulesOf n rs)) t), prefixed-faulty, g .at); blank = refl }
+
+  module _ (h : n ≤ j) where
+    no-rule : drop j (rulesOf n rs) ≡ []
+    no-rule = let q = rules-length w n rs ok in drop-of-length-le (rulesOf n rs) {i = j} (omega arith)
+
+    pub bytes-left : a < length text → FieldsOk w l text (record { answer = held.Refused (record { no = 2; line = l }); values = 0 ∷ 0 ∷ 0 ∷ 0 ∷ [] })
+    unfolding fields
+    bytes-left g = record { meant = rw (← ok .means, inv .kept, no-rule, drop-cons text a 0 g, prefixed-faulty); blank = refl }
+
+    pub all-read : length text ≤ a → FieldsOk w l text (record { answer = held.Got; values = vs })
+    unfolding fields
+    all-read g =
+        let q = ups-length w n rs ok in
+        record { meant = rw (← ok .means, inv .kept, no-rule, drop-of-length-le text g, prefixed-all, take-all j (upsOf n rs) (omega arith), ok .above); blank = refl }

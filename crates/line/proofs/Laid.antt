@@ -1,0 +1,59 @@
+-- The rules that the program holds for a word.
+use mathlib.Core.Path.{_≡_, refl, ap, _∙_}
+use mathlib.Core.Bool.{Bool, true, false, _&&_, false≢true}
+use mathlib.Core.List.{List, [], _∷_, map}
+use Prim.Native.Nat.{ℕ, zero, suc, _<_}
+use native.Mathlib.Omega.{arith}
+use lib.Dec.{leb, ltb}
+use lib.ListN.{length, getD, take, drop, length-take, length-map, List·getD-map}
+use lib.Seq.{getD-take, drop-cons}
+use borrow.Author.Tests.{leb-true, ltb-true}
+use Rattle.model.specs.declared.Word.{Word}
+use Rattle.decimal.specs.Held.{cap}
+use Rattle.line.specs.declared.Rule.{Rule as HeldRule}
+use Rattle.line.specs.Steps.{ruleOf, rulesOf, upsOf, blankRule, Sane, saneTest, allSane, LayoutOk}
+
+pub laid : (w w′ : Word) (n : ℕ) (a b c d a′ b′ c′ d′ : HeldRule) → w ≡ w′ → a ≡ a′ → b ≡ b′ → c ≡ c′ → d ≡ d′ → LayoutOk w′ n (a′ ∷ b′ ∷ c′ ∷ d′ ∷ []) → LayoutOk w n (a ∷ b ∷ c ∷ d ∷ [])
+laid w w′ n a b c d a′ b′ c′ d′ p q r s t ok = rw (p, q, r, s, t) ok
+
+pub laid-one : (w w′ : Word) (n : ℕ) (a b b′ : HeldRule) → w ≡ w′ → b ≡ b′ → LayoutOk w′ n (a ∷ b′ ∷ b′ ∷ b′ ∷ []) → LayoutOk w n (a ∷ b ∷ b ∷ b ∷ [])
+laid-one w w′ n a b b′ p q ok = laid w w′ n a b b b a b′ b′ b′ p refl q q q ok
+
+both : (a b : Bool) → (a && b) ≡ true → (a ≡ true) × (b ≡ true)
+both true b e = (refl, e)
+both false b e = absurd (false≢true e)
+
+sane-one : (r : HeldRule) → saneTest r ≡ true → Sane r
+sane-one r e =
+    let p = both (leb (r .size) 4) (leb (r .up) 4096 && ltb (r .most) cap) e in
+    let q = both (leb (r .up) 4096) (ltb (r .most) cap) (p .1) in
+    record { name = leb-true _ _ (p .0); shift = leb-true _ _ (q .0); top = ltb-true _ _ (q .1) }
+
+sane-at : (rs : List HeldRule) (j : ℕ) → allSane rs ≡ true → j < length rs → Sane (getD rs j blankRule)
+sane-at [] j s h = absurd (omega arith)
+sane-at (r ∷ rs) zero s h = sane-one r (both (saneTest r) (allSane rs) s .0)
+sane-at (r ∷ rs) (suc j) s h = sane-at rs j (both (saneTest r) (allSane rs) s .1) (omega arith)
+
+module _ (w : Word) (n : ℕ) (rs : List HeldRule) (ok : LayoutOk w n rs) where
+  pub rule-sane : (j : ℕ) → j < n → Sane (getD rs j blankRule)
+  rule-sane j h = let f = ok .few in let k = ok .all in sane-at rs j (ok .sound) (omega arith)
+
+  -- what f says of the first n rules
+  module _ {B : Type 0} (f : HeldRule → B) where
+    mapped-length : length (map f (take n rs)) ≡ n
+    mapped-length = length-map (take n rs) f ∙ length-take n rs ∙ (let h = ok .few in let k = ok .all in omega arith)
+
+    mapped-at : (j : ℕ) → j < n → getD (map f (take n rs)) j (f blankRule) ≡ f (getD rs j blankRule)
+    mapped-at j h = List·getD-map f (take n rs) j blankRule ∙ ap f (getD-take n rs j blankRule h)
+
+  pub rules-length : length (rulesOf n rs) ≡ n
+  rules-length = mapped-length ruleOf
+
+  pub ups-length : length (upsOf n rs) ≡ n
+  ups-length = mapped-length (λ (r : HeldRule). r .up)
+
+  pub next-rule : (j : ℕ) → j < n → drop j (rulesOf n rs) ≡ ruleOf (getD rs j blankRule) ∷ drop (suc j) (rulesOf n rs)
+  next-rule j h = let l = rules-length in drop-cons (rulesOf n rs) j (ruleOf blankRule) (omega arith) ∙ rw (mapped-at ruleOf j h)
+
+  pub next-up : (j : ℕ) → j < n → getD (upsOf n rs) j 0 ≡ getD rs j blankRule .up
+  next-up j h = mapped-at (λ (r : HeldRule). r .up) j h

@@ -1,0 +1,67 @@
+-- How the program holds a line's fields, and what each of its answers means.
+use Prim.Native.Nat.{ℕ, zero, suc}
+use mathlib.Core.List.{List, [], _∷_}
+use mathlib.Core.Path.{_≡_}
+use lib.IntN.{ℤ, pos, subℕ}
+use Rattle.model.specs.declared.Word.{Word}
+use Rattle.model.specs.declared.Word.the-variants as word
+use Rattle.line.specs.declared.Fields.{Fields as HeldFields}
+use Rattle.line.specs.declared.Fields.the-variants as held
+use Rattle.line.specs.declared.FieldsRead.{FieldsRead}
+use Rattle.grammar.specs.Line.{Fields, got, faulty, fields}
+use Rattle.grammar.specs.Words.{rules}
+use Rattle.grammar.specs.Reading.{Reading, accepted, refused}
+
+-- a value that is held u higher
+abbrev pub lowered : ℕ → ℕ → ℤ
+lowered zero v = pos v
+lowered (suc u) v = subℕ v (suc u)
+
+-- how much higher each value of a line is held
+abbrev pub ups : Word → List ℕ
+ups word.Nothing = []
+ups word.Die = 0 ∷ 0 ∷ []
+ups word.Fix = 0 ∷ 0 ∷ 0 ∷ 0 ∷ []
+ups word.Mac = 0 ∷ 0 ∷ []
+ups word.Net = 0 ∷ []
+ups word.Pin = 0 ∷ 4096 ∷ 4096 ∷ []
+ups word.End = []
+ups word.Least = 0 ∷ []
+ups word.None = []
+ups word.At = 0 ∷ 0 ∷ 0 ∷ []
+ups word.Done = []
+
+unfoldable pub loweredAll : List ℕ → List ℕ → List ℤ
+loweredAll [] vs = []
+loweredAll (u ∷ us) [] = []
+loweredAll (u ∷ us) (v ∷ vs) = lowered u v ∷ loweredAll us vs
+
+-- the values of a line with that word
+abbrev pub valuesOf : Word → List ℕ → List ℤ
+valuesOf w vs = loweredAll (ups w) vs
+
+-- the fields of a line, with the line's number in a refusal
+abbrev pub located : ℕ → Fields → Reading (List ℤ)
+located l (got zs) = accepted zs
+located l (faulty n) = refused n l
+
+abbrev pub readFields : Word → ℕ → List ℕ → Reading (List ℤ)
+readFields w l s = located l (fields (rules w) s)
+
+-- the answer of the field reader for each case
+abbrev pub meant : Word → HeldFields → List ℕ → Reading (List ℤ)
+meant w held.Got vs = accepted (valuesOf w vs)
+meant w (held.Refused f) vs = refused (f .no) (f .line)
+
+abbrev pub meantFields : Word → FieldsRead → Reading (List ℤ)
+meantFields w r = meant w (r .answer) (r .values)
+
+-- what a refusal leaves in the values
+abbrev pub afterRefusal : HeldFields → List ℕ → List ℕ
+afterRefusal held.Got vs = 0 ∷ 0 ∷ 0 ∷ 0 ∷ []
+afterRefusal (held.Refused f) vs = vs
+
+-- r is the answer for the bytes s after the word w in line l
+pub record FieldsOk (w : Word) (l : ℕ) (s : List ℕ) (r : FieldsRead) : Type 0 where
+  pub meant : meantFields w r ≡ readFields w l s
+  pub blank : afterRefusal (r .answer) (r .values) ≡ 0 ∷ 0 ∷ 0 ∷ 0 ∷ []
