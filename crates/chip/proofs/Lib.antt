@@ -1,6 +1,4 @@
 pub mod Fixes
-pub mod Values
-pub mod Among
 pub mod Body
 pub mod Staged
 pub mod ItemsChip

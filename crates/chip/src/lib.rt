@@ -1,5 +1,6 @@
 // What the text of a chip means, and that a chip has one text; and the tests between fixes that reading and writing share.
-use model::{Die, Fix};
+use model::Die;
+use model::Fix;
 ghost use mathlib.Core.Path.{_≡_};
 ghost use Prim.Native.Nat.{_+_};
 ghost use lib.ListN.{take};

@@ -5,3 +5,12 @@ pub mod Words
 pub mod Every
 pub mod Items
 pub mod Run
+pub mod Values
+pub mod Among
+pub mod Ready
+pub mod Meaning
+pub mod ByWord
+pub mod Entry
+pub mod OneLine
+pub mod LineAt
+pub mod Left

@@ -3,7 +3,8 @@ use Prim.Native.Nat.{ℕ, zero, suc}
 use mathlib.Core.List.{List, [], _∷_, _++_}
 use mathlib.Core.Bool.{Bool, true, false, _&&_, _||_}
 use lib.Dec.{eqb}
-use lib.IntN.{ℤ, pos, negsuc}
+use lib.IntN.{ℤ}
+use Rattle.model.specs.Limits.{Range, dieSide, fixCorner, fixSide, macSide, netWeight, pinMacro, pinPlace, recordLength, placedMacro, placedCorner}
 use Rattle.model.specs.declared.Word.{Word}
 use Rattle.model.specs.declared.Word.the-variants.{Nothing, Die, Fix, Mac, Net, Pin, End, Least, None, At, Done}
 use Rattle.grammar.specs.Line.{Rule, field, lineFeed, fieldsText}
@@ -79,18 +80,21 @@ byM = 109 ∷ []
 abbrev pub byWl : List ℕ
 byWl = 119 ∷ 108 ∷ []
 
+abbrev pub limited : List ℕ → Range → Rule
+limited name r = field name (r .least) (r .most)
+
 -- the fields of each line with their ranges
 abbrev pub rules : Word → List Rule
 rules Nothing = []
-rules Die = field byW (pos 1) (pos 1024) ∷ field byH (pos 1) (pos 1024) ∷ []
-rules Fix = field byX (pos 0) (pos 1023) ∷ field byY (pos 0) (pos 1023) ∷ field byW (pos 1) (pos 1024) ∷ field byH (pos 1) (pos 1024) ∷ []
-rules Mac = field byW (pos 1) (pos 1024) ∷ field byH (pos 1) (pos 1024) ∷ []
-rules Net = field byW (pos 1) (pos 1000) ∷ []
-rules Pin = field byM (pos 0) (pos 8) ∷ field byX (negsuc 4095) (pos 4096) ∷ field byY (negsuc 4095) (pos 4096) ∷ []
+rules Die = limited byW dieSide ∷ limited byH dieSide ∷ []
+rules Fix = limited byX fixCorner ∷ limited byY fixCorner ∷ limited byW fixSide ∷ limited byH fixSide ∷ []
+rules Mac = limited byW macSide ∷ limited byH macSide ∷ []
+rules Net = limited byW netWeight ∷ []
+rules Pin = limited byM pinMacro ∷ limited byX pinPlace ∷ limited byY pinPlace ∷ []
 rules End = []
-rules Least = field byWl (pos 0) (pos 589824000) ∷ []
+rules Least = limited byWl recordLength ∷ []
 rules None = []
-rules At = field byM (pos 1) (pos 8) ∷ field byX (pos 0) (pos 1024) ∷ field byY (pos 0) (pos 1024) ∷ []
+rules At = limited byM placedMacro ∷ limited byX placedCorner ∷ limited byY placedCorner ∷ []
 rules Done = []
 
 -- a line as a word and its values, and its one text

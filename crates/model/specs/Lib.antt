@@ -1,1 +1,3 @@
 pub mod Meaning
+pub mod Limits
+pub mod Made

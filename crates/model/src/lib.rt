@@ -1,4 +1,9 @@
 // The things of document 01 as values, each limit with the thing that it limits, and constructors that test the limits.
+ghost use mathlib.Core.Path.{_≡_};
+ghost use mathlib.Core.Bool.{_&&_};
+ghost use lib.Dec.{leb};
+ghost use Rattle.model.specs.Made.{meantDie, makeDie, meantFix, makeFix, meantMac, makeMac, meantNet, makeNet, meantPlace, makePlace, meantPin, makePin};
+
 // Why an input is refused: the number and the line of document 01's refusal table.
 pub struct Refusal {
     pub no: usize,
@@ -32,15 +37,44 @@ pub enum Word {
     Done,
 }
 
+// A number is in the range from least to most.
+fn within(v: u64, least: u64, most: u64) -> bool
+    ensures { λ r. ⌜ r ≡ (leb least v && leb v most) ⌝ }
+{
+    if v < least {
+        return false;
+    }
+    v <= most
+}
+
 // The die, with its lower left corner at 0,0.
 pub struct Die {
     pub w: u64,
     pub h: u64,
 }
 
+// What a constructor answers: the thing, or that a number is outside its range.
+pub enum DieMade {
+    Made(Die),
+    Outside,
+}
+
 impl Die {
     pub const SIDE_LEAST: u64 = 1;
+
     pub const SIDE_MOST: u64 = 1024;
+
+    pub fn new(w: u64, h: u64) -> DieMade
+        ensures { λ r. ⌜ meantDie r ≡ makeDie w h ⌝ }
+    {
+        if !within(w, Die::SIDE_LEAST, Die::SIDE_MOST) {
+            return DieMade::Outside;
+        }
+        if !within(h, Die::SIDE_LEAST, Die::SIDE_MOST) {
+            return DieMade::Outside;
+        }
+        DieMade::Made(Die { w, h })
+    }
 }
 
 // A blockage.
@@ -51,11 +85,37 @@ pub struct Fix {
     pub h: u64,
 }
 
+pub enum FixMade {
+    Made(Fix),
+    Outside,
+}
+
 impl Fix {
     pub const COUNT: usize = 8;
+
     pub const CORNER_MOST: u64 = 1023;
+
     pub const SIDE_LEAST: u64 = 1;
+
     pub const SIDE_MOST: u64 = 1024;
+
+    pub fn new(x: u64, y: u64, w: u64, h: u64) -> FixMade
+        ensures { λ r. ⌜ meantFix r ≡ makeFix x y w h ⌝ }
+    {
+        if Fix::CORNER_MOST < x {
+            return FixMade::Outside;
+        }
+        if Fix::CORNER_MOST < y {
+            return FixMade::Outside;
+        }
+        if !within(w, Fix::SIDE_LEAST, Fix::SIDE_MOST) {
+            return FixMade::Outside;
+        }
+        if !within(h, Fix::SIDE_LEAST, Fix::SIDE_MOST) {
+            return FixMade::Outside;
+        }
+        FixMade::Made(Fix { x, y, w, h })
+    }
 }
 
 // A movable macro.
@@ -64,10 +124,29 @@ pub struct Mac {
     pub h: u64,
 }
 
+pub enum MacMade {
+    Made(Mac),
+    Outside,
+}
+
 impl Mac {
     pub const COUNT: usize = 8;
+
     pub const SIDE_LEAST: u64 = 1;
+
     pub const SIDE_MOST: u64 = 1024;
+
+    pub fn new(w: u64, h: u64) -> MacMade
+        ensures { λ r. ⌜ meantMac r ≡ makeMac w h ⌝ }
+    {
+        if !within(w, Mac::SIDE_LEAST, Mac::SIDE_MOST) {
+            return MacMade::Outside;
+        }
+        if !within(h, Mac::SIDE_LEAST, Mac::SIDE_MOST) {
+            return MacMade::Outside;
+        }
+        MacMade::Made(Mac { w, h })
+    }
 }
 
 // A net: its weight, and how many pins it has. The pins of all nets stand in one list, in file order.
@@ -76,10 +155,26 @@ pub struct Net {
     pub pins: usize,
 }
 
+pub enum NetMade {
+    Made(Net),
+    Outside,
+}
+
 impl Net {
     pub const COUNT: usize = 32;
+
     pub const WEIGHT_LEAST: u64 = 1;
+
     pub const WEIGHT_MOST: u64 = 1000;
+
+    pub fn new(weight: u64, pins: usize) -> NetMade
+        ensures { λ r. ⌜ meantNet r ≡ makeNet weight pins ⌝ }
+    {
+        if !within(weight, Net::WEIGHT_LEAST, Net::WEIGHT_MOST) {
+            return NetMade::Outside;
+        }
+        NetMade::Made(Net { weight, pins })
+    }
 }
 
 // A pin of macro m, or a pad where m is 0. Its x and y are held 4,096 higher, so that no field is signed.
@@ -89,11 +184,53 @@ pub struct Pin {
     pub yup: u64,
 }
 
+pub enum PinMade {
+    Made(Pin),
+    Outside,
+}
+
+// A place of a pin, held 4,096 higher, or that it is outside its range.
+enum Place {
+    Up(u64),
+    Outside,
+}
+
+fn raised(x: i64) -> Place
+    ensures { λ r. ⌜ meantPlace r ≡ makePlace x ⌝ }
+{
+    let up = Pin::UP as i64;
+    if x < -up {
+        return Place::Outside;
+    }
+    if up < x {
+        return Place::Outside;
+    }
+    Place::Up((x + up) as u64)
+}
+
 impl Pin {
     pub const COUNT: usize = 128;
+
     pub const UP: u64 = 4096;
+
     pub const PLACE_LEAST_UP: u64 = 0;
+
     pub const PLACE_MOST_UP: u64 = 8192;
+
+    pub fn new(m: usize, x: i64, y: i64) -> PinMade
+        ensures { λ r. ⌜ meantPin r ≡ makePin m x y ⌝ }
+    {
+        if Mac::COUNT < m {
+            return PinMade::Outside;
+        }
+        let Place::Up(xup) = raised(x) else {
+            return PinMade::Outside;
+        };
+        let Place::Up(yup) = raised(y) else {
+            return PinMade::Outside;
+        };
+        PinMade::Made(Pin { m, xup, yup })
+    }
 }
 
 // A chip: its die, k fixes, n macros and t nets, with the pins of all nets. Entries past a count do not belong to it; a count above its array stands for one item too many.

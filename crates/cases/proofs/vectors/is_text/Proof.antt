@@ -1,0 +1,26 @@
+use Rattle.cases.proofs.Prefix.{prefix-long}
+use borrow.Author.Needs.{needs}
+use Rattle.cases.proofs.vectors.is_text.Statement.{statement}
+use Rattle.cases.proofs.vectors.is_text.Tie as tie
+use Rattle.cases.proofs.vectors.is_text.Reads as reads
+use Rattle.cases.proofs.vectors.is_text.Lts as lts
+use Rattle.check.proofs.same.Reads as same-reads
+
+-- src/vectors.rt:179:9
+returns : tie.Need-returns
+returns c = search needs
+
+-- src/vectors.rt:181:17
+slice-aggregate-same : tie.Need-slice-aggregate-same
+slice-aggregate-same c = search prefix-long
+
+-- src/vectors.rt:181:5
+same-requires : tie.Need-same-requires
+same-requires c κs = search needs
+
+-- src/vectors.rt:177:1
+returns-2 : tie.Need-returns-2
+returns-2 c = search needs
+
+pub is-text-spec : {M : Type 1} → statement M
+is-text-spec = tie.close (tie.spec returns slice-aggregate-same same-requires returns-2)

@@ -1,0 +1,73 @@
+use mathlib.Core.Path.{_≡_}
+use Prim.Native.Nat.{_+_, _≤_, _-_}
+use borrow.Author.Needs.{needs}
+use lib.ListN.{length}
+use Rattle.cases.proofs.vectors.run.Statement.{statement}
+use Rattle.cases.proofs.vectors.run.Tie as tie
+use Rattle.cases.proofs.vectors.run.Reads as reads
+use Rattle.cases.proofs.vectors.run.Lts as lts
+use Rattle.cases.proofs.vectors.answer.Reads as answer-reads
+use Rattle.cases.proofs.vectors.index_of.Reads as index-of-reads
+
+abbrev Inv-loop : tie.InvT-loop
+Inv-loop s i₀ i = i ≤ length s + 1
+
+abbrev μ-loop : tie.MeasureT-loop
+μ-loop s i₀ i = length s - i
+
+-- src/vectors.rt:234:5
+loop-holds : tie.Need-loop-holds Inv-loop μ-loop
+loop-holds c = search needs
+
+-- src/vectors.rt:235:13
+index-of-requires : tie.Need-index-of-requires Inv-loop μ-loop
+index-of-requires c κs = search needs
+
+-- src/vectors.rt:236:16
+sub-answer : tie.Need-sub-answer Inv-loop μ-loop
+sub-answer c = search needs
+
+-- src/vectors.rt:236:16
+part-answer-start : tie.Need-part-answer-start Inv-loop μ-loop
+part-answer-start c = search needs
+
+-- src/vectors.rt:236:16
+part-answer-end : tie.Need-part-answer-end Inv-loop μ-loop
+part-answer-end c = search needs
+
+-- src/vectors.rt:236:9
+answer-requires : tie.Need-answer-requires Inv-loop μ-loop
+answer-requires c κs = search needs
+
+-- src/vectors.rt:237:13
+add-i : tie.Need-add-i Inv-loop μ-loop
+add-i c = search needs
+
+-- src/vectors.rt:234:5
+loop-less : tie.Need-loop-less Inv-loop μ-loop
+loop-less c = search needs
+
+-- src/vectors.rt:234:5
+loop-again : tie.Need-loop-again Inv-loop μ-loop
+loop-again c = search needs
+
+-- src/vectors.rt:232:1
+returns : tie.Need-returns Inv-loop μ-loop
+returns c = search needs
+
+pub run-spec : {M : Type 1} → statement M
+run-spec =
+    tie.close
+    (tie.spec
+    Inv-loop
+    μ-loop
+    loop-holds
+    index-of-requires
+    sub-answer
+    part-answer-start
+    part-answer-end
+    answer-requires
+    add-i
+    loop-less
+    loop-again
+    returns)

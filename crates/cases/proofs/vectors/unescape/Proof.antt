@@ -1,0 +1,69 @@
+use mathlib.Core.Path.{_≡_}
+use Prim.Native.Nat.{_≤_, _-_}
+use borrow.Author.Needs.{needs}
+use lib.ListN.{length}
+use Rattle.cases.proofs.vectors.unescape.Statement.{statement}
+use Rattle.cases.proofs.vectors.unescape.Tie as tie
+use Rattle.cases.proofs.vectors.unescape.Reads as reads
+use Rattle.cases.proofs.vectors.unescape.Lts as lts
+use Rattle.cases.proofs.vectors.escape_byte.Reads as escape-byte-reads
+use Rattle.cases.proofs.vectors.escape_size.Reads as escape-size-reads
+use Rattle.cases.proofs.vectors.put.Reads as put-reads
+
+abbrev Inv-loop : tie.InvT-loop
+Inv-loop s out₀ at a₀ i₀ out a i = (i ≤ length s) × (length out ≡ length out₀)
+
+abbrev μ-loop : tie.MeasureT-loop
+μ-loop s out₀ at a₀ i₀ out a i = length s - i
+
+-- src/vectors.rt:87:5
+loop-holds : tie.Need-loop-holds Inv-loop μ-loop
+loop-holds c = search needs
+
+-- src/vectors.rt:88:13
+escape-size-requires : tie.Need-escape-size-requires Inv-loop μ-loop
+escape-size-requires c κs = search needs
+
+-- src/vectors.rt:89:13
+escape-byte-requires : tie.Need-escape-byte-requires Inv-loop μ-loop
+escape-byte-requires c κs = search needs
+
+-- src/vectors.rt:90:9
+put-requires : tie.Need-put-requires Inv-loop μ-loop
+put-requires c κs = search needs
+
+-- src/vectors.rt:91:9
+add-i : tie.Need-add-i Inv-loop μ-loop
+add-i c = search needs
+
+-- src/vectors.rt:87:5
+loop-less : tie.Need-loop-less Inv-loop μ-loop
+loop-less c = search needs
+
+-- src/vectors.rt:87:5
+loop-again : tie.Need-loop-again Inv-loop μ-loop
+loop-again c = search needs
+
+-- src/vectors.rt:83:1
+same-length : tie.Need-same-length Inv-loop μ-loop
+same-length c = search needs
+
+-- src/vectors.rt:83:1
+returns : tie.Need-returns Inv-loop μ-loop
+returns c = search needs
+
+pub unescape-spec : {M : Type 1} → statement M
+unescape-spec =
+    tie.close
+    (tie.spec
+    Inv-loop
+    μ-loop
+    loop-holds
+    escape-size-requires
+    escape-byte-requires
+    put-requires
+    add-i
+    loop-less
+    loop-again
+    same-length
+    returns)

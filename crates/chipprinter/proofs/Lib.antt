@@ -1,0 +1,5 @@
+pub mod Counted
+pub mod Printed
+pub mod Pins
+pub mod Nets
+pub mod Parts

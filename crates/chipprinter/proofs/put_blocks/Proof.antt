@@ -1,0 +1,35 @@
+use Rattle.line.specs.Held.{loweredAll}
+use Rattle.chipprinter.proofs.Parts.{blocks-written}
+use borrow.Author.Needs.{needs}
+use Rattle.chipprinter.proofs.put_blocks.Statement.{statement}
+use Rattle.chipprinter.proofs.put_blocks.Tie as tie
+use Rattle.chipprinter.proofs.put_blocks.Reads as reads
+use Rattle.chipprinter.proofs.put_blocks.Lts as lts
+use Rattle.chipprinter.proofs.put_fixes.Reads as put-fixes-reads
+use Rattle.chipprinter.proofs.put_macs.Reads as put-macs-reads
+use Rattle.linewriter.proofs.put_line.Reads as put-line-reads
+
+-- src/lib.rt:153:9
+put-line-requires : tie.Need-put-line-requires
+put-line-requires c κs = search needs
+
+-- src/lib.rt:154:9
+put-fixes-requires : tie.Need-put-fixes-requires
+put-fixes-requires c κs = search needs
+
+-- src/lib.rt:155:5
+put-macs-requires : tie.Need-put-macs-requires
+put-macs-requires c κs = search needs
+
+-- src/lib.rt:147:1
+same-length : tie.Need-same-length
+same-length c = search needs
+
+-- src/lib.rt:147:1
+returns : tie.Need-returns
+unfolding loweredAll
+returns c = search (needs, blocks-written)
+
+pub put-blocks-spec : {M : Type 1} → statement M
+put-blocks-spec =
+    tie.close (tie.spec put-line-requires put-fixes-requires put-macs-requires same-length returns)

@@ -1,0 +1,36 @@
+use Rattle.line.specs.Held.{loweredAll}
+use Rattle.chipprinter.proofs.Parts.{chip-written}
+use borrow.Author.Needs.{needs}
+use Rattle.chipprinter.proofs.put_chip.Statement.{statement}
+use Rattle.chipprinter.proofs.put_chip.Tie as tie
+use Rattle.chipprinter.proofs.put_chip.Reads as reads
+use Rattle.chipprinter.proofs.put_chip.Lts as lts
+use Rattle.chipprinter.proofs.put_blocks.Reads as put-blocks-reads
+use Rattle.chipprinter.proofs.put_nets.Reads as put-nets-reads
+use Rattle.linewriter.proofs.put_line.Reads as put-line-reads
+
+-- src/lib.rt:164:9
+put-blocks-requires : tie.Need-put-blocks-requires
+put-blocks-requires c κs = search needs
+
+-- src/lib.rt:165:9
+put-nets-requires : tie.Need-put-nets-requires
+put-nets-requires c κs = search needs
+
+-- src/lib.rt:166:5
+put-line-requires : tie.Need-put-line-requires
+put-line-requires c κs = search needs
+
+-- src/lib.rt:159:1
+same-length : tie.Need-same-length
+same-length c = search needs
+
+-- src/lib.rt:159:1
+returns : tie.Need-returns
+unfolding loweredAll
+returns c = search (needs, chip-written)
+
+pub put-chip-spec : {M : Type 1} → statement M
+put-chip-spec =
+    tie.close
+    (tie.spec put-blocks-requires put-nets-requires put-line-requires same-length returns)

@@ -1,0 +1,78 @@
+-- The macros: the loop has written the lines of those before i.
+use borrow.Author.Needs.{needs}
+use mathlib.Core.List.{map}
+use Prim.Native.Nat.{_≤_, _-_}
+use lib.ListN.{take}
+use Rattle.decimal.specs.Held.{Wrote}
+use Rattle.decimal.proofs.Wrote.{wrote-length}
+use Rattle.model.specs.Meaning.{firstOf, blankMac}
+use Rattle.grammar.specs.Words.{itemsText}
+use Rattle.line.specs.Held.{loweredAll}
+use Rattle.chip.specs.Text.{macItem}
+use Rattle.chipprinter.proofs.Printed.{items-none, line-more, lines-all}
+use Rattle.chipprinter.proofs.put_macs.Statement.{statement}
+use Rattle.chipprinter.proofs.put_macs.Tie as tie
+use Rattle.chipprinter.proofs.put_macs.Reads as reads
+use Rattle.chipprinter.proofs.put_macs.Lts as lts
+use Rattle.chipprinter.proofs.mac_at.Reads as mac-at-reads
+use Rattle.chipprinter.proofs.shown.Reads as shown-reads
+use Rattle.linewriter.proofs.put_line.Reads as put-line-reads
+
+abbrev Inv-loop : tie.InvT-loop
+Inv-loop out₀ at macs k n a₀ i₀ out a i = (i ≤ n) × Wrote out₀ out (itemsText (map macItem (take i (firstOf blankMac k macs)))) at a
+
+abbrev μ-loop : tie.MeasureT-loop
+μ-loop out₀ at macs k n a₀ i₀ out a i = n - i
+
+-- src/lib.rt:66:9
+shown-requires : tie.Need-shown-requires Inv-loop μ-loop
+shown-requires c κs = search needs
+
+-- src/lib.rt:69:5
+loop-holds : tie.Need-loop-holds Inv-loop μ-loop
+loop-holds c = (search needs, search (needs, items-none))
+
+-- src/lib.rt:70:13
+mac-at-requires : tie.Need-mac-at-requires Inv-loop μ-loop
+mac-at-requires c κs = search needs
+
+-- src/lib.rt:71:9
+put-line-requires : tie.Need-put-line-requires Inv-loop μ-loop
+put-line-requires c κs = search needs
+
+-- src/lib.rt:72:9
+add-i : tie.Need-add-i Inv-loop μ-loop
+add-i c = search needs
+
+-- src/lib.rt:69:5
+loop-less : tie.Need-loop-less Inv-loop μ-loop
+loop-less c = search needs
+
+-- src/lib.rt:69:5
+loop-again : tie.Need-loop-again Inv-loop μ-loop
+unfolding loweredAll
+loop-again c = (search needs, search (needs, line-more blankMac macItem))
+
+-- src/lib.rt:63:1
+same-length : tie.Need-same-length Inv-loop μ-loop
+same-length c = search (needs, wrote-length)
+
+-- src/lib.rt:63:1
+returns : tie.Need-returns Inv-loop μ-loop
+returns c = search (needs, lines-all blankMac macItem)
+
+pub put-macs-spec : {M : Type 1} → statement M
+put-macs-spec =
+    tie.close
+    (tie.spec
+    Inv-loop
+    μ-loop
+    shown-requires
+    loop-holds
+    mac-at-requires
+    put-line-requires
+    add-i
+    loop-less
+    loop-again
+    same-length
+    returns)

@@ -1,0 +1,168 @@
+// The text of a chip, into a lent buffer.
+use model::Chip;
+use model::Fix;
+use model::Mac;
+use model::Net;
+use model::Pin;
+use model::Word;
+ghost use mathlib.Core.Path.{_≡_};
+ghost use mathlib.Core.List.{map};
+ghost use Prim.Native.Nat.{_+_, _≤_, min};
+ghost use lib.ListN.{getD, drop};
+ghost use Rattle.decimal.specs.Held.{Wrote};
+ghost use Rattle.model.specs.Meaning.{firstOf, blankFix, blankMac, blankNet, blankPin, pinsOf, netsOf, chipOf};
+ghost use Rattle.grammar.specs.Words.{itemsText};
+ghost use Rattle.chip.specs.Text.{fixItem, macItem, pinItem, netItems, chipText};
+ghost use Rattle.chipprinter.specs.Shown.{shownOf};
+ghost use Rattle.chipprinter.specs.Parts.{blockItems};
+
+// How many items a count stands for: one too many where it is past the last.
+fn shown(count: usize, capacity: usize) -> usize
+    requires { ⌜ capacity ≤ 128 ⌝ }
+    ensures { λ r. ⌜ r ≡ shownOf count capacity ⌝ }
+{
+    if count <= capacity {
+        count
+    } else {
+        capacity + 1
+    }
+}
+
+fn fix_at(fixes: [Fix; 8], i: usize) -> Fix
+    ensures { λ r. ⌜ r ≡ getD fixes i blankFix ⌝ }
+{
+    if i < 8 {
+        return fixes[i];
+    }
+    Fix {
+        x: 0,
+        y: 0,
+        w: 0,
+        h: 0,
+    }
+}
+
+fn put_fixes(out: &mut [u8], at: usize, fixes: [Fix; 8], k: usize) -> usize
+    ensures { λ r. ⌜ Wrote (now (out .entry)) (now (out .exit)) (itemsText (map fixItem (firstOf blankFix k fixes))) at r ⌝ }
+{
+    let n = shown(k, 8);
+    let mut a = at;
+    let mut i: usize = 0;
+    while i < n {
+        let f = fix_at(fixes, i);
+        a = linewriter::put_line(out, a, Word::Fix, [f.x, f.y, f.w, f.h]);
+        i += 1;
+    }
+    a
+}
+
+fn mac_at(macs: [Mac; 8], i: usize) -> Mac
+    ensures { λ r. ⌜ r ≡ getD macs i blankMac ⌝ }
+{
+    if i < 8 {
+        return macs[i];
+    }
+    Mac { w: 0, h: 0 }
+}
+
+fn put_macs(out: &mut [u8], at: usize, macs: [Mac; 8], k: usize) -> usize
+    ensures { λ r. ⌜ Wrote (now (out .entry)) (now (out .exit)) (itemsText (map macItem (firstOf blankMac k macs))) at r ⌝ }
+{
+    let n = shown(k, 8);
+    let mut a = at;
+    let mut i: usize = 0;
+    while i < n {
+        let m = mac_at(macs, i);
+        a = linewriter::put_line(out, a, Word::Mac, [m.w, m.h, 0, 0]);
+        i += 1;
+    }
+    a
+}
+
+fn pin_at(pins: [Pin; 128], i: usize) -> Pin
+    ensures { λ r. ⌜ r ≡ getD pins i blankPin ⌝ }
+{
+    if i < 128 {
+        return pins[i];
+    }
+    Pin {
+        m: 0,
+        xup: 0,
+        yup: 0,
+    }
+}
+
+// The pins of a net, `count` of them from q on.
+fn put_pins(out: &mut [u8], at: usize, pins: [Pin; 128], q: usize, count: usize) -> usize
+    requires { ⌜ q ≤ 128 ⌝ }
+    ensures { λ r. ⌜ Wrote (now (out .entry)) (now (out .exit)) (itemsText (map pinItem (pinsOf (firstOf blankPin count (drop q pins))))) at r ⌝ }
+{
+    let n = shown(count, 128 - q);
+    let mut a = at;
+    let mut i: usize = 0;
+    while i < n {
+        let p = pin_at(pins, q + i);
+        let m = p.m as u64;
+        a = linewriter::put_line(out, a, Word::Pin, [m, p.xup, p.yup, 0]);
+        i += 1;
+    }
+    a
+}
+
+fn net_at(nets: [Net; 32], i: usize) -> Net
+    ensures { λ r. ⌜ r ≡ getD nets i blankNet ⌝ }
+{
+    if i < 32 {
+        return nets[i];
+    }
+    Net { weight: 0, pins: 0 }
+}
+
+fn put_nets(out: &mut [u8], at: usize, nets: [Net; 32], t: usize, pins: [Pin; 128]) -> usize
+    ensures { λ r. ⌜ Wrote (now (out .entry)) (now (out .exit)) (itemsText (netItems (netsOf (firstOf blankNet t nets) pins))) at r ⌝ }
+{
+    let n = shown(t, 32);
+    let mut a = at;
+    let mut q: usize = 0;
+    let mut j: usize = 0;
+    while j < n {
+        let u = net_at(nets, j);
+        let count = u.pins;
+        a = linewriter::put_line(out, a, Word::Net, [u.weight, 0, 0, 0]);
+        a = put_pins(out, a, pins, q, count);
+        q = past(q, count);
+        j += 1;
+    }
+    a
+}
+
+// The place of the next net's pins.
+fn past(q: usize, count: usize) -> usize
+    requires { ⌜ q ≤ 128 ⌝ }
+    ensures { λ r. ⌜ r ≡ min (q + count) 128 ⌝ }
+{
+    if count <= 128 - q { q + count } else { 128 }
+}
+
+// The lines before the nets: die, fixes, macros.
+fn put_blocks(out: &mut [u8], at: usize, c: Chip) -> usize
+    ensures { λ r. ⌜ Wrote (now (out .entry)) (now (out .exit)) (itemsText (blockItems (chipOf c))) at r ⌝ }
+{
+    let die = c.die;
+    let fixes = c.fixes;
+    let macs = c.macs;
+    let a = linewriter::put_line(out, at, Word::Die, [die.w, die.h, 0, 0]);
+    let b = put_fixes(out, a, fixes, c.k);
+    put_macs(out, b, macs, c.n)
+}
+
+// Writes the text of the chip from `at` on, as far as the buffer goes, and answers the place after it.
+pub fn put_chip(out: &mut [u8], at: usize, c: Chip) -> usize
+    ensures { λ r. ⌜ Wrote (now (out .entry)) (now (out .exit)) (chipText (chipOf c)) at r ⌝ }
+{
+    let nets = c.nets;
+    let pins = c.pins;
+    let a = put_blocks(out, at, c);
+    let b = put_nets(out, a, nets, c.t, pins);
+    linewriter::put_line(out, b, Word::End, [0, 0, 0, 0])
+}

@@ -1,0 +1,137 @@
+-- What a line adds: the die, a fix, a macro, a net.
+use mathlib.Core.Path.{_≡_, refl, sym, ap, _∙_}
+use mathlib.Core.Bool.{Bool, true, false, not, _||_}
+use mathlib.Core.List.{List, [], _∷_, _++_}
+use Prim.Native.Nat.{ℕ, _+_, _≤_, _<_}
+use native.Mathlib.Omega.{arith}
+use lib.ListN.{length, getD, take, set, length-set}
+use borrow.Author.Tests.{not-true, not-false}
+use Rattle.model.specs.declared.Die.{Die}
+use Rattle.model.specs.declared.Fix.{Fix}
+use Rattle.model.specs.declared.Mac.{Mac}
+use Rattle.model.specs.declared.Net.{Net as HeldNet}
+use Rattle.model.specs.declared.Chip.{Chip as HeldChip}
+use Rattle.model.specs.declared.Word.{Word}
+use Rattle.model.specs.declared.Word.the-variants as word
+use Rattle.model.specs.Meaning.{Net, chipOf, firstOf, pinsOf, blankFix, blankMac, blankNet}
+use Rattle.model.proofs.FirstOf.{first-take, first-set}
+use Rattle.model.proofs.Nets.{taken, taken-snoc, nets-snoc}
+use Rattle.grammar.specs.Words.{isWord}
+use Rattle.grammar.specs.Reading.{Step, fault, check}
+use Rattle.line.specs.Held.{valuesOf}
+use Rattle.chip.specs.Kind.{Part, add, after, fixInDie, clearOf, withDie, withFix, withMac, withNet}
+use Rattle.chipreader.specs.declared.State.{State}
+use Rattle.chipreader.specs.declared.Taken.{Taken}
+use Rattle.chipreader.specs.State.{Holds, Sound, Entered, partOf, withFault, withChip, TakenOk}
+use Rattle.chipreader.proofs.Values.{heldDie, heldFix, heldMac, die-values, fix-values, mac-values, net-values}
+use Rattle.chipreader.proofs.Entry.{fix-fits, mac-fits, net-fits}
+
+pub never : {A : Type 0} → false ≡ true → A
+never e = absurd (let z : _≡_ {A = ℕ} 0 1 = cc in omega arith)
+
+module _ {A : Type 0} {most n : ℕ} {items : List A} (h : Holds most n items) where
+  pub holds-more : (a : A) → n < most → Holds most (n + 1) (set items n a)
+  holds-more a l = record { few = omega arith; long = length-set items n a ∙ h .long }
+
+  pub holds-set : (i : ℕ) (a : A) → Holds most n (set items i a)
+  holds-set i a = record { few = h .few; long = length-set items i a ∙ h .long }
+
+  holds-all : n ≤ length items
+  holds-all = omega (arith, h .few, h .long)
+
+  fits-in : n < most → n < length items
+  fits-in l = omega (arith, h .long)
+
+-- a line of a word that opens no net keeps the nets
+module _ (s : State) (sound : Sound s) (w : Word) (e : (isWord w word.Net || isWord w word.Pin) ≡ false) (d : Die) where
+  pub kept-sound : {k n : ℕ} {fs : List Fix} {ms : List Mac} → Holds 8 k fs → Holds 8 n ms → Sound (record { last = w; pins = s .pins; chip = record { die = d; k = k; fixes = fs; n = n; macs = ms; t = s .chip .t; nets = s .chip .nets; pins = s .chip .pins } })
+  kept-sound f m = record { fixes = f; macs = m; nets = sound .nets; pins = sound .pins; counted = sound .counted; opened = λ o. never (sym e ∙ o) }
+
+-- ---- the chip with one thing more
+
+module _ (c : HeldChip) where
+  abbrev holdDie : Die → HeldChip
+  holdDie d = record { die = d; k = c .k; fixes = c .fixes; n = c .n; macs = c .macs; t = c .t; nets = c .nets; pins = c .pins }
+
+  abbrev holdFix : Fix → HeldChip
+  holdFix f = record { die = c .die; k = c .k + 1; fixes = set (c .fixes) (c .k) f; n = c .n; macs = c .macs; t = c .t; nets = c .nets; pins = c .pins }
+
+  abbrev holdMac : Mac → HeldChip
+  holdMac m = record { die = c .die; k = c .k; fixes = c .fixes; n = c .n + 1; macs = set (c .macs) (c .n) m; t = c .t; nets = c .nets; pins = c .pins }
+
+  abbrev holdNet : ℕ → HeldChip
+  holdNet w = record { die = c .die; k = c .k; fixes = c .fixes; n = c .n; macs = c .macs; t = c .t + 1; nets = set (c .nets) (c .t) (record { weight = w; pins = 0 }); pins = c .pins }
+
+module _ (s : State) (v : List ℕ) (four : length v ≡ 4) (sound : Sound s) (r : Taken) where
+  pub die-added : r ≡ withChip s word.Die (holdDie (s .chip) (heldDie v)) → TakenOk r (add (partOf s) word.Die (valuesOf word.Die v))
+  unfolding chipOf
+  die-added e =
+      rw e
+      (record {
+        meant = ap (λ (d : Die). after word.Die (withDie (chipOf (s .chip)) d)) (sym (die-values v four));
+        sound = kept-sound s sound word.Die refl (heldDie v) (sound .fixes) (sound .macs);
+      })
+
+  pub mac-added : Entered s word.Mac → r ≡ withChip s word.Mac (holdMac (s .chip) (heldMac v)) → TakenOk r (add (partOf s) word.Mac (valuesOf word.Mac v))
+  unfolding chipOf
+  mac-added p e =
+      rw e
+      (record {
+        meant = rw (first-set blankMac (s .chip .n) (s .chip .macs) (heldMac v) (fits-in (sound .macs) l)) (ap (λ (m : Mac). after word.Mac (withMac (chipOf (s .chip)) m)) (sym (mac-values v four)));
+        sound = kept-sound s sound word.Mac refl (s .chip .die) (sound .fixes) (holds-more (sound .macs) (heldMac v) l);
+      })
+    where
+      l : s .chip .n < 8
+      l = mac-fits s sound p
+
+  pub net-added : Entered s word.Net → r ≡ withChip s word.Net (holdNet (s .chip) (getD v 0 0)) → TakenOk r (add (partOf s) word.Net (valuesOf word.Net v))
+  unfolding chipOf pinsOf firstOf
+  net-added p e =
+      rw e
+      (record {
+        meant = rw (one-more, nets-snoc nets net (s .chip .pins)) (ap (λ (w : ℕ). after word.Net (withNet (chipOf (s .chip)) (record { weight = w; pins = [] }))) (sym (net-values v four)));
+        sound = record { fixes = sound .fixes; macs = sound .macs; nets = holds-more (sound .nets) net l; pins = sound .pins; counted = ap taken one-more ∙ taken-snoc nets net ∙ omega (arith, sound .counted); opened = λ o. omega arith };
+      })
+    where
+      l : s .chip .t < 32
+      l = net-fits s sound p
+
+      net : HeldNet
+      net = record { weight = getD v 0 0; pins = 0 }
+
+      nets : List HeldNet
+      nets = firstOf blankNet (s .chip .t) (s .chip .nets)
+
+      one-more : firstOf blankNet (s .chip .t + 1) (set (s .chip .nets) (s .chip .t) net) ≡ nets ++ (net ∷ [])
+      one-more = first-set blankNet (s .chip .t) (s .chip .nets) net (fits-in (sound .nets) l)
+
+  -- a fix passes two tests more
+  abbrev addFix : Fix → Step Part
+  addFix f = check (fixInDie (s .chip .die) f) 9 (check (clearOf f (firstOf blankFix (s .chip .k) (s .chip .fixes))) 10 (after word.Fix (withFix (chipOf (s .chip)) f)))
+
+  step-fix : (t : Step Part) → t ≡ addFix (heldFix v) → t ≡ add (partOf s) word.Fix (valuesOf word.Fix v)
+  unfolding chipOf
+  step-fix t e = e ∙ ap addFix (sym (fix-values v four))
+
+  module _ (inside : Bool) (i : inside ≡ fixInDie (s .chip .die) (heldFix v)) where
+    pub fix-leaves : not inside ≡ true → r ≡ withFault s 9 → TakenOk r (add (partOf s) word.Fix (valuesOf word.Fix v))
+    fix-leaves h e = rw e (record { meant = step-fix (fault 9) (rw (← i, not-true inside h)); sound = sound })
+
+    module _ (stays : not inside ≡ false) (clear : Bool) (c : clear ≡ clearOf (heldFix v) (take (s .chip .k) (s .chip .fixes))) where
+      tested : clear ≡ clearOf (heldFix v) (firstOf blankFix (s .chip .k) (s .chip .fixes))
+      tested = rw (first-take blankFix (s .chip .k) (s .chip .fixes) (holds-all (sound .fixes))) c
+
+      pub fix-overlaps : not clear ≡ true → r ≡ withFault s 10 → TakenOk r (add (partOf s) word.Fix (valuesOf word.Fix v))
+      fix-overlaps h e = rw e (record { meant = step-fix (fault 10) (rw (← i, not-false inside stays, ← tested, not-true clear h)); sound = sound })
+
+      pub fix-added : not clear ≡ false → Entered s word.Fix → r ≡ withChip s word.Fix (holdFix (s .chip) (heldFix v)) → TakenOk r (add (partOf s) word.Fix (valuesOf word.Fix v))
+      unfolding chipOf
+      fix-added h p e =
+          rw e
+          (record {
+            meant = step-fix _ (rw (← i, not-false inside stays, ← tested, not-false clear h, first-set blankFix (s .chip .k) (s .chip .fixes) (heldFix v) (fits-in (sound .fixes) l)));
+            sound = kept-sound s sound word.Fix refl (s .chip .die) (holds-more (sound .fixes) (heldFix v) l) (sound .macs);
+          })
+        where
+          l : s .chip .k < 8
+          l = fix-fits s sound p

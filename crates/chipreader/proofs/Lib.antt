@@ -1,0 +1,9 @@
+pub mod Values
+pub mod Follow
+pub mod Room
+pub mod Entry
+pub mod Added
+pub mod PinAdded
+pub mod Item
+pub mod OneLine
+pub mod Lines

@@ -1,0 +1,56 @@
+-- The counts of what is held against those of the chip that it means.
+use mathlib.Core.Path.{_≡_, refl, _∙_}
+use mathlib.Core.List.{List, [], _∷_}
+use Prim.Native.Nat.{ℕ, _-_, _≤_}
+use native.Mathlib.Omega.{arith}
+use lib.Dec.{ltb}
+use lib.ListN.{length, drop, length-drop}
+use Rattle.model.specs.declared.Word.{Word}
+use Rattle.model.specs.declared.Word.the-variants as word
+use Rattle.model.specs.declared.Net.{Net}
+use Rattle.model.specs.declared.Pin.{Pin}
+use Rattle.model.specs.Meaning.{chipOf, netsOf, firstOf, blankFix, blankMac, blankNet, blankPin}
+use Rattle.model.proofs.FirstOf.{length-first}
+use Rattle.model.proofs.Nets.{taken, length-nets, length-pins}
+use Rattle.chip.specs.Kind.{room, pinCount}
+use Rattle.chipreader.specs.declared.State.{State}
+use Rattle.chipreader.specs.State.{Holds, Sound}
+
+pin-count : (ts : List Net) (ps : List Pin) → taken ts ≤ length ps → pinCount (netsOf ts ps) ≡ taken ts
+unfolding taken netsOf pinCount
+pin-count [] ps h = refl
+pin-count (t ∷ ts) ps h =
+    rw (length-pins (firstOf blankPin (t .pins) ps), length-first blankPin (t .pins) ps (omega arith), pin-count ts (drop (t .pins) ps) (rw length-drop (omega arith)))
+
+count : {A : Type 0} (z : A) {most n : ℕ} {items : List A} → Holds most n items → length (firstOf z n items) ≡ n
+count z {most = most} {n = n} {items = items} h = length-first z n items (omega (arith, h .few, h .long))
+
+module _ (s : State) (sound : Sound s) where
+  fix-count : length (chipOf (s .chip) .fixes) ≡ s .chip .k
+  unfolding chipOf
+  fix-count = count blankFix (sound .fixes)
+
+  pub mac-count : length (chipOf (s .chip) .macs) ≡ s .chip .n
+  unfolding chipOf
+  mac-count = count blankMac (sound .macs)
+
+  net-count : length (chipOf (s .chip) .nets) ≡ s .chip .t
+  unfolding chipOf
+  net-count = length-nets (firstOf blankNet (s .chip .t) (s .chip .nets)) (s .chip .pins) ∙ count blankNet (sound .nets)
+
+  pins-count : pinCount (chipOf (s .chip) .nets) ≡ s .pins
+  unfolding chipOf
+  pins-count = pin-count (firstOf blankNet (s .chip .t) (s .chip .nets)) (s .chip .pins) (omega (arith, sound .pins .few, sound .pins .long, sound .counted)) ∙ sound .counted
+
+  module _ (w : Word) where
+    pub room-fix : w ≡ word.Fix → ltb (s .chip .k) 8 ≡ room (chipOf (s .chip)) w
+    room-fix e = rw (e, fix-count)
+
+    pub room-mac : w ≡ word.Mac → ltb (s .chip .n) 8 ≡ room (chipOf (s .chip)) w
+    room-mac e = rw (e, mac-count)
+
+    pub room-net : w ≡ word.Net → ltb (s .chip .t) 32 ≡ room (chipOf (s .chip)) w
+    room-net e = rw (e, net-count)
+
+    pub room-pin : w ≡ word.Pin → ltb (s .pins) 128 ≡ room (chipOf (s .chip)) w
+    room-pin e = rw (e, pins-count)

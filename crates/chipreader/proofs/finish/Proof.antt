@@ -1,0 +1,27 @@
+use Rattle.chipreader.proofs.Lines.{refuses, complete, not-complete}
+use borrow.Author.Needs.{needs}
+use Rattle.chipreader.proofs.finish.Statement.{statement}
+use Rattle.chipreader.proofs.finish.Tie as tie
+use Rattle.chipreader.proofs.finish.Reads as reads
+use Rattle.chipreader.proofs.finish.Lts as lts
+use Rattle.chipreader.proofs.refused.Reads as refused-reads
+use Rattle.grammar.proofs.rank_of.Reads as rank-of-reads
+
+-- src/lib.rt:343:8
+rank-of-requires : tie.Need-rank-of-requires
+rank-of-requires c κs = search needs
+
+-- src/lib.rt:344:9
+refused-requires : tie.Need-refused-requires
+refused-requires c κs = search needs
+
+-- src/lib.rt:344:9
+returns : tie.Need-returns
+returns c = search (refuses, not-complete)
+
+-- src/lib.rt:338:1
+returns-2 : tie.Need-returns-2
+returns-2 c = search complete
+
+pub finish-spec : {M : Type 1} → statement M
+finish-spec = tie.close (tie.spec rank-of-requires refused-requires returns returns-2)

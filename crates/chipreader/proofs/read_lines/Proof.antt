@@ -1,0 +1,97 @@
+use borrow.Author.Needs.{needs}
+use Prim.Native.Nat.{ℕ, _+_, _-_, _≤_}
+use lib.ListN.{length}
+use Rattle.chipreader.specs.State.{Sound}
+use Rattle.chipreader.proofs.Lines.{Left, refuses, all-left, empty-sound, line-fails, line-read, all-read}
+use Rattle.chipreader.proofs.read_lines.Statement.{statement}
+use Rattle.chipreader.proofs.read_lines.Tie as tie
+use Rattle.chipreader.proofs.read_lines.Reads as reads
+use Rattle.chipreader.proofs.read_lines.Lts as lts
+use Rattle.chipreader.proofs.blank_chip.Reads as blank-chip-reads
+use Rattle.chipreader.proofs.finish.Reads as finish-reads
+use Rattle.chipreader.proofs.line_end.Reads as line-end-reads
+use Rattle.chipreader.proofs.next_line.Reads as next-line-reads
+use Rattle.chipreader.proofs.refused.Reads as refused-reads
+
+abbrev Inv-loop : tie.InvT-loop
+Inv-loop text s₀ a₀ line₀ s a line = (a ≤ length text + 1) × (line ≤ a + 1) × Sound s × Left text s a line
+
+abbrev μ-loop : tie.MeasureT-loop
+μ-loop text s₀ a₀ line₀ s a line = length text + 1 - a
+
+-- src/lib.rt:360:15
+blank-chip-requires : tie.Need-blank-chip-requires Inv-loop μ-loop
+blank-chip-requires c κs = search needs
+
+-- src/lib.rt:364:5
+loop-holds : tie.Need-loop-holds Inv-loop μ-loop
+loop-holds c = (search needs, search needs, search empty-sound, search all-left)
+
+-- src/lib.rt:365:13
+line-end-requires : tie.Need-line-end-requires Inv-loop μ-loop
+line-end-requires c κs = search needs
+
+-- src/lib.rt:366:13
+next-line-requires : tie.Need-next-line-requires Inv-loop μ-loop
+next-line-requires c κs = search needs
+
+-- src/lib.rt:371:21
+enum-told : tie.Need-enum-told Inv-loop μ-loop
+enum-told c = search needs
+
+-- src/lib.rt:371:21
+add-a : tie.Need-add-a Inv-loop μ-loop
+add-a c = search needs
+
+-- src/lib.rt:372:17
+add-line : tie.Need-add-line Inv-loop μ-loop
+add-line c = search needs
+
+-- src/lib.rt:364:5
+loop-less : tie.Need-loop-less Inv-loop μ-loop
+loop-less c = search needs
+
+-- src/lib.rt:364:5
+loop-again : tie.Need-loop-again Inv-loop μ-loop
+loop-again c = (search needs, search needs, search needs, search line-read)
+
+-- src/lib.rt:374:23
+enum-known-fault : tie.Need-enum-known-fault Inv-loop μ-loop
+enum-known-fault c = search needs
+
+-- src/lib.rt:375:17
+refused-requires : tie.Need-refused-requires Inv-loop μ-loop
+refused-requires c κs = search needs
+
+-- src/lib.rt:375:17
+returns : tie.Need-returns Inv-loop μ-loop
+returns c = search (refuses, line-fails)
+
+-- src/lib.rt:379:5
+finish-requires : tie.Need-finish-requires Inv-loop μ-loop
+finish-requires c κs = search needs
+
+-- src/lib.rt:353:1
+returns-2 : tie.Need-returns-2 Inv-loop μ-loop
+returns-2 c = search all-read
+
+pub read-lines-spec : {M : Type 1} → statement M
+read-lines-spec =
+    tie.close
+    (tie.spec
+    Inv-loop
+    μ-loop
+    blank-chip-requires
+    loop-holds
+    line-end-requires
+    next-line-requires
+    enum-told
+    add-a
+    add-line
+    loop-less
+    loop-again
+    enum-known-fault
+    refused-requires
+    returns
+    finish-requires
+    returns-2)

@@ -1,0 +1,17 @@
+use borrow.Author.Needs.{needs}
+use Rattle.chipreader.proofs.refused.Statement.{statement}
+use Rattle.chipreader.proofs.refused.Tie as tie
+use Rattle.chipreader.proofs.refused.Reads as reads
+use Rattle.chipreader.proofs.refused.Lts as lts
+use Rattle.chipreader.proofs.blank_chip.Reads as blank-chip-reads
+
+-- src/lib.rt:327:15
+blank-chip-requires : tie.Need-blank-chip-requires
+blank-chip-requires c κs = search needs
+
+-- src/lib.rt:322:1
+returns : tie.Need-returns
+returns c = rw (c .blank-chip .ensures)
+
+pub refused-spec : {M : Type 1} → statement M
+refused-spec = tie.close (tie.spec blank-chip-requires returns)

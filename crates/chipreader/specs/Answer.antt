@@ -1,0 +1,44 @@
+-- What the chip reader's answer means.
+use Prim.Native.Nat.{ℕ}
+use mathlib.Core.Path.{_≡_}
+use lib.ListN.{replicate}
+use Rattle.model.specs.declared.Chip.{Chip as HeldChip}
+use Rattle.model.specs.Meaning.{Chip, chipOf, blankFix, blankMac, blankNet, blankPin}
+use Rattle.grammar.specs.Reading.{Reading, accepted, refused}
+use Rattle.chipreader.specs.declared.ChipAnswer.{ChipAnswer}
+use Rattle.chipreader.specs.declared.ChipAnswer.the-variants as answer
+use Rattle.chipreader.specs.declared.ChipRead.{ChipRead}
+
+-- a chip that holds nothing
+abbrev pub blankChip : HeldChip
+blankChip = record {
+  die = record { w = 0; h = 0 };
+  k = 0;
+  fixes = replicate 8 blankFix;
+  n = 0;
+  macs = replicate 8 blankMac;
+  t = 0;
+  nets = replicate 32 blankNet;
+  pins = replicate 128 blankPin;
+}
+
+-- document 01's number and values for each case of the answer
+abbrev pub meant : ChipAnswer → HeldChip → Reading Chip
+meant answer.Accepted c = accepted (chipOf c)
+meant (answer.Refused f) c = refused (f .no) (f .line)
+
+abbrev pub meantChip : ChipRead → Reading Chip
+meantChip r = meant (r .answer) (r .chip)
+
+-- the chip that a refusal leaves
+abbrev pub afterRefusal : ChipAnswer → HeldChip → HeldChip
+afterRefusal answer.Accepted c = blankChip
+afterRefusal (answer.Refused f) c = c
+
+abbrev pub refusedAt : ℕ → ℕ → ChipRead
+refusedAt n l = record { answer = answer.Refused (record { no = n; line = l }); chip = blankChip }
+
+-- r is the answer for a text that is read so
+pub record ReadOk (read : Reading Chip) (r : ChipRead) : Type 0 where
+  pub meant : meantChip r ≡ read
+  pub blank : afterRefusal (r .answer) (r .chip) ≡ blankChip

@@ -1,0 +1,396 @@
+// Reading a chip from its text.
+use line::Fields;
+use model::Chip;
+use model::Die;
+use model::Fix;
+use model::Mac;
+use model::Net;
+use model::Pin;
+use model::Refusal;
+use model::Word;
+ghost use mathlib.Core.Path.{_≡_};
+ghost use Rattle.model.specs.Meaning.{chipOf};
+ghost use Prim.Native.Nat.{_≤_, _<_};
+ghost use lib.ListN.{length};
+ghost use Rattle.grammar.specs.Words.{rules};
+ghost use Rattle.grammar.specs.Line.{fields};
+ghost use Rattle.grammar.specs.Reading.{stepBytes, stepFields, stepLine, ending};
+ghost use Rattle.line.specs.Held.{valuesOf};
+ghost use Rattle.chip.specs.Kind.{room, add, chipKind};
+ghost use Rattle.chip.specs.Text.{chipRead, readChip};
+ghost use Rattle.chipreader.specs.State.{Sound, partOf, mayFollow, entryFault, Entered, withFault, withChip, TakenOk, LineEnd, lineAt};
+ghost use Rattle.chipreader.specs.Answer.{blankChip, refusedAt, meantChip, afterRefusal, ReadOk};
+
+// What reading a chip answers.
+pub enum ChipAnswer {
+    Accepted,
+    Refused(Refusal),
+}
+
+// The answer with the chip; after a refusal the chip is blank.
+pub struct ChipRead {
+    pub answer: ChipAnswer,
+    pub chip: Chip,
+}
+
+// What has been read: the word of the last line, the chip so far, and the number of its pins.
+pub(crate) struct State {
+    pub last: Word,
+    pub pins: usize,
+    pub chip: Chip,
+}
+
+// The fault of a line, if any.
+pub(crate) enum Fault {
+    Clear,
+    No(usize),
+}
+
+// What a line leads to: its fault, or what has been read with it.
+pub(crate) struct Taken {
+    pub fault: Fault,
+    pub state: State,
+}
+
+// A chip that holds nothing.
+fn blank_chip() -> Chip
+    ensures { λ r. ⌜ r ≡ blankChip ⌝ }
+{
+    Chip {
+        die: Die { w: 0, h: 0 },
+        k: 0,
+        fixes: [Fix {
+            x: 0,
+            y: 0,
+            w: 0,
+            h: 0,
+        }; 8],
+        n: 0,
+        macs: [Mac { w: 0, h: 0 }; 8],
+        t: 0,
+        nets: [Net { weight: 0, pins: 0 }; 32],
+        pins: [Pin {
+            m: 0,
+            xup: 0,
+            yup: 0,
+        }; 128],
+    }
+}
+
+// Place: whether a word of rank b may stand after one of rank a. It may after the words from rank least[b] to rank most[b].
+fn may_follow(a: usize, b: usize) -> bool
+    requires { ⌜ b < 11 ⌝ }
+    ensures { λ r. ⌜ r ≡ mayFollow a b ⌝ }
+{
+    let least = [1, 0, 1, 1, 1, 4, 1, 1, 1, 1, 1];
+    let most = [0, 0, 2, 3, 5, 5, 5, 0, 0, 0, 0];
+    if a < least[b] {
+        return false;
+    }
+    a <= most[b]
+}
+
+// Count: whether there is room for one more of the kind.
+fn has_room(s: State, w: Word) -> bool
+    requires { ⌜ Sound s ⌝ }
+    ensures { λ r. ⌜ r ≡ room (chipOf (s .chip)) w ⌝ }
+{
+    match w {
+        Word::Fix => s.chip.k < Fix::COUNT,
+        Word::Mac => s.chip.n < Mac::COUNT,
+        Word::Net => s.chip.t < Net::COUNT,
+        Word::Pin => s.pins < Pin::COUNT,
+        Word::Nothing => true,
+        Word::Die => true,
+        Word::End => true,
+        Word::Least => true,
+        Word::None => true,
+        Word::At => true,
+        Word::Done => true,
+    }
+}
+
+// The first fault before the fields: word 2, place 5, count 6, net without a pin 7; or 0.
+fn entry_fault(s: State, w: Word) -> usize
+    requires { ⌜ Sound s ⌝ }
+    ensures { λ r. ⌜ r ≡ entryFault (partOf s) w ⌝ }
+{
+    let last = s.last;
+    let a = grammar::rank_of(last);
+    let b = grammar::rank_of(w);
+    if b == 0 {
+        return 2;
+    }
+    if !may_follow(a, b) {
+        return 5;
+    }
+    if !has_room(s, w) {
+        return 6;
+    }
+    if a == 4 {
+        if b != 5 {
+            return 7;
+        }
+    }
+    0
+}
+
+// A faulty line: what was read before it stays.
+fn with_fault(s: State, no: usize) -> Taken
+    ensures { λ r. ⌜ r ≡ withFault s no ⌝ }
+{
+    Taken {
+        fault: Fault::No(no),
+        state: s,
+    }
+}
+
+// A line without fault, and the chip with what it added.
+fn with_chip(s: State, w: Word, chip: Chip) -> Taken
+    ensures { λ r. ⌜ r ≡ withChip s w chip ⌝ }
+{
+    Taken {
+        fault: Fault::Clear,
+        state: State {
+            last: w,
+            pins: s.pins,
+            chip,
+        },
+    }
+}
+
+// The die.
+fn add_die(s: State, v: [u64; 4]) -> Taken
+    requires { ⌜ Sound s ⌝ }
+    ensures { λ r. ⌜ TakenOk r (add (partOf s) Word.Die (valuesOf Word.Die v)) ⌝ }
+{
+    let mut chip = s.chip;
+    let die = Die { w: v[0], h: v[1] };
+    chip.die = die;
+    with_chip(s, Word::Die, chip)
+}
+
+// A fix: fix leaves the die 9; fix overlaps an earlier fix 10.
+fn add_fix(s: State, v: [u64; 4]) -> Taken
+    requires { ⌜ Sound s ⌝ }
+    requires { ⌜ Entered s Word.Fix ⌝ }
+    ensures { λ r. ⌜ TakenOk r (add (partOf s) Word.Fix (valuesOf Word.Fix v)) ⌝ }
+{
+    let f = Fix {
+        x: v[0],
+        y: v[1],
+        w: v[2],
+        h: v[3],
+    };
+    let mut chip = s.chip;
+    let k = chip.k;
+    let fixes = chip.fixes;
+    if !chip::fix_in_die(chip.die, f) {
+        return with_fault(s, 9);
+    }
+    if !chip::clear_of_fixes(f, fixes, k) {
+        return with_fault(s, 10);
+    }
+    chip.fixes[k] = f;
+    chip.k = k + 1;
+    with_chip(s, Word::Fix, chip)
+}
+
+// A macro.
+fn add_mac(s: State, v: [u64; 4]) -> Taken
+    requires { ⌜ Sound s ⌝ }
+    requires { ⌜ Entered s Word.Mac ⌝ }
+    ensures { λ r. ⌜ TakenOk r (add (partOf s) Word.Mac (valuesOf Word.Mac v)) ⌝ }
+{
+    let mut chip = s.chip;
+    let n = chip.n;
+    chip.macs[n] = Mac { w: v[0], h: v[1] };
+    chip.n = n + 1;
+    with_chip(s, Word::Mac, chip)
+}
+
+// A net that has no pin yet.
+fn add_net(s: State, v: [u64; 4]) -> Taken
+    requires { ⌜ Sound s ⌝ }
+    requires { ⌜ Entered s Word.Net ⌝ }
+    ensures { λ r. ⌜ TakenOk r (add (partOf s) Word.Net (valuesOf Word.Net v)) ⌝ }
+{
+    let mut chip = s.chip;
+    let t = chip.t;
+    chip.nets[t] = Net {
+        weight: v[0],
+        pins: 0,
+    };
+    chip.t = t + 1;
+    with_chip(s, Word::Net, chip)
+}
+
+// A pin of the last net: no such macro 8.
+fn add_pin(s: State, v: [u64; 4]) -> Taken
+    requires { ⌜ Sound s ⌝ }
+    requires { ⌜ Entered s Word.Pin ⌝ }
+    ensures { λ r. ⌜ TakenOk r (add (partOf s) Word.Pin (valuesOf Word.Pin v)) ⌝ }
+{
+    let m = v[0] as usize;
+    let mut chip = s.chip;
+    if chip.n < m {
+        return with_fault(s, 8);
+    }
+    let last = chip.t - 1;
+    let q = s.pins;
+    let net = chip.nets[last];
+    chip.nets[last] = Net {
+        weight: net.weight,
+        pins: net.pins + 1,
+    };
+    chip.pins[q] = Pin {
+        m,
+        xup: v[1],
+        yup: v[2],
+    };
+    Taken {
+        fault: Fault::Clear,
+        state: State {
+            last: Word::Pin,
+            pins: q + 1,
+            chip,
+        },
+    }
+}
+
+// What a line whose fields are read adds.
+fn add_item(s: State, w: Word, v: [u64; 4]) -> Taken
+    requires { ⌜ Sound s ⌝ }
+    requires { ⌜ Entered s w ⌝ }
+    ensures { λ r. ⌜ TakenOk r (add (partOf s) w (valuesOf w v)) ⌝ }
+{
+    match w {
+        Word::Die => add_die(s, v),
+        Word::Fix => add_fix(s, v),
+        Word::Mac => add_mac(s, v),
+        Word::Net => add_net(s, v),
+        Word::Pin => add_pin(s, v),
+        Word::End => with_chip(s, Word::End, s.chip),
+        Word::Nothing => with_fault(s, 2),
+        Word::Least => with_fault(s, 2),
+        Word::None => with_fault(s, 2),
+        Word::At => with_fault(s, 2),
+        Word::Done => with_fault(s, 2),
+    }
+}
+
+// What a line leads to whose word passes, by the bytes after the word.
+fn take_fields(rest: &[u8], s: State, w: Word, line: usize) -> Taken
+    requires { ⌜ Sound s ⌝ }
+    requires { ⌜ Entered s w ⌝ }
+    ensures { λ r. ⌜ TakenOk r (stepFields chipKind (partOf s) w (fields (rules w) (now (rest .entry)))) ⌝ }
+{
+    let fields = line::read_fields(rest, w, line);
+    let answer = fields.answer;
+    let values = fields.values;
+    match answer {
+        Fields::Got => add_item(s, w, values),
+        Fields::Refused(f) => with_fault(s, f.no),
+    }
+}
+
+// What a line with these bytes leads to, if it has its LF.
+fn take_line(bytes: &[u8], s: State, line: usize) -> Taken
+    requires { ⌜ Sound s ⌝ }
+    ensures { λ r. ⌜ TakenOk r (stepBytes chipKind (partOf s) (now (bytes .entry))) ⌝ }
+{
+    let b = line::bytes_before(bytes, 44);
+    let w = line::chip_word(&bytes[..b]);
+    let no = entry_fault(s, w);
+    if no != 0 {
+        return with_fault(s, no);
+    }
+    take_fields(&bytes[b..], s, w, line)
+}
+
+// The place of the first LF from a on, or the end of the text.
+fn line_end(text: &[u8], a: usize) -> usize
+    requires { ⌜ a ≤ length (now text) ⌝ }
+    ensures { λ r. ⌜ LineEnd (now (text .entry)) a r ⌝ }
+{
+    a + line::bytes_before(&text[a..], 10)
+}
+
+// What the line text[a..e] leads to: missing LF 2.
+fn next_line(text: &[u8], a: usize, e: usize, s: State, line: usize) -> Taken
+    requires { ⌜ Sound s ⌝ }
+    requires { ⌜ a ≤ length (now text) ⌝ }
+    requires { ⌜ LineEnd (now text) a e ⌝ }
+    ensures { λ r. ⌜ TakenOk r (stepLine chipKind (partOf s) (lineAt (now (text .entry)) a e)) ⌝ }
+{
+    if e == text.len() {
+        return with_fault(s, 2);
+    }
+    take_line(&text[a..e], s, line)
+}
+
+// A refusal, with a blank chip.
+fn refused(no: usize, line: usize) -> ChipRead
+    ensures { λ r. ⌜ r ≡ refusedAt no line ⌝ }
+{
+    ChipRead {
+        answer: ChipAnswer::Refused(Refusal { no, line }),
+        chip: blank_chip(),
+    }
+}
+
+// The end of the text, where line `line` would begin: `end` must stand before it.
+fn finish(s: State, line: usize) -> ChipRead
+    ensures { λ r. ⌜ ReadOk (chipRead (ending chipKind (chipKind .complete (partOf s)) (partOf s) line)) r ⌝ }
+{
+    let last = s.last;
+    let chip = s.chip;
+    if grammar::rank_of(last) != 6 {
+        return refused(5, line);
+    }
+    ChipRead {
+        answer: ChipAnswer::Accepted,
+        chip,
+    }
+}
+
+// The lines of a text that is not too long.
+fn read_lines(text: &[u8]) -> ChipRead
+    requires { ⌜ length (now text) ≤ 16384 ⌝ }
+    ensures { λ r. ⌜ ReadOk (readChip (now (text .entry))) r ⌝ }
+{
+    let mut s = State {
+        last: Word::Nothing,
+        pins: 0,
+        chip: blank_chip(),
+    };
+    let mut a: usize = 0;
+    let mut line: usize = 1;
+    while a < text.len() {
+        let e = line_end(text, a);
+        let taken = next_line(text, a, e, s, line);
+        let fault = taken.fault;
+        s = taken.state;
+        match fault {
+            Fault::Clear => {
+                a = e + 1;
+                line += 1;
+            }
+            Fault::No(no) => {
+                return refused(no, line);
+            }
+        }
+    }
+    finish(s, line)
+}
+
+// The chip that a text means, or number and line of its refusal.
+pub fn read_chip(text: &[u8]) -> ChipRead
+    ensures { λ r. ⌜ meantChip r ≡ readChip (now (text .entry)) ⌝ }
+    ensures { λ r. ⌜ afterRefusal (r .answer) (r .chip) ≡ blankChip ⌝ }
+{
+    if 16384 < text.len() {
+        return refused(1, 0);
+    }
+    read_lines(text)
+}

@@ -1,0 +1,27 @@
+use Rattle.chip.proofs.Fixes.{and-fails, and-rest}
+use Rattle.chipwriter.proofs.Needs.{last-test}
+use borrow.Author.Needs.{needs}
+use Rattle.chipwriter.proofs.sides_within.Statement.{statement}
+use Rattle.chipwriter.proofs.sides_within.Tie as tie
+use Rattle.chipwriter.proofs.sides_within.Reads as reads
+use Rattle.chipwriter.proofs.sides_within.Lts as lts
+use Rattle.chipwriter.proofs.within.Reads as within-reads
+
+-- src/lib.rt:27:9
+within-requires : tie.Need-within-requires
+within-requires c κs = search needs
+
+-- src/lib.rt:28:9
+returns : tie.Need-returns
+returns c = search and-fails
+
+-- src/lib.rt:30:5
+within-requires-2 : tie.Need-within-requires-2
+within-requires-2 c κs = search needs
+
+-- src/lib.rt:24:1
+returns-2 : tie.Need-returns-2
+returns-2 c = search (and-rest, last-test)
+
+pub sides-within-spec : {M : Type 1} → statement M
+sides-within-spec = tie.close (tie.spec within-requires returns within-requires-2 returns-2)

@@ -1,0 +1,51 @@
+use Prim.Native.Nat.{_<_}
+use native.Mathlib.Omega.{arith}
+use Rattle.chipwriter.proofs.NetTests.{net-refused, pins-answer}
+use Rattle.chipwriter.proofs.Tests.{in-count}
+use borrow.Author.Needs.{needs}
+use Rattle.chipwriter.proofs.test_net.Statement.{statement}
+use Rattle.chipwriter.proofs.test_net.Tie as tie
+use Rattle.chipwriter.proofs.test_net.Reads as reads
+use Rattle.chipwriter.proofs.test_net.Lts as lts
+use Rattle.chipwriter.proofs.net_fault.Reads as net-fault-reads
+use Rattle.chipwriter.proofs.test_pins.Reads as test-pins-reads
+
+-- src/lib.rt:201:9
+net-fault-requires : tie.Need-net-fault-requires
+net-fault-requires c κs = search needs
+
+-- src/lib.rt:203:9
+returns : tie.Need-returns
+returns c = search net-refused
+
+-- src/lib.rt:205:15
+mul-net : tie.Need-mul-net
+mul-net c = let h : c .before .before .args .j < 32 = search in-count in omega arith
+
+-- src/lib.rt:205:15
+array-copy-out-net : tie.Need-array-copy-out-net
+array-copy-out-net c = search in-count
+
+-- src/lib.rt:206:37
+add-test-pins : tie.Need-add-test-pins
+add-test-pins c = search needs
+
+-- src/lib.rt:206:5
+test-pins-requires : tie.Need-test-pins-requires
+test-pins-requires c κs = search needs
+
+-- src/lib.rt:197:1
+returns-2 : tie.Need-returns-2
+returns-2 c = search pins-answer
+
+pub test-net-spec : {M : Type 1} → statement M
+test-net-spec =
+    tie.close
+    (tie.spec
+    net-fault-requires
+    returns
+    mul-net
+    array-copy-out-net
+    add-test-pins
+    test-pins-requires
+    returns-2)

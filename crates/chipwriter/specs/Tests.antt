@@ -1,0 +1,121 @@
+-- What testing a chip item by item answers: the number of each item's first fault (0: none), and the first refusal.
+use Prim.Native.Nat.{ℕ, zero, suc, _+_}
+use mathlib.Core.Path.{_≡_}
+use mathlib.Core.List.{List, [], _∷_}
+use mathlib.Core.Bool.{Bool, true, false, not, _&&_}
+use lib.Dec.{leb, ltb, eqb}
+use lib.ListN.{length, getD, take}
+use lib.IntN.{ℤ, pos}
+use Rattle.model.specs.declared.Die.{Die}
+use Rattle.model.specs.declared.Fix.{Fix}
+use Rattle.model.specs.declared.Mac.{Mac}
+use Rattle.model.specs.declared.Net.{Net as HeldNet}
+use Rattle.model.specs.declared.Pin.{Pin as HeldPin}
+use Rattle.model.specs.declared.Chip.{Chip as HeldChip}
+use Rattle.model.specs.declared.Tested.{Tested}
+use Rattle.model.specs.declared.Tested.the-variants as tested
+use Rattle.model.specs.declared.Word.the-variants as word
+use Rattle.model.specs.Meaning.{blankFix, blankMac, blankNet, blankPin, pinOf}
+use Rattle.grammar.specs.Line.{Rule, field, inRange}
+use Rattle.grammar.specs.Words.{byW, byH, rules, Item}
+use Rattle.chip.specs.Kind.{fixInDie, clearOf}
+use Rattle.chip.specs.Text.{dieItem, fixItem, macItem, pinItem}
+
+-- every value is in the range of its field
+abbrev pub inRanges : List Rule → List ℤ → Bool
+inRanges [] zs = true
+inRanges (r ∷ rs) [] = true
+inRanges (r ∷ rs) (z ∷ zs) = inRange r z && inRanges rs zs
+
+abbrev pub sideRules : ℕ → ℕ → List Rule
+sideRules least most = field byW (pos least) (pos most) ∷ field byH (pos least) (pos most) ∷ []
+
+abbrev pub inLimits : Item → Bool
+inLimits i = inRanges (rules (i .word)) (i .values)
+
+-- ---- the first fault of an item
+
+-- a test, the number where it fails, and the tests after it
+abbrev pub need : Bool → ℕ → ℕ → ℕ
+need true n more = more
+need false n more = n
+
+abbrev pub dieFault : Die → ℕ
+dieFault d = need (inLimits (dieItem d)) 4 0
+
+abbrev pub fixFault : Die → List Fix → ℕ → ℕ
+fixFault d fs i =
+    need (ltb i 8) 6
+    (need (inLimits (fixItem (getD fs i blankFix))) 4
+    (need (fixInDie d (getD fs i blankFix)) 9
+    (need (clearOf (getD fs i blankFix) (take i fs)) 10 0)))
+
+abbrev pub macFault : List Mac → ℕ → ℕ
+macFault ms i = need (ltb i 8) 6 (need (inLimits (macItem (getD ms i blankMac))) 4 0)
+
+-- there is a net before net j, and it has no pin
+abbrev pub bareBefore : List HeldNet → ℕ → Bool
+bareBefore ts zero = false
+bareBefore ts (suc j) = eqb (getD ts j blankNet .pins) 0
+
+abbrev pub weightItem : HeldNet → Item
+weightItem t = record { word = word.Net; values = pos (t .weight) ∷ [] }
+
+abbrev pub netFault : List HeldNet → ℕ → ℕ
+netFault ts j =
+    need (ltb j 32) 6
+    (need (not (bareBefore ts j)) 7
+    (need (inLimits (weightItem (getD ts j blankNet))) 4 0))
+
+-- pin i of a chip with n macros
+abbrev pub pinFault : List HeldPin → ℕ → ℕ → ℕ
+pinFault ps n i =
+    need (ltb i 128) 6
+    (need (inLimits (pinItem (pinOf (getD ps i blankPin)))) 4
+    (need (leb (getD ps i blankPin .m) n) 8 0))
+
+-- ---- the first refusal of items
+
+abbrev pub onFault : ℕ → ℕ → Tested → Tested
+onFault zero line more = more
+onFault (suc n) line more = tested.Refused (record { no = suc n; line = line })
+
+abbrev pub thenTested : Tested → Tested → Tested
+thenTested tested.Passed more = more
+thenTested (tested.Refused f) more = tested.Refused f
+
+-- n items from item i on; item 0 stands on the line given
+unfoldable pub tests : (ℕ → ℕ) → ℕ → ℕ → ℕ → Tested
+tests f line i zero = tested.Passed
+tests f line i (suc n) = onFault (f i) (line + i) (tests f line (suc i) n)
+
+-- `count` pins from pin q on
+abbrev pub pinsTested : List HeldPin → ℕ → ℕ → ℕ → ℕ → Tested
+pinsTested ps n q line count = tests (λ i. pinFault ps n (q + i)) line 0 count
+
+-- net j on the line given, with its pins from pin q on
+abbrev pub netTested : List HeldNet → List HeldPin → ℕ → ℕ → ℕ → ℕ → Tested
+netTested ts ps n line q j = onFault (netFault ts j) line (pinsTested ps n q (line + 1) (getD ts j blankNet .pins))
+
+-- t nets from net j on with their pins from pin q on, and the end; net 0 stands on the line given
+unfoldable pub netsTested : List HeldNet → List HeldPin → ℕ → ℕ → ℕ → ℕ → ℕ → Tested
+netsTested ts ps n first q j zero = onFault (need (not (bareBefore ts j)) 7 0) (first + j + q) tested.Passed
+netsTested ts ps n first q j (suc t) =
+    thenTested (netTested ts ps n (first + j + q) q j)
+    (netsTested ts ps n first (q + getD ts j blankNet .pins) (suc j) t)
+
+-- all items of a chip, whatever the length of its text
+unfoldable pub itemsTested : HeldChip → Tested
+itemsTested c =
+    onFault (dieFault (c .die)) 1
+    (thenTested (tests (fixFault (c .die) (c .fixes)) 2 0 (c .k))
+    (thenTested (tests (macFault (c .macs)) (c .k + 2) 0 (c .n))
+    (netsTested (c .nets) (c .pins) (c .n) (c .k + 2 + c .n) 0 0 (c .t))))
+
+-- the answer to them, and that the arrays have their lengths
+pub record ItemsAnswer (c : HeldChip) (r : Tested) : Type 0 where
+  pub answer : r ≡ itemsTested c
+  pub fixes : length (c .fixes) ≡ 8
+  pub macs : length (c .macs) ≡ 8
+  pub nets : length (c .nets) ≡ 32
+  pub pins : length (c .pins) ≡ 128

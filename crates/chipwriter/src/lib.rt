@@ -1,0 +1,310 @@
+// Testing and writing a chip that is held as a value.
+use model::Chip;
+use model::Die;
+use model::Fix;
+use model::Mac;
+use model::Net;
+use model::Pin;
+use model::Refusal;
+use model::Tested;
+use model::WriteAnswer;
+ghost use mathlib.Core.Path.{_≡_};
+ghost use mathlib.Core.Bool.{_&&_};
+ghost use mathlib.Core.List.{[], _∷_};
+ghost use Prim.Native.Nat.{_≤_};
+ghost use lib.Dec.{leb};
+ghost use lib.IntN.{pos};
+ghost use Rattle.model.specs.Meaning.{pinOf, chipOf};
+ghost use Rattle.grammar.specs.Writing.{testedAs, answerOf};
+ghost use Rattle.chip.specs.Text.{fixItem, pinItem, readChip, chipText, writeChip};
+ghost use Rattle.chipwriter.specs.Tests.{inRanges, sideRules, inLimits, dieFault, fixFault, macFault, bareBefore, netFault, pinFault, tests, pinsTested, netTested, netsTested, ItemsAnswer};
+
+// Whether v is within least..most.
+fn within(v: u64, least: u64, most: u64) -> bool
+    ensures { λ r. ⌜ r ≡ (leb least v && leb v most) ⌝ }
+{
+    if v < least {
+        return false;
+    }
+    v <= most
+}
+
+// Whether the sides of a box are within least..most.
+fn sides_within(w: u64, h: u64, least: u64, most: u64) -> bool
+    ensures { λ r. ⌜ r ≡ inRanges (sideRules least most) (pos w ∷ pos h ∷ []) ⌝ }
+{
+    if !within(w, least, most) {
+        return false;
+    }
+    within(h, least, most)
+}
+
+// The fault of the die, or 0: range 4.
+fn die_fault(d: Die) -> usize
+    ensures { λ r. ⌜ r ≡ dieFault d ⌝ }
+{
+    if !sides_within(d.w, d.h, Die::SIDE_LEAST, Die::SIDE_MOST) {
+        return 4;
+    }
+    0
+}
+
+// Whether a fix is within its ranges.
+fn fix_in_range(f: Fix) -> bool
+    ensures { λ r. ⌜ r ≡ inLimits (fixItem f) ⌝ }
+{
+    if Fix::CORNER_MOST < f.x {
+        return false;
+    }
+    if Fix::CORNER_MOST < f.y {
+        return false;
+    }
+    sides_within(f.w, f.h, Fix::SIDE_LEAST, Fix::SIDE_MOST)
+}
+
+// The fault of fix i, or 0: count 6, range 4, leaves the die 9, overlaps an earlier fix 10.
+fn fix_fault(d: Die, fixes: [Fix; 8], i: usize) -> usize
+    ensures { λ r. ⌜ r ≡ fixFault d fixes i ⌝ }
+{
+    if Fix::COUNT <= i {
+        return 6;
+    }
+    let f = fixes[i];
+    if !fix_in_range(f) {
+        return 4;
+    }
+    if !chip::fix_in_die(d, f) {
+        return 9;
+    }
+    if !chip::clear_of_fixes(f, fixes, i) {
+        return 10;
+    }
+    0
+}
+
+// The k fixes, from line 2 on.
+fn test_fixes(d: Die, fixes: [Fix; 8], k: usize) -> Tested
+    ensures { λ r. ⌜ r ≡ tests (fixFault d fixes) 2 0 k ⌝ }
+{
+    let mut i: usize = 0;
+    while i < k {
+        let no = fix_fault(d, fixes, i);
+        if no != 0 {
+            return Tested::Refused(Refusal { no, line: 2 + i });
+        }
+        i += 1;
+    }
+    Tested::Passed
+}
+
+// The fault of macro i, or 0: count 6, range 4.
+fn mac_fault(macs: [Mac; 8], i: usize) -> usize
+    ensures { λ r. ⌜ r ≡ macFault macs i ⌝ }
+{
+    if Mac::COUNT <= i {
+        return 6;
+    }
+    let m = macs[i];
+    if !sides_within(m.w, m.h, Mac::SIDE_LEAST, Mac::SIDE_MOST) {
+        return 4;
+    }
+    0
+}
+
+// The n macros, from the line given on.
+fn test_macs(macs: [Mac; 8], n: usize, line: usize) -> Tested
+    requires { ⌜ line ≤ 10 ⌝ }
+    ensures { λ r. ⌜ r ≡ tests (macFault macs) line 0 n ⌝ }
+{
+    let mut i: usize = 0;
+    while i < n {
+        let no = mac_fault(macs, i);
+        if no != 0 {
+            return Tested::Refused(Refusal { no, line: line + i });
+        }
+        i += 1;
+    }
+    Tested::Passed
+}
+
+// Whether a pin is within its ranges.
+fn pin_in_range(p: Pin) -> bool
+    ensures { λ r. ⌜ r ≡ inLimits (pinItem (pinOf p)) ⌝ }
+{
+    if Mac::COUNT < p.m {
+        return false;
+    }
+    if !within(p.xup, Pin::PLACE_LEAST_UP, Pin::PLACE_MOST_UP) {
+        return false;
+    }
+    within(p.yup, Pin::PLACE_LEAST_UP, Pin::PLACE_MOST_UP)
+}
+
+// The fault of pin i of a chip with n macros, or 0: count 6, range 4, no such macro 8.
+fn pin_fault(pins: [Pin; 128], i: usize, n: usize) -> usize
+    ensures { λ r. ⌜ r ≡ pinFault pins n i ⌝ }
+{
+    if Pin::COUNT <= i {
+        return 6;
+    }
+    let p = pins[i];
+    if !pin_in_range(p) {
+        return 4;
+    }
+    if n < p.m {
+        return 8;
+    }
+    0
+}
+
+// The pins of one net, `count` of them from pin q on, from the line given on.
+fn test_pins(pins: [Pin; 128], q: usize, count: usize, n: usize, line: usize) -> Tested
+    requires { ⌜ (q ≤ 128) × (line ≤ 200) ⌝ }
+    ensures { λ r. ⌜ r ≡ pinsTested pins n q line count ⌝ }
+{
+    let mut i: usize = 0;
+    while i < count {
+        let no = pin_fault(pins, q + i, n);
+        if no != 0 {
+            return Tested::Refused(Refusal { no, line: line + i });
+        }
+        i += 1;
+    }
+    Tested::Passed
+}
+
+// Whether there is a net before net j and it has no pin.
+fn bare_before(nets: [Net; 32], j: usize) -> bool
+    requires { ⌜ j ≤ 32 ⌝ }
+    ensures { λ r. ⌜ r ≡ bareBefore nets j ⌝ }
+{
+    if j == 0 {
+        return false;
+    }
+    let before = nets[j - 1];
+    before.pins == 0
+}
+
+// The fault of net j, or 0: count 6, the net before it without a pin 7, range 4.
+fn net_fault(nets: [Net; 32], j: usize) -> usize
+    ensures { λ r. ⌜ r ≡ netFault nets j ⌝ }
+{
+    if Net::COUNT <= j {
+        return 6;
+    }
+    if bare_before(nets, j) {
+        return 7;
+    }
+    let net = nets[j];
+    if !within(net.weight, Net::WEIGHT_LEAST, Net::WEIGHT_MOST) {
+        return 4;
+    }
+    0
+}
+
+// Net j on the line given, with its pins from pin q on.
+fn test_net(nets: [Net; 32], j: usize, pins: [Pin; 128], q: usize, n: usize, line: usize) -> Tested
+    requires { ⌜ (q ≤ 128) × (line ≤ 199) ⌝ }
+    ensures { λ r. ⌜ r ≡ netTested nets pins n line q j ⌝ }
+{
+    let no = net_fault(nets, j);
+    if no != 0 {
+        return Tested::Refused(Refusal { no, line });
+    }
+    let net = nets[j];
+    test_pins(pins, q, net.pins, n, line + 1)
+}
+
+// The t nets with their pins and the end, from the line given on.
+fn test_nets(nets: [Net; 32], t: usize, pins: [Pin; 128], n: usize, first: usize) -> Tested
+    requires { ⌜ first ≤ 18 ⌝ }
+    ensures { λ r. ⌜ r ≡ netsTested nets pins n first 0 0 t ⌝ }
+{
+    let mut q: usize = 0;
+    let mut j: usize = 0;
+    while j < t {
+        let of_net = test_net(nets, j, pins, q, n, first + j + q);
+        let Tested::Passed = of_net else {
+            return of_net;
+        };
+        let net = nets[j];
+        q += net.pins;
+        j += 1;
+    }
+    if bare_before(nets, j) {
+        return Tested::Refused(Refusal {
+            no: 7,
+            line: first + j + q,
+        });
+    }
+    Tested::Passed
+}
+
+// The items of a chip one after the other, whatever the length of its text.
+fn test_parts(
+    die: Die,
+    k: usize,
+    fixes: [Fix; 8],
+    n: usize,
+    macs: [Mac; 8],
+    t: usize,
+    nets: [Net; 32],
+    pins: [Pin; 128],
+) -> Tested
+    ensures { λ r. ⌜ ItemsAnswer (record { die = die; k = k; fixes = fixes; n = n; macs = macs; t = t; nets = nets; pins = pins }) r ⌝ }
+{
+    let no = die_fault(die);
+    if no != 0 {
+        return Tested::Refused(Refusal { no, line: 1 });
+    }
+    let of_fixes = test_fixes(die, fixes, k);
+    let Tested::Passed = of_fixes else {
+        return of_fixes;
+    };
+    let of_macs = test_macs(macs, n, k + 2);
+    let Tested::Passed = of_macs else {
+        return of_macs;
+    };
+    test_nets(nets, t, pins, n, k + 2 + n)
+}
+
+fn test_items(c: Chip) -> Tested
+    ensures { λ r. ⌜ ItemsAnswer c r ⌝ }
+{
+    let die = c.die;
+    let fixes = c.fixes;
+    let macs = c.macs;
+    let nets = c.nets;
+    let pins = c.pins;
+    test_parts(die, c.k, fixes, c.n, macs, c.t, nets, pins)
+}
+
+// A chip tested as its text would be.
+pub fn test_chip(c: Chip) -> Tested
+    ensures { λ r. ⌜ testedAs (chipOf c) r ≡ readChip (chipText (chipOf c)) ⌝ }
+{
+    let tested = test_items(c);
+    let Tested::Refused(f) = tested else {
+        return Tested::Passed;
+    };
+    let mut none = [0u8; 1];
+    if 16384 < chipprinter::put_chip(&mut none, 0, c) {
+        return Tested::Refused(Refusal { no: 1, line: 0 });
+    }
+    Tested::Refused(f)
+}
+
+// Writes the text of a chip into the buffer, or refuses and leaves the buffer as it was.
+pub fn write_chip(c: Chip, out: &mut [u8]) -> WriteAnswer
+    ensures { λ r. ⌜ record { answer = answerOf r; buffer = now (out .exit) } ≡ writeChip (chipOf c) (now (out .entry)) ⌝ }
+{
+    let tested = test_chip(c);
+    if let Tested::Refused(f) = tested {
+        return WriteAnswer::Refused(f);
+    }
+    let mut none = [0u8; 1];
+    if out.len() < chipprinter::put_chip(&mut none, 0, c) {
+        return WriteAnswer::Refused(Refusal { no: 15, line: 0 });
+    }
+    WriteAnswer::Text(chipprinter::put_chip(out, 0, c))
+}

@@ -1,0 +1,47 @@
+-- The step of one line: its word, the tests before the fields, and the fields.
+use mathlib.Core.Path.{_≡_, refl, sym, ap, _∙_}
+use mathlib.Core.List.{List}
+use Prim.Native.Nat.{ℕ, _-_, _≤_}
+use native.Mathlib.Omega.{arith}
+use lib.IntN.{ℤ}
+use lib.ListN.{length, take, drop, length-take, length-drop}
+use lib.Seq.{take-all}
+use Rattle.model.specs.declared.Word.{Word}
+use Rattle.grammar.specs.Line.{comma, upTo, from, Fields, got, faulty, fields}
+use Rattle.grammar.specs.Words.{wordIn, rules}
+use Rattle.grammar.specs.Reading.{Kind, Step, fault, Reading, accepted, refused, stepFields, stepBytes}
+use Rattle.grammar.specs.Steps.{entryFault}
+use Rattle.grammar.proofs.Cut.{up-to-short, up-to-take, from-drop}
+use Rattle.grammar.proofs.Entry.{foundOr, found-fault, step-word}
+
+-- the step by the fields of a line, where f is what they are read as in line l
+module _ {S : Type 0} (k : Kind S) (s : S) (w : Word) (l : ℕ) (f : Fields → Reading (List ℤ)) (right : (zs : List ℤ) → f (got zs) ≡ accepted zs) (wrong : (n : ℕ) → f (faulty n) ≡ refused n l) where
+  pub step-got : (x : Fields) (zs : List ℤ) → accepted zs ≡ f x → stepFields k s w x ≡ k .add s w zs
+  step-got (got ys) zs e = let c = e ∙ right ys in let q : ys ≡ zs = cc in ap (k .add s w) q
+  step-got (faulty n) zs e = let c = e ∙ wrong n in cc
+
+  pub step-faulty : (x : Fields) (n j : ℕ) → refused n j ≡ f x → fault n ≡ stepFields k s w x
+  step-faulty (got ys) n j e = let c = e ∙ right ys in cc
+  step-faulty (faulty m) n j e = let c = e ∙ wrong m in let q : n ≡ m = cc in ap fault q
+
+-- the line from its word on
+module _ (bytes : List ℕ) (b : ℕ) (n : b ≡ length (upTo comma bytes)) where
+  pub word-end : b ≤ length bytes
+  word-end = rw n (up-to-short comma bytes)
+
+  pub word-long : b ≡ length (take b bytes)
+  word-long = rw length-take (omega (arith, word-end))
+
+  after-word : take (length bytes - b) (drop b bytes) ≡ from comma bytes
+  after-word = take-all (length bytes - b) (drop b bytes) (rw length-drop (omega arith)) ∙ rw n (sym (from-drop comma bytes))
+
+  module _ {S : Type 0} (k : Kind S) (s : S) (w : Word) (i : w ≡ wordIn (k .words) (take b bytes)) (no : ℕ) (tests : no ≡ entryFault k s w) where
+    step-is : foundOr no (stepFields k s w (fields (rules w) (take (length bytes - b) (drop b bytes)))) ≡ stepBytes k s bytes
+    unfolding stepBytes
+    step-is = rw (tests, after-word, i, n, ← up-to-take comma bytes) (sym (step-word k s (wordIn (k .words) (upTo comma bytes)) _))
+
+    pub step-fails : (no ≡ 0 → ⊥) → fault no ≡ stepBytes k s bytes
+    step-fails h = found-fault no _ h ∙ step-is
+
+    pub step-passes : no ≡ 0 → stepFields k s w (fields (rules w) (take (length bytes - b) (drop b bytes))) ≡ stepBytes k s bytes
+    step-passes z = rw (← step-is, z)

@@ -1,0 +1,30 @@
+use Rattle.model.proofs.Tests.{fails, holds, first-fails, second-fails, both-hold, outside, inside}
+use borrow.Author.Needs.{needs}
+use Rattle.model.proofs.Die.new.Statement.{statement}
+use Rattle.model.proofs.Die.new.Tie as tie
+use Rattle.model.proofs.Die.new.Reads as reads
+use Rattle.model.proofs.Die.new.Lts as lts
+use Rattle.model.proofs.within.Reads as within-reads
+
+-- src/lib.rt:70:13
+within-requires : tie.Need-within-requires
+within-requires c κs = search needs
+
+-- src/lib.rt:71:13
+returns : tie.Need-returns
+returns c = search (outside, first-fails, fails)
+
+-- src/lib.rt:73:13
+within-requires-2 : tie.Need-within-requires-2
+within-requires-2 c κs = search needs
+
+-- src/lib.rt:74:13
+returns-2 : tie.Need-returns-2
+returns-2 c = search (outside, second-fails, fails)
+
+-- src/lib.rt:67:5
+returns-3 : tie.Need-returns-3
+returns-3 c = search (inside, both-hold, holds)
+
+pub new-spec : {M : Type 1} → statement M
+new-spec = tie.close (tie.spec within-requires returns within-requires-2 returns-2 returns-3)

@@ -1,0 +1,22 @@
+use Rattle.model.proofs.Tests.{fails, holds, outside, inside}
+use borrow.Author.Needs.{needs}
+use Rattle.model.proofs.Net.new.Statement.{statement}
+use Rattle.model.proofs.Net.new.Tie as tie
+use Rattle.model.proofs.Net.new.Reads as reads
+use Rattle.model.proofs.Net.new.Lts as lts
+use Rattle.model.proofs.within.Reads as within-reads
+
+-- src/lib.rt:173:13
+within-requires : tie.Need-within-requires
+within-requires c κs = search needs
+
+-- src/lib.rt:174:13
+returns : tie.Need-returns
+returns c = search (outside, fails)
+
+-- src/lib.rt:170:5
+returns-2 : tie.Need-returns-2
+returns-2 c = search (inside, holds)
+
+pub new-spec : {M : Type 1} → statement M
+new-spec = tie.close (tie.spec within-requires returns returns-2)

@@ -1,0 +1,6 @@
+pub mod Body
+pub mod Staged
+pub mod ItemsRecord
+pub mod ItemsRun
+pub mod ReadText
+pub mod TextRead

@@ -1,0 +1,94 @@
+-- The rules of the record (document 01, "The search and its record" and "Refusal table"), as a kind of text.
+use Prim.Native.Nat.{ℕ, zero, suc}
+use mathlib.Core.List.{List, [], _∷_, _++_}
+use mathlib.Core.Bool.{Bool, true, false}
+use lib.Dec.{ltb, eqb}
+use lib.ListN.{length, getD}
+use lib.IntN.{ℤ, pos, natAbs}
+use Rattle.model.specs.declared.Spot.{Spot}
+use Rattle.model.specs.declared.Word.{Word}
+use Rattle.model.specs.declared.Word.the-variants as word
+use Rattle.model.specs.Meaning.{Record, none, least}
+use Rattle.grammar.specs.Words.{isWord, isIn, recordWords}
+use Rattle.grammar.specs.Reading.{Kind, Step, next, fault, check}
+
+-- what has been read: the word of the last line (`Nothing` before the first) and the record so far
+pub record Part : Type 0 where
+  pub last : Word
+  pub result : Record
+
+abbrev pub start : Part
+start = record { last = word.Nothing; result = none }
+
+-- the words that may stand after a word: `none`, or `least` and the macros; then `done`
+abbrev pub followers : Word → List Word
+followers word.Nothing = word.Least ∷ word.None ∷ []
+followers word.Die = []
+followers word.Fix = []
+followers word.Mac = []
+followers word.Net = []
+followers word.Pin = []
+followers word.End = []
+followers word.Least = word.At ∷ word.Done ∷ []
+followers word.None = word.Done ∷ []
+followers word.At = word.At ∷ word.Done ∷ []
+followers word.Done = []
+
+abbrev pub spotsOf : Record → List Spot
+spotsOf none = []
+spotsOf (least wl ps) = ps
+
+-- at most 8 macros
+abbrev pub room : Record → Word → Bool
+room r word.Nothing = true
+room r word.Die = true
+room r word.Fix = true
+room r word.Mac = true
+room r word.Net = true
+room r word.Pin = true
+room r word.End = true
+room r word.Least = true
+room r word.None = true
+room r word.At = ltb (length (spotsOf r)) 8
+room r word.Done = true
+
+-- value i of a line
+abbrev pub size : List ℤ → ℕ → ℕ
+size zs i = natAbs (getD zs i (pos 0))
+
+abbrev pub spotOf : List ℤ → Spot
+spotOf zs = record { x = size zs 1; y = size zs 2 }
+
+abbrev pub withSpot : Record → Spot → Record
+withSpot none p = none
+withSpot (least wl ps) p = least wl (ps ++ (p ∷ []))
+
+abbrev pub after : Word → Record → Step Part
+after w r = next (record { last = w; result = r })
+
+-- m in turn, or 8; and what a line adds
+abbrev pub add : Part → Word → List ℤ → Step Part
+add s word.Nothing zs = fault 2
+add s word.Die zs = fault 2
+add s word.Fix zs = fault 2
+add s word.Mac zs = fault 2
+add s word.Net zs = fault 2
+add s word.Pin zs = fault 2
+add s word.End zs = fault 2
+add s word.Least zs = after word.Least (least (size zs 0) [])
+add s word.None zs = after word.None none
+add s word.At zs =
+    check (eqb (size zs 0) (suc (length (spotsOf (s .result))))) 8
+    (after word.At (withSpot (s .result) (spotOf zs)))
+add s word.Done zs = after word.Done (s .result)
+
+-- records as a kind of text; `done` is the last line
+abbrev pub recordKind : Kind Part
+recordKind = record {
+  words = recordWords;
+  inPlace = λ s w. isIn w (followers (s .last));
+  hasRoom = λ s w. room (s .result) w;
+  hasPin = λ s w. true;
+  add = add;
+  complete = λ s. isWord (s .last) word.Done;
+}

@@ -1,0 +1,51 @@
+-- Reading and writing of records: `readRecord` is what a text means, `recordText` the one text of a record, `writeRecord` what writing leaves in a lent buffer.
+use Prim.Native.Nat.{ℕ, suc}
+use mathlib.Core.List.{List, [], _∷_, _++_}
+use lib.IntN.{pos}
+use Rattle.model.specs.declared.Spot.{Spot}
+use Rattle.model.specs.declared.Word.the-variants as word
+use Rattle.model.specs.Meaning.{Record, none, least}
+use Rattle.grammar.specs.Words.{Item, itemsText}
+use Rattle.grammar.specs.Reading.{Reading, accepted, refused, readText}
+use Rattle.grammar.specs.Writing.{Written, writeText}
+use Rattle.record.specs.Kind.{Part, start, recordKind}
+
+abbrev pub recordRead : Reading Part → Reading Record
+recordRead (accepted s) = accepted (s .result)
+recordRead (refused n l) = refused n l
+
+-- a text is accepted as the record that it means, or refused with number and line
+unfoldable pub readRecord : List ℕ → Reading Record
+readRecord text = recordRead (readText recordKind start text)
+
+-- ---- the lines of a record
+
+abbrev pub leastItem : ℕ → Item
+leastItem wl = record { word = word.Least; values = pos wl ∷ [] }
+
+abbrev pub noneItem : Item
+noneItem = record { word = word.None; values = [] }
+
+abbrev pub doneItem : Item
+doneItem = record { word = word.Done; values = [] }
+
+-- macro m at p
+abbrev pub atItem : ℕ → Spot → Item
+atItem m p = record { word = word.At; values = pos m ∷ pos (p .x) ∷ pos (p .y) ∷ [] }
+
+-- macros m, m + 1 and so on
+unfoldable pub atItems : ℕ → List Spot → List Item
+atItems m [] = []
+atItems m (p ∷ ps) = atItem m p ∷ atItems (suc m) ps
+
+unfoldable pub recordItems : Record → List Item
+recordItems none = noneItem ∷ (doneItem ∷ [])
+recordItems (least wl ps) = leastItem wl ∷ (atItems 1 ps ++ (doneItem ∷ []))
+
+-- the one text of a record
+unfoldable pub recordText : Record → List ℕ
+recordText r = itemsText (recordItems r)
+
+-- a record held as a value is tested first as its text would be, then written
+abbrev pub writeRecord : Record → List ℕ → Written
+writeRecord r out = writeText (readRecord (recordText r)) (recordText r) out

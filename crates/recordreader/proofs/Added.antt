@@ -1,0 +1,63 @@
+-- What a line adds: the length, no placement, a spot, the end.
+use mathlib.Core.Path.{_≡_, refl, sym, ap, _∙_}
+use mathlib.Core.Bool.{true, false}
+use mathlib.Core.List.{List}
+use Prim.Native.Nat.{ℕ, suc, _+_}
+use native.Mathlib.Numerals.{add-one}
+use native.Mathlib.Omega.{arith}
+use lib.Dec.{eqb}
+use lib.ListN.{length, getD, set, length-set}
+use borrow.Author.Tests.{eq-eqb, ne-eqb}
+use Rattle.model.specs.declared.Word.the-variants as word
+use Rattle.model.specs.Meaning.{firstOf, blankSpot}
+use Rattle.model.proofs.FirstOf.{first-set}
+use Rattle.grammar.specs.Reading.{fault}
+use Rattle.grammar.specs.Steps.{Entered}
+use Rattle.line.specs.Held.{valuesOf}
+use Rattle.record.specs.Kind.{recordKind, add, after, size, spotsOf}
+use Rattle.recordreader.specs.declared.State.{State}
+use Rattle.recordreader.specs.declared.Fault.the-variants as held
+use Rattle.recordreader.specs.declared.Taken.{Taken}
+use Rattle.recordreader.specs.State.{Sound, partOf, withFault, TakenOk}
+use Rattle.recordreader.proofs.Values.{heldSpot, least-values, at-values}
+use Rattle.recordreader.proofs.Entry.{count-meant, at-fits, at-found}
+
+pub never : {A : Type 0} → false ≡ true → A
+never e = absurd (let z : _≡_ {A = ℕ} 0 1 = cc in omega arith)
+
+abbrev taken : State → Taken
+taken s = record { fault = held.Clear; state = s }
+
+module _ (s : State) (v : List ℕ) (sound : Sound s) where
+  pub least-added : TakenOk (taken (record { last = word.Least; found = true; wl = getD v 0 0; count = 0; spots = s .spots })) (add (partOf s) word.Least (valuesOf word.Least v))
+  unfolding firstOf
+  least-added =
+      record {
+        meant = rw (least-values v);
+        sound = record { few = omega arith; long = sound .long; blank = λ e. refl; opened = λ o. refl };
+      }
+
+  pub none-added : TakenOk (taken (record { last = word.None; found = false; wl = 0; count = 0; spots = s .spots })) (add (partOf s) word.None (valuesOf word.None v))
+  none-added = record { meant = refl; sound = record { few = omega arith; long = sound .long; blank = λ e. refl; opened = never } }
+
+  pub done-added : TakenOk (taken (record { last = word.Done; found = s .found; wl = s .wl; count = s .count; spots = s .spots })) (add (partOf s) word.Done (valuesOf word.Done v))
+  done-added = record { meant = refl; sound = record { few = sound .few; long = sound .long; blank = sound .blank; opened = never } }
+
+  -- m against the next number
+  turn : eqb (size (valuesOf word.At v) 0) (suc (length (spotsOf (partOf s .result)))) ≡ eqb (getD v 0 0) (s .count + 1)
+  turn = rw (at-values v .0, count-meant s sound, add-one)
+
+  pub out-of-turn : (r : Taken) → (getD v 0 0 ≡ s .count + 1 → ⊥) → r ≡ withFault s 8 → TakenOk r (add (partOf s) word.At (valuesOf word.At v))
+  out-of-turn r h e = rw e (record { meant = rw (turn, ne-eqb (getD v 0 0) (s .count + 1) h); sound = sound })
+
+  pub at-added : Entered recordKind (partOf s) word.At → getD v 0 0 ≡ s .count + 1 → TakenOk (taken (record { last = word.At; found = s .found; wl = s .wl; count = s .count + 1; spots = set (s .spots) (s .count) (heldSpot v) })) (add (partOf s) word.At (valuesOf word.At v))
+  at-added p h =
+      record {
+        meant = rw (turn, eq-eqb (getD v 0 0) (s .count + 1) h, at-found s sound p, at-values v .1, first-set blankSpot (s .count) (s .spots) (heldSpot v) (omega (arith, at-fits s sound p, sound .long)));
+        sound = record {
+          few = omega (arith, at-fits s sound p);
+          long = length-set (s .spots) (s .count) (heldSpot v) ∙ sound .long;
+          blank = λ e. never (sym e ∙ at-found s sound p);
+          opened = λ o. at-found s sound p;
+        };
+      }

@@ -1,0 +1,33 @@
+use Rattle.recordreader.proofs.Lines.{refuses, complete, not-complete}
+use borrow.Author.Needs.{needs}
+use Rattle.recordreader.proofs.finish.Statement.{statement}
+use Rattle.recordreader.proofs.finish.Tie as tie
+use Rattle.recordreader.proofs.finish.Reads as reads
+use Rattle.recordreader.proofs.finish.Lts as lts
+use Rattle.grammar.proofs.rank_of.Reads as rank-of-reads
+use Rattle.recordreader.proofs.record_of.Reads as record-of-reads
+use Rattle.recordreader.proofs.refused.Reads as refused-reads
+
+-- src/lib.rt:294:8
+rank-of-requires : tie.Need-rank-of-requires
+rank-of-requires c κs = search needs
+
+-- src/lib.rt:295:9
+refused-requires : tie.Need-refused-requires
+refused-requires c κs = search needs
+
+-- src/lib.rt:295:9
+returns : tie.Need-returns
+returns c = search (refuses, not-complete)
+
+-- src/lib.rt:299:17
+record-of-requires : tie.Need-record-of-requires
+record-of-requires c κs = search needs
+
+-- src/lib.rt:290:1
+returns-2 : tie.Need-returns-2
+returns-2 c = search complete
+
+pub finish-spec : {M : Type 1} → statement M
+finish-spec =
+    tie.close (tie.spec rank-of-requires refused-requires returns record-of-requires returns-2)

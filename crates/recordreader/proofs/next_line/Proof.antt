@@ -1,0 +1,48 @@
+use Rattle.recordreader.proofs.Lines.{no-feed, has-feed}
+use borrow.Author.Needs.{needs}
+use Rattle.recordreader.proofs.next_line.Statement.{statement}
+use Rattle.recordreader.proofs.next_line.Tie as tie
+use Rattle.recordreader.proofs.next_line.Reads as reads
+use Rattle.recordreader.proofs.next_line.Lts as lts
+use Rattle.recordreader.proofs.take_line.Reads as take-line-reads
+use Rattle.recordreader.proofs.with_fault.Reads as with-fault-reads
+
+-- src/lib.rt:253:9
+with-fault-requires : tie.Need-with-fault-requires
+with-fault-requires c κs = search needs
+
+-- src/lib.rt:253:9
+returns : tie.Need-returns
+returns c = search no-feed
+
+-- src/lib.rt:255:15
+sub-take-line : tie.Need-sub-take-line
+sub-take-line c = search needs
+
+-- src/lib.rt:255:15
+part-take-line-start : tie.Need-part-take-line-start
+part-take-line-start c = search needs
+
+-- src/lib.rt:255:15
+part-take-line-end : tie.Need-part-take-line-end
+part-take-line-end c = search needs
+
+-- src/lib.rt:255:5
+take-line-requires : tie.Need-take-line-requires
+take-line-requires c κs = search needs
+
+-- src/lib.rt:246:1
+returns-2 : tie.Need-returns-2
+returns-2 c = search has-feed
+
+pub next-line-spec : {M : Type 1} → statement M
+next-line-spec =
+    tie.close
+    (tie.spec
+    with-fault-requires
+    returns
+    sub-take-line
+    part-take-line-start
+    part-take-line-end
+    take-line-requires
+    returns-2)

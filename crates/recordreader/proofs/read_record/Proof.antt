@@ -1,0 +1,27 @@
+use Rattle.recordreader.proofs.Lines.{refuses, too-long}
+use borrow.Author.Needs.{needs}
+use Rattle.recordreader.proofs.read_record.Statement.{statement}
+use Rattle.recordreader.proofs.read_record.Tie as tie
+use Rattle.recordreader.proofs.read_record.Reads as reads
+use Rattle.recordreader.proofs.read_record.Lts as lts
+use Rattle.recordreader.proofs.read_lines.Reads as read-lines-reads
+use Rattle.recordreader.proofs.refused.Reads as refused-reads
+
+-- src/lib.rt:342:9
+refused-requires : tie.Need-refused-requires
+refused-requires c κs = search needs
+
+-- src/lib.rt:342:9
+returns : tie.Need-returns
+returns c = let ok = refuses _ 1 0 _ (too-long _ (c .before .if1 .taken)) (c .refused .ensures) in (ok .meant, ok .blank)
+
+-- src/lib.rt:344:5
+read-lines-requires : tie.Need-read-lines-requires
+read-lines-requires c κs = search needs
+
+-- src/lib.rt:337:1
+returns-2 : tie.Need-returns-2
+returns-2 c = search needs
+
+pub read-record-spec : {M : Type 1} → statement M
+read-record-spec = tie.close (tie.spec refused-requires returns read-lines-requires returns-2)

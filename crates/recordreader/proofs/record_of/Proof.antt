@@ -1,0 +1,16 @@
+use Rattle.recordreader.proofs.Lines.{least-held, none-held}
+use Rattle.recordreader.proofs.record_of.Statement.{statement}
+use Rattle.recordreader.proofs.record_of.Tie as tie
+use Rattle.recordreader.proofs.record_of.Reads as reads
+use Rattle.recordreader.proofs.record_of.Lts as lts
+
+-- src/lib.rt:278:9
+returns : tie.Need-returns
+returns c = search least-held
+
+-- src/lib.rt:273:1
+returns-2 : tie.Need-returns-2
+returns-2 c = search none-held
+
+pub record-of-spec : {M : Type 1} → statement M
+record-of-spec = tie.close (tie.spec returns returns-2)

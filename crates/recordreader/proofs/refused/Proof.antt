@@ -1,0 +1,17 @@
+use borrow.Author.Needs.{needs}
+use Rattle.recordreader.proofs.refused.Statement.{statement}
+use Rattle.recordreader.proofs.refused.Tie as tie
+use Rattle.recordreader.proofs.refused.Reads as reads
+use Rattle.recordreader.proofs.refused.Lts as lts
+use Rattle.recordreader.proofs.blank_spots.Reads as blank-spots-reads
+
+-- src/lib.rt:262:9
+blank-spots-requires : tie.Need-blank-spots-requires
+blank-spots-requires c κs = search needs
+
+-- src/lib.rt:259:1
+returns : tie.Need-returns
+returns c = rw (c .blank-spots .ensures)
+
+pub refused-spec : {M : Type 1} → statement M
+refused-spec = tie.close (tie.spec blank-spots-requires returns)

@@ -1,0 +1,49 @@
+use Rattle.recordreader.proofs.OneLine.{fields-fail, line-adds}
+use borrow.Author.Needs.{needs}
+use Rattle.recordreader.proofs.take_fields.Statement.{statement}
+use Rattle.recordreader.proofs.take_fields.Tie as tie
+use Rattle.recordreader.proofs.take_fields.Reads as reads
+use Rattle.recordreader.proofs.take_fields.Lts as lts
+use Rattle.recordreader.proofs.add_item.Reads as add-item-reads
+use Rattle.recordreader.proofs.with_fault.Reads as with-fault-reads
+use Rattle.line.proofs.read_fields.Reads as read-fields-reads
+
+-- src/lib.rt:214:9
+read-fields-requires : tie.Need-read-fields-requires
+read-fields-requires c κs = search needs
+
+-- src/lib.rt:218:24
+enum-told : tie.Need-enum-told
+enum-told c = search needs
+
+-- src/lib.rt:218:24
+add-item-requires : tie.Need-add-item-requires
+add-item-requires c κs = search needs
+
+-- src/lib.rt:219:25
+enum-known-answer : tie.Need-enum-known-answer
+enum-known-answer c = search needs
+
+-- src/lib.rt:219:31
+with-fault-requires : tie.Need-with-fault-requires
+with-fault-requires c κs = search needs
+
+-- src/lib.rt:209:1
+returns : tie.Need-returns
+returns c = search line-adds
+
+-- src/lib.rt:209:1
+returns-2 : tie.Need-returns-2
+returns-2 c = search fields-fail
+
+pub take-fields-spec : {M : Type 1} → statement M
+take-fields-spec =
+    tie.close
+    (tie.spec
+    read-fields-requires
+    enum-told
+    add-item-requires
+    enum-known-answer
+    with-fault-requires
+    returns
+    returns-2)

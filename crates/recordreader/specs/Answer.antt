@@ -1,0 +1,36 @@
+-- What the record reader's answer means.
+use Prim.Native.Nat.{ℕ}
+use mathlib.Core.Path.{_≡_}
+use lib.ListN.{replicate}
+use Rattle.model.specs.declared.Outcome.the-variants as outcome
+use Rattle.model.specs.declared.Record.{Record as HeldRecord}
+use Rattle.model.specs.Meaning.{Record, recordOf, blankSpot}
+use Rattle.grammar.specs.Reading.{Reading, accepted, refused}
+use Rattle.recordreader.specs.declared.RecordAnswer.{RecordAnswer}
+use Rattle.recordreader.specs.declared.RecordAnswer.the-variants as answer
+use Rattle.recordreader.specs.declared.RecordRead.{RecordRead}
+
+-- a record that holds nothing
+abbrev pub blankRecord : HeldRecord
+blankRecord = record { outcome = outcome.None; spots = replicate 8 blankSpot }
+
+-- document 01's number and values for each case of the answer
+abbrev pub meant : RecordAnswer → HeldRecord → Reading Record
+meant answer.Accepted r = accepted (recordOf r)
+meant (answer.Refused f) r = refused (f .no) (f .line)
+
+abbrev pub meantRecord : RecordRead → Reading Record
+meantRecord r = meant (r .answer) (r .record)
+
+-- the record that a refusal leaves
+abbrev pub afterRefusal : RecordAnswer → HeldRecord → HeldRecord
+afterRefusal answer.Accepted r = blankRecord
+afterRefusal (answer.Refused f) r = r
+
+abbrev pub refusedAt : ℕ → ℕ → RecordRead
+refusedAt n l = record { answer = answer.Refused (record { no = n; line = l }); «record» = blankRecord }
+
+-- r is the answer for a text that is read so
+pub record ReadOk (read : Reading Record) (r : RecordRead) : Type 0 where
+  pub meant : meantRecord r ≡ read
+  pub blank : afterRefusal (r .answer) (r .record) ≡ blankRecord

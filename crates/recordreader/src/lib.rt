@@ -1,0 +1,345 @@
+// Reading a record from its text.
+use line::Fields;
+use model::Mac;
+use model::Outcome;
+use model::Record;
+use model::Refusal;
+use model::Spot;
+use model::Word;
+ghost use mathlib.Core.Path.{_≡_};
+ghost use Prim.Native.Nat.{_≤_, _<_};
+ghost use lib.ListN.{length, replicate};
+ghost use Rattle.model.specs.Meaning.{recordOf, blankSpot};
+ghost use Rattle.grammar.specs.Words.{rules};
+ghost use Rattle.grammar.specs.Line.{fields};
+ghost use Rattle.grammar.specs.Reading.{stepBytes, stepFields, stepLine, ending};
+ghost use Rattle.grammar.specs.Steps.{entryFault, Entered, LineEnd, lineAt};
+ghost use Rattle.line.specs.Held.{valuesOf};
+ghost use Rattle.record.specs.Kind.{add, recordKind};
+ghost use Rattle.record.specs.Text.{recordRead, readRecord};
+ghost use Rattle.recordreader.specs.State.{Sound, resultOf, partOf, mayFollow, withFault, TakenOk};
+ghost use Rattle.recordreader.specs.Answer.{blankRecord, refusedAt, meantRecord, afterRefusal, ReadOk};
+
+// What reading a record answers.
+pub enum RecordAnswer {
+    Accepted,
+    Refused(Refusal),
+}
+
+// The answer with the record; after a refusal the record is blank.
+pub struct RecordRead {
+    pub answer: RecordAnswer,
+    pub record: Record,
+}
+
+// What has been read: the word of the last line, whether there is a `least` line, its length, and the spots so far.
+pub(crate) struct State {
+    pub last: Word,
+    pub found: bool,
+    pub wl: u64,
+    pub count: usize,
+    pub spots: [Spot; 8],
+}
+
+// The fault of a line, if any.
+pub(crate) enum Fault {
+    Clear,
+    No(usize),
+}
+
+// What a line leads to: its fault, or what has been read with it.
+pub(crate) struct Taken {
+    pub fault: Fault,
+    pub state: State,
+}
+
+// Spots that hold nothing.
+fn blank_spots() -> [Spot; 8]
+    ensures { λ r. ⌜ r ≡ replicate 8 blankSpot ⌝ }
+{
+    [Spot { x: 0, y: 0 }; 8]
+}
+
+// Place: whether a word of rank b may stand after one of rank a. It may if b is from least[a] to most[a].
+fn may_follow(a: usize, b: usize) -> bool
+    requires { ⌜ a < 11 ⌝ }
+    ensures { λ r. ⌜ r ≡ mayFollow a b ⌝ }
+{
+    let least = [7, 1, 1, 1, 1, 1, 1, 9, 10, 9, 1];
+    let most = [8, 0, 0, 0, 0, 0, 0, 10, 10, 10, 0];
+    if b < least[a] {
+        return false;
+    }
+    b <= most[a]
+}
+
+// The first fault before the fields: word 2, place 5, count 6; or 0.
+fn entry_fault(s: State, w: Word) -> usize
+    requires { ⌜ Sound s ⌝ }
+    ensures { λ r. ⌜ r ≡ entryFault recordKind (partOf s) w ⌝ }
+{
+    let last = s.last;
+    let a = grammar::rank_of(last);
+    let b = grammar::rank_of(w);
+    if b == 0 {
+        return 2;
+    }
+    if !may_follow(a, b) {
+        return 5;
+    }
+    if b == 9 {
+        if Mac::COUNT <= s.count {
+            return 6;
+        }
+    }
+    0
+}
+
+// A faulty line: what was read before it stays.
+fn with_fault(s: State, no: usize) -> Taken
+    ensures { λ r. ⌜ r ≡ withFault s no ⌝ }
+{
+    Taken {
+        fault: Fault::No(no),
+        state: s,
+    }
+}
+
+// The length, with no spot yet.
+fn add_least(s: State, v: [u64; 4]) -> Taken
+    requires { ⌜ Sound s ⌝ }
+    ensures { λ r. ⌜ TakenOk r (add (partOf s) Word.Least (valuesOf Word.Least v)) ⌝ }
+{
+    let spots = s.spots;
+    Taken {
+        fault: Fault::Clear,
+        state: State {
+            last: Word::Least,
+            found: true,
+            wl: v[0],
+            count: 0,
+            spots,
+        },
+    }
+}
+
+// No placement.
+fn add_none(s: State, v: [u64; 4]) -> Taken
+    requires { ⌜ Sound s ⌝ }
+    ensures { λ r. ⌜ TakenOk r (add (partOf s) Word.None (valuesOf Word.None v)) ⌝ }
+{
+    let spots = s.spots;
+    Taken {
+        fault: Fault::Clear,
+        state: State {
+            last: Word::None,
+            found: false,
+            wl: 0,
+            count: 0,
+            spots,
+        },
+    }
+}
+
+// The spot of macro m: m out of turn 8.
+fn add_at(s: State, v: [u64; 4]) -> Taken
+    requires { ⌜ Sound s ⌝ }
+    requires { ⌜ Entered recordKind (partOf s) Word.At ⌝ }
+    ensures { λ r. ⌜ TakenOk r (add (partOf s) Word.At (valuesOf Word.At v)) ⌝ }
+{
+    let m = v[0] as usize;
+    let n = s.count;
+    if m != n + 1 {
+        return with_fault(s, 8);
+    }
+    let mut spots = s.spots;
+    spots[n] = Spot { x: v[1], y: v[2] };
+    Taken {
+        fault: Fault::Clear,
+        state: State {
+            last: Word::At,
+            found: s.found,
+            wl: s.wl,
+            count: n + 1,
+            spots,
+        },
+    }
+}
+
+// The last line.
+fn add_done(s: State, v: [u64; 4]) -> Taken
+    requires { ⌜ Sound s ⌝ }
+    ensures { λ r. ⌜ TakenOk r (add (partOf s) Word.Done (valuesOf Word.Done v)) ⌝ }
+{
+    let spots = s.spots;
+    Taken {
+        fault: Fault::Clear,
+        state: State {
+            last: Word::Done,
+            found: s.found,
+            wl: s.wl,
+            count: s.count,
+            spots,
+        },
+    }
+}
+
+// What a line whose fields are read adds.
+fn add_item(s: State, w: Word, v: [u64; 4]) -> Taken
+    requires { ⌜ Sound s ⌝ }
+    requires { ⌜ Entered recordKind (partOf s) w ⌝ }
+    ensures { λ r. ⌜ TakenOk r (add (partOf s) w (valuesOf w v)) ⌝ }
+{
+    match w {
+        Word::Least => add_least(s, v),
+        Word::None => add_none(s, v),
+        Word::At => add_at(s, v),
+        Word::Done => add_done(s, v),
+        Word::Nothing => with_fault(s, 2),
+        Word::Die => with_fault(s, 2),
+        Word::Fix => with_fault(s, 2),
+        Word::Mac => with_fault(s, 2),
+        Word::Net => with_fault(s, 2),
+        Word::Pin => with_fault(s, 2),
+        Word::End => with_fault(s, 2),
+    }
+}
+
+// What a line leads to whose word passes, by the bytes after the word.
+fn take_fields(rest: &[u8], s: State, w: Word, line: usize) -> Taken
+    requires { ⌜ Sound s ⌝ }
+    requires { ⌜ Entered recordKind (partOf s) w ⌝ }
+    ensures { λ r. ⌜ TakenOk r (stepFields recordKind (partOf s) w (fields (rules w) (now (rest .entry)))) ⌝ }
+{
+    let fields = line::read_fields(rest, w, line);
+    let answer = fields.answer;
+    let values = fields.values;
+    match answer {
+        Fields::Got => add_item(s, w, values),
+        Fields::Refused(f) => with_fault(s, f.no),
+    }
+}
+
+// What a line with these bytes leads to, if it has its LF.
+fn take_line(bytes: &[u8], s: State, line: usize) -> Taken
+    requires { ⌜ Sound s ⌝ }
+    ensures { λ r. ⌜ TakenOk r (stepBytes recordKind (partOf s) (now (bytes .entry))) ⌝ }
+{
+    let b = line::bytes_before(bytes, 44);
+    let w = line::record_word(&bytes[..b]);
+    let no = entry_fault(s, w);
+    if no != 0 {
+        return with_fault(s, no);
+    }
+    take_fields(&bytes[b..], s, w, line)
+}
+
+// The place of the first LF from a on, or the end of the text.
+fn line_end(text: &[u8], a: usize) -> usize
+    requires { ⌜ a ≤ length (now text) ⌝ }
+    ensures { λ r. ⌜ LineEnd (now (text .entry)) a r ⌝ }
+{
+    a + line::bytes_before(&text[a..], 10)
+}
+
+// What the line text[a..e] leads to: missing LF 2.
+fn next_line(text: &[u8], a: usize, e: usize, s: State, line: usize) -> Taken
+    requires { ⌜ Sound s ⌝ }
+    requires { ⌜ a ≤ length (now text) ⌝ }
+    requires { ⌜ LineEnd (now text) a e ⌝ }
+    ensures { λ r. ⌜ TakenOk r (stepLine recordKind (partOf s) (lineAt (now (text .entry)) a e)) ⌝ }
+{
+    if e == text.len() {
+        return with_fault(s, 2);
+    }
+    take_line(&text[a..e], s, line)
+}
+
+// A refusal, with a blank record.
+fn refused(no: usize, line: usize) -> RecordRead
+    ensures { λ r. ⌜ r ≡ refusedAt no line ⌝ }
+{
+    let spots = blank_spots();
+    RecordRead {
+        answer: RecordAnswer::Refused(Refusal { no, line }),
+        record: Record {
+            outcome: Outcome::None,
+            spots,
+        },
+    }
+}
+
+// The record that has been read.
+fn record_of(s: State) -> Record
+    ensures { λ r. ⌜ recordOf r ≡ resultOf (s .found) (s .wl) (s .count) (s .spots) ⌝ }
+{
+    let spots = s.spots;
+    if s.found {
+        return Record {
+            outcome: Outcome::Least(s.wl, s.count),
+            spots,
+        };
+    }
+    Record {
+        outcome: Outcome::None,
+        spots,
+    }
+}
+
+// The end of the text, where line `line` would begin: `done` must stand before it.
+fn finish(s: State, line: usize) -> RecordRead
+    ensures { λ r. ⌜ ReadOk (recordRead (ending recordKind (recordKind .complete (partOf s)) (partOf s) line)) r ⌝ }
+{
+    let last = s.last;
+    if grammar::rank_of(last) != 10 {
+        return refused(5, line);
+    }
+    RecordRead {
+        answer: RecordAnswer::Accepted,
+        record: record_of(s),
+    }
+}
+
+// The lines of a text that is not too long.
+fn read_lines(text: &[u8]) -> RecordRead
+    requires { ⌜ length (now text) ≤ 16384 ⌝ }
+    ensures { λ r. ⌜ ReadOk (readRecord (now (text .entry))) r ⌝ }
+{
+    let spots = blank_spots();
+    let mut s = State {
+        last: Word::Nothing,
+        found: false,
+        wl: 0,
+        count: 0,
+        spots,
+    };
+    let mut a: usize = 0;
+    let mut line: usize = 1;
+    while a < text.len() {
+        let e = line_end(text, a);
+        let taken = next_line(text, a, e, s, line);
+        let fault = taken.fault;
+        s = taken.state;
+        match fault {
+            Fault::Clear => {
+                a = e + 1;
+                line += 1;
+            }
+            Fault::No(no) => {
+                return refused(no, line);
+            }
+        }
+    }
+    finish(s, line)
+}
+
+// The record that a text means, or number and line of its refusal.
+pub fn read_record(text: &[u8]) -> RecordRead
+    ensures { λ r. ⌜ meantRecord r ≡ readRecord (now (text .entry)) ⌝ }
+    ensures { λ r. ⌜ afterRefusal (r .answer) (r .record) ≡ blankRecord ⌝ }
+{
+    if 16384 < text.len() {
+        return refused(1, 0);
+    }
+    read_lines(text)
+}

@@ -1,0 +1,5 @@
+pub mod Faults
+pub mod SpotsRead
+pub mod LinesRead
+pub mod Printed
+pub mod Answers

@@ -1,0 +1,53 @@
+-- Reading the text of a record: its length, then its lines.
+use mathlib.Core.Path.{_≡_, sym, ap, _∙_}
+use mathlib.Core.List.{List}
+use Prim.Native.Nat.{ℕ, _≤_, _<_}
+use native.Mathlib.Omega.{arith}
+use lib.ListN.{length}
+use borrow.Author.Tests.{lt-leb, le-leb}
+use Rattle.decimal.specs.Held.{Wrote}
+use Rattle.model.specs.declared.Outcome.the-variants as outcome
+use Rattle.model.specs.declared.Record.{Record as HeldRecord}
+use Rattle.model.specs.declared.Tested.{Tested}
+use Rattle.model.specs.declared.Tested.the-variants as tested
+use Rattle.model.specs.Meaning.{Record, none, least, firstOf, blankSpot, recordOf}
+use Rattle.grammar.specs.Words.{isIn}
+use Rattle.grammar.specs.Reading.{accepted, refused, readText}
+use Rattle.grammar.specs.Writing.{testedAs}
+use Rattle.grammar.proofs.FieldsText.{ranges}
+use Rattle.grammar.proofs.Items.{itemStep, runItems, read-text-length}
+use Rattle.record.specs.Kind.{start, recordKind}
+use Rattle.record.specs.Text.{recordItems, readRecord, recordText}
+use Rattle.record.proofs.ItemsRun.{lines-run}
+use Rattle.record.proofs.ReadText.{record-means}
+use Rattle.recordwriter.specs.Parts.{linesRead}
+
+-- ---- the lines
+
+none-read : linesRead none ≡ accepted none
+unfolding linesRead recordItems runItems itemStep isIn ranges
+none-read = rw (lines-run none)
+
+module _ (x : HeldRecord) where
+  pub none-passed : x .outcome ≡ outcome.None → accepted (recordOf x) ≡ linesRead (recordOf x)
+  unfolding recordOf
+  none-passed e = rw (e, none-read)
+
+  pub least-tested : (wl n : ℕ) (t : Tested) → x .outcome ≡ outcome.Least wl n → testedAs (least wl (firstOf blankSpot n (x .spots))) t ≡ linesRead (least wl (firstOf blankSpot n (x .spots))) → testedAs (recordOf x) t ≡ linesRead (recordOf x)
+  unfolding recordOf
+  least-tested wl n t e q = rw e q
+
+-- ---- the length, which writing into any buffer tells
+
+module _ (x : Record) (b a : List ℕ) (n : ℕ) (w : Wrote b a (recordText x) 0 n) where
+  pub too-long : 16384 < n → refused 1 0 ≡ readRecord (recordText x)
+  unfolding readRecord readText
+  too-long h = rw (lt-leb (length (recordText x)) 16384 (omega (arith, w .place)))
+
+  pub not-long : n ≤ 16384 → (t : Tested) → testedAs x t ≡ linesRead x → testedAs x t ≡ readRecord (recordText x)
+  unfolding readRecord readText linesRead
+  not-long h t e = rw (le-leb (length (recordText x)) 16384 (omega (arith, w .place))) e
+
+pub passed-short : (x : Record) (t : Tested) → t ≡ tested.Passed → testedAs x t ≡ readRecord (recordText x) → length (recordText x) ≤ 16384
+unfolding readRecord
+passed-short x t q e = let b = record-means .back (readText recordKind start (recordText x)) x (sym e ∙ ap (testedAs x) q) in read-text-length recordKind start (recordText x) (b .0) (b .1)

@@ -1,0 +1,25 @@
+use Rattle.recordwriter.proofs.Printed.{blank-past}
+use borrow.Author.Needs.{needs}
+use Rattle.recordwriter.proofs.spot_at.Statement.{statement}
+use Rattle.recordwriter.proofs.spot_at.Tie as tie
+use Rattle.recordwriter.proofs.spot_at.Reads as reads
+use Rattle.recordwriter.proofs.spot_at.Lts as lts
+
+-- src/lib.rt:74:16
+mul-result : tie.Need-mul-result
+mul-result c = search needs
+
+-- src/lib.rt:74:16
+array-copy-out-result : tie.Need-array-copy-out-result
+array-copy-out-result c = search needs
+
+-- src/lib.rt:74:9
+returns : tie.Need-returns
+returns c = search needs
+
+-- src/lib.rt:70:1
+returns-2 : tie.Need-returns-2
+returns-2 c = search (needs, blank-past)
+
+pub spot-at-spec : {M : Type 1} → statement M
+spot-at-spec = tie.close (tie.spec mul-result array-copy-out-result returns returns-2)
