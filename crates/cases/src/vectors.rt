@@ -185,7 +185,7 @@ fn answer_chip(text: &[u8]) {
     match answer {
         ChipAnswer::Refused(f) => print_refusal(f),
         ChipAnswer::Accepted => {
-            let mut out = [0u8; 4096];
+            let mut out = io::buffer();
             let written = chipwriter::write_chip(chip, &mut out);
             print_written(written, &out, text);
         }
@@ -199,7 +199,7 @@ fn answer_record(text: &[u8]) {
     match answer {
         RecordAnswer::Refused(f) => print_refusal(f),
         RecordAnswer::Accepted => {
-            let mut out = [0u8; 4096];
+            let mut out = io::buffer();
             let written = recordwriter::write_record(record, &mut out);
             print_written(written, &out, text);
         }
@@ -208,16 +208,16 @@ fn answer_record(text: &[u8]) {
 
 // n, or the size of the buffer that texts are unfolded into.
 fn at_most(n: usize) -> usize
-    ensures { λ r. ⌜ r ≤ 20000 ⌝ }
+    ensures { λ r. ⌜ r ≤ 65536 ⌝ }
 {
-    if n < 20000 { n } else { 20000 }
+    if n < 65536 { n } else { 65536 }
 }
 
 // One vector: the line s.
 fn answer(s: &[u8]) {
     let tab = index_of(s, 0, 9);
     let start = after(s, tab);
-    let mut text = [0u8; 20000];
+    let mut text = io::large_buffer();
     let n = at_most(unfold(&s[start..], &mut text));
     if tab == 4 {
         answer_chip(&text[..n]);

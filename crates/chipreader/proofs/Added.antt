@@ -1,6 +1,6 @@
 -- What a line adds: the die, a fix, a macro, a net.
 use mathlib.Core.Path.{_≡_, refl, sym, ap, _∙_}
-use mathlib.Core.Bool.{Bool, true, false, not, _||_}
+use mathlib.Core.Bool.{Bool, true, false, not, _||_, false≢true}
 use mathlib.Core.List.{List, [], _∷_, _++_}
 use Prim.Native.Nat.{ℕ, _+_, _≤_, _<_}
 use native.Mathlib.Omega.{arith}
@@ -18,16 +18,14 @@ use Rattle.model.proofs.FirstOf.{first-take, first-set}
 use Rattle.model.proofs.Nets.{taken, taken-snoc, nets-snoc}
 use Rattle.grammar.specs.Words.{isWord}
 use Rattle.grammar.specs.Reading.{Step, fault, check}
+use Rattle.grammar.specs.Steps.{Entered}
 use Rattle.line.specs.Held.{valuesOf}
-use Rattle.chip.specs.Kind.{Part, add, after, fixInDie, clearOf, withDie, withFix, withMac, withNet}
+use Rattle.chip.specs.Kind.{Part, chipKind, add, after, fixInDie, clearOf, withDie, withFix, withMac, withNet}
 use Rattle.chipreader.specs.declared.State.{State}
 use Rattle.chipreader.specs.declared.Taken.{Taken}
-use Rattle.chipreader.specs.State.{Holds, Sound, Entered, partOf, withFault, withChip, TakenOk}
+use Rattle.chipreader.specs.State.{Holds, Sound, partOf, withFault, withChip, TakenOk}
 use Rattle.chipreader.proofs.Values.{heldDie, heldFix, heldMac, die-values, fix-values, mac-values, net-values}
 use Rattle.chipreader.proofs.Entry.{fix-fits, mac-fits, net-fits}
-
-pub never : {A : Type 0} → false ≡ true → A
-never e = absurd (let z : _≡_ {A = ℕ} 0 1 = cc in omega arith)
 
 module _ {A : Type 0} {most n : ℕ} {items : List A} (h : Holds most n items) where
   pub holds-more : (a : A) → n < most → Holds most (n + 1) (set items n a)
@@ -45,7 +43,7 @@ module _ {A : Type 0} {most n : ℕ} {items : List A} (h : Holds most n items) w
 -- a line of a word that opens no net keeps the nets
 module _ (s : State) (sound : Sound s) (w : Word) (e : (isWord w word.Net || isWord w word.Pin) ≡ false) (d : Die) where
   pub kept-sound : {k n : ℕ} {fs : List Fix} {ms : List Mac} → Holds 8 k fs → Holds 8 n ms → Sound (record { last = w; pins = s .pins; chip = record { die = d; k = k; fixes = fs; n = n; macs = ms; t = s .chip .t; nets = s .chip .nets; pins = s .chip .pins } })
-  kept-sound f m = record { fixes = f; macs = m; nets = sound .nets; pins = sound .pins; counted = sound .counted; opened = λ o. never (sym e ∙ o) }
+  kept-sound f m = record { fixes = f; macs = m; nets = sound .nets; pins = sound .pins; counted = sound .counted; opened = λ o. absurd (false≢true (sym e ∙ o)) }
 
 -- ---- the chip with one thing more
 
@@ -72,7 +70,7 @@ module _ (s : State) (v : List ℕ) (four : length v ≡ 4) (sound : Sound s) (r
         sound = kept-sound s sound word.Die refl (heldDie v) (sound .fixes) (sound .macs);
       })
 
-  pub mac-added : Entered s word.Mac → r ≡ withChip s word.Mac (holdMac (s .chip) (heldMac v)) → TakenOk r (add (partOf s) word.Mac (valuesOf word.Mac v))
+  pub mac-added : Entered chipKind (partOf s) word.Mac → r ≡ withChip s word.Mac (holdMac (s .chip) (heldMac v)) → TakenOk r (add (partOf s) word.Mac (valuesOf word.Mac v))
   unfolding chipOf
   mac-added p e =
       rw e
@@ -84,7 +82,7 @@ module _ (s : State) (v : List ℕ) (four : length v ≡ 4) (sound : Sound s) (r
       l : s .chip .n < 8
       l = mac-fits s sound p
 
-  pub net-added : Entered s word.Net → r ≡ withChip s word.Net (holdNet (s .chip) (getD v 0 0)) → TakenOk r (add (partOf s) word.Net (valuesOf word.Net v))
+  pub net-added : Entered chipKind (partOf s) word.Net → r ≡ withChip s word.Net (holdNet (s .chip) (getD v 0 0)) → TakenOk r (add (partOf s) word.Net (valuesOf word.Net v))
   unfolding chipOf pinsOf firstOf
   net-added p e =
       rw e
@@ -124,7 +122,7 @@ module _ (s : State) (v : List ℕ) (four : length v ≡ 4) (sound : Sound s) (r
       pub fix-overlaps : not clear ≡ true → r ≡ withFault s 10 → TakenOk r (add (partOf s) word.Fix (valuesOf word.Fix v))
       fix-overlaps h e = rw e (record { meant = step-fix (fault 10) (rw (← i, not-false inside stays, ← tested, not-true clear h)); sound = sound })
 
-      pub fix-added : not clear ≡ false → Entered s word.Fix → r ≡ withChip s word.Fix (holdFix (s .chip) (heldFix v)) → TakenOk r (add (partOf s) word.Fix (valuesOf word.Fix v))
+      pub fix-added : not clear ≡ false → Entered chipKind (partOf s) word.Fix → r ≡ withChip s word.Fix (holdFix (s .chip) (heldFix v)) → TakenOk r (add (partOf s) word.Fix (valuesOf word.Fix v))
       unfolding chipOf
       fix-added h p e =
           rw e

@@ -1,5 +1,5 @@
 -- What a line adds, by its word.
-use mathlib.Core.Path.{_≡_, refl, subst}
+use mathlib.Core.Path.{_≡_, refl}
 use mathlib.Core.List.{List}
 use Prim.Native.Nat.{ℕ}
 use Rattle.model.specs.declared.Word.{Word}
@@ -9,19 +9,15 @@ use Rattle.line.specs.Held.{valuesOf}
 use Rattle.chip.specs.Kind.{add}
 use Rattle.chipreader.specs.declared.State.{State}
 use Rattle.chipreader.specs.declared.Taken.{Taken}
-use Rattle.chipreader.specs.State.{Sound, Entered, partOf, withFault, withChip, TakenOk}
+use Rattle.chipreader.specs.State.{Sound, partOf, withFault, withChip, TakenOk}
 use Rattle.chipreader.proofs.Added.{kept-sound}
 
-module _ (s : State) (w x : Word) (e : w ≡ x) where
-  pub entered-as : Entered s w → Entered s x
-  entered-as p = subst (λ (y : Word). Entered s y) e p
+module _ (s : State) (w x : Word) (e : w ≡ x) (v : List ℕ) (r : Taken) where
+  pub taken-as : TakenOk r (add (partOf s) x (valuesOf x v)) → TakenOk r (add (partOf s) w (valuesOf w v))
+  taken-as t = rw e t
 
-  module _ (v : List ℕ) (r : Taken) where
-    pub taken-as : TakenOk r (add (partOf s) x (valuesOf x v)) → TakenOk r (add (partOf s) w (valuesOf w v))
-    taken-as t = rw e t
-
-    pub not-taken : Sound s → r ≡ withFault s 2 → fault 2 ≡ add (partOf s) x (valuesOf x v) → TakenOk r (add (partOf s) w (valuesOf w v))
-    not-taken sound q f = rw (e, q) (record { meant = f; sound = sound })
+  pub not-taken : Sound s → r ≡ withFault s 2 → fault 2 ≡ add (partOf s) x (valuesOf x v) → TakenOk r (add (partOf s) w (valuesOf w v))
+  not-taken sound q f = rw (e, q) (record { meant = f; sound = sound })
 
 pub end-taken : (s : State) (w : Word) (v : List ℕ) (r : Taken) → Sound s → w ≡ word.End → r ≡ withChip s word.End (s .chip) → TakenOk r (add (partOf s) w (valuesOf w v))
 end-taken s w v r sound e q = rw (e, q) (record { meant = refl; sound = kept-sound s sound word.End refl (s .chip .die) (sound .fixes) (sound .macs) })

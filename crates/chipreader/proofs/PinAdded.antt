@@ -17,12 +17,13 @@ use Rattle.model.specs.Meaning.{Pin, Net, chipOf, firstOf, netsOf, pinOf, pinsO
 use Rattle.model.proofs.FirstOf.{first-suc, first-set}
 use Rattle.model.proofs.Nets.{taken, taken-snoc, nets-snoc, nets-kept, pins-append}
 use Rattle.grammar.specs.Reading.{Step, fault, check}
+use Rattle.grammar.specs.Steps.{Entered}
 use Rattle.line.specs.Held.{valuesOf}
-use Rattle.chip.specs.Kind.{Part, add, addPin, after, withPin}
+use Rattle.chip.specs.Kind.{Part, chipKind, add, addPin, after, withPin}
 use Rattle.chipreader.specs.declared.State.{State}
 use Rattle.chipreader.specs.declared.Fault.the-variants as held
 use Rattle.chipreader.specs.declared.Taken.{Taken}
-use Rattle.chipreader.specs.State.{Sound, Entered, partOf, withFault, TakenOk}
+use Rattle.chipreader.specs.State.{Sound, partOf, withFault, TakenOk}
 use Rattle.chipreader.proofs.Values.{heldPin, pin-values}
 use Rattle.chipreader.proofs.Room.{mac-count}
 use Rattle.chipreader.proofs.Entry.{pin-fits, net-open}
@@ -54,7 +55,7 @@ nets-pin ts u ps p h =
 
 -- ---- the last net
 
-module _ (s : State) (sound : Sound s) (entered : Entered s word.Pin) where
+module _ (s : State) (sound : Sound s) (entered : Entered chipKind (partOf s) word.Pin) where
   abbrev place : ℕ
   place = s .chip .t - 1
 

@@ -1,19 +1,18 @@
 -- What the reader holds while it reads, and what that means.
-use Prim.Native.Nat.{ℕ, _+_, _-_, _≤_}
+use Prim.Native.Nat.{ℕ, _≤_}
 use mathlib.Core.Path.{_≡_}
 use mathlib.Core.List.{List, [], _∷_}
-use mathlib.Core.Bool.{Bool, true, false, not, _&&_, _||_}
-use lib.ListN.{length, getD, take, drop}
-use lib.Dec.{leb, ltb}
+use mathlib.Core.Bool.{Bool, true, _&&_, _||_}
+use lib.ListN.{length, getD}
+use lib.Dec.{leb}
 use Rattle.model.specs.declared.Word.{Word}
 use Rattle.model.specs.declared.Word.the-variants as word
 use Rattle.model.specs.declared.Chip.{Chip}
 use Rattle.model.specs.Meaning.{chipOf, firstOf, blankNet}
 use Rattle.model.proofs.Nets.{taken}
-use Rattle.grammar.specs.Line.{Line, lineFeed, upTo}
 use Rattle.grammar.specs.Words.{isWord}
 use Rattle.grammar.specs.Reading.{Step, next, fault as faulty}
-use Rattle.chip.specs.Kind.{Part, chipKind}
+use Rattle.chip.specs.Kind.{Part}
 use Rattle.chipreader.specs.declared.State.{State}
 use Rattle.chipreader.specs.declared.Fault.{Fault}
 use Rattle.chipreader.specs.declared.Fault.the-variants as fault
@@ -46,22 +45,6 @@ mostLast = 0 ∷ 0 ∷ 2 ∷ 3 ∷ 5 ∷ 5 ∷ 5 ∷ 0 ∷ 0 ∷ 0 ∷ 0 ∷ []
 abbrev pub mayFollow : ℕ → ℕ → Bool
 mayFollow a b = leb (getD leastLast b 0) a && leb a (getD mostLast b 0)
 
--- the first fault before the fields of a line, or 0
-abbrev pub orFault : Bool → ℕ → ℕ → ℕ
-orFault true n more = more
-orFault false n more = n
-
-unfoldable pub entryFault : Part → Word → ℕ
-entryFault s w =
-    orFault (not (isWord w word.Nothing)) 2
-    (orFault (chipKind .inPlace s w) 5
-    (orFault (chipKind .hasRoom s w) 6
-    (orFault (chipKind .hasPin s w) 7 0)))
-
--- w passes the tests before the fields
-pub record Entered (s : State) (w : Word) : Type 0 where
-  pub clear : entryFault (partOf s) w ≡ 0
-
 abbrev pub stepOf : Fault → State → Step Part
 stepOf fault.Clear s = next (partOf s)
 stepOf (fault.No n) s = faulty n
@@ -76,12 +59,3 @@ withChip s w c = record { fault = fault.Clear; state = record { last = w; pins =
 pub record TakenOk (t : Taken) (step : Step Part) : Type 0 where
   pub meant : stepOf (t .fault) (t .state) ≡ step
   pub sound : Sound (t .state)
-
--- e is the place of the first LF from a on, or the end of the text
-pub record LineEnd (text : List ℕ) (a e : ℕ) : Type 0 where
-  pub place : e ≡ a + length (upTo lineFeed (drop a text))
-  pub within : e ≤ length text
-
--- the line that begins at a and ends at e
-abbrev pub lineAt : List ℕ → ℕ → ℕ → Line
-lineAt text a e = record { bytes = take (e - a) (drop a text); ended = ltb e (length text) }

@@ -15,10 +15,11 @@ ghost use lib.ListN.{length};
 ghost use Rattle.grammar.specs.Words.{rules};
 ghost use Rattle.grammar.specs.Line.{fields};
 ghost use Rattle.grammar.specs.Reading.{stepBytes, stepFields, stepLine, ending};
+ghost use Rattle.grammar.specs.Steps.{entryFault, Entered, LineEnd, lineAt};
 ghost use Rattle.line.specs.Held.{valuesOf};
 ghost use Rattle.chip.specs.Kind.{room, add, chipKind};
 ghost use Rattle.chip.specs.Text.{chipRead, readChip};
-ghost use Rattle.chipreader.specs.State.{Sound, partOf, mayFollow, entryFault, Entered, withFault, withChip, TakenOk, LineEnd, lineAt};
+ghost use Rattle.chipreader.specs.State.{Sound, partOf, mayFollow, withFault, withChip, TakenOk};
 ghost use Rattle.chipreader.specs.Answer.{blankChip, refusedAt, meantChip, afterRefusal, ReadOk};
 
 // What reading a chip answers.
@@ -113,7 +114,7 @@ fn has_room(s: State, w: Word) -> bool
 // The first fault before the fields: word 2, place 5, count 6, net without a pin 7; or 0.
 fn entry_fault(s: State, w: Word) -> usize
     requires { ⌜ Sound s ⌝ }
-    ensures { λ r. ⌜ r ≡ entryFault (partOf s) w ⌝ }
+    ensures { λ r. ⌜ r ≡ entryFault chipKind (partOf s) w ⌝ }
 {
     let last = s.last;
     let a = grammar::rank_of(last);
@@ -173,7 +174,7 @@ fn add_die(s: State, v: [u64; 4]) -> Taken
 // A fix: fix leaves the die 9; fix overlaps an earlier fix 10.
 fn add_fix(s: State, v: [u64; 4]) -> Taken
     requires { ⌜ Sound s ⌝ }
-    requires { ⌜ Entered s Word.Fix ⌝ }
+    requires { ⌜ Entered chipKind (partOf s) Word.Fix ⌝ }
     ensures { λ r. ⌜ TakenOk r (add (partOf s) Word.Fix (valuesOf Word.Fix v)) ⌝ }
 {
     let f = Fix {
@@ -199,7 +200,7 @@ fn add_fix(s: State, v: [u64; 4]) -> Taken
 // A macro.
 fn add_mac(s: State, v: [u64; 4]) -> Taken
     requires { ⌜ Sound s ⌝ }
-    requires { ⌜ Entered s Word.Mac ⌝ }
+    requires { ⌜ Entered chipKind (partOf s) Word.Mac ⌝ }
     ensures { λ r. ⌜ TakenOk r (add (partOf s) Word.Mac (valuesOf Word.Mac v)) ⌝ }
 {
     let mut chip = s.chip;
@@ -212,7 +213,7 @@ fn add_mac(s: State, v: [u64; 4]) -> Taken
 // A net that has no pin yet.
 fn add_net(s: State, v: [u64; 4]) -> Taken
     requires { ⌜ Sound s ⌝ }
-    requires { ⌜ Entered s Word.Net ⌝ }
+    requires { ⌜ Entered chipKind (partOf s) Word.Net ⌝ }
     ensures { λ r. ⌜ TakenOk r (add (partOf s) Word.Net (valuesOf Word.Net v)) ⌝ }
 {
     let mut chip = s.chip;
@@ -228,7 +229,7 @@ fn add_net(s: State, v: [u64; 4]) -> Taken
 // A pin of the last net: no such macro 8.
 fn add_pin(s: State, v: [u64; 4]) -> Taken
     requires { ⌜ Sound s ⌝ }
-    requires { ⌜ Entered s Word.Pin ⌝ }
+    requires { ⌜ Entered chipKind (partOf s) Word.Pin ⌝ }
     ensures { λ r. ⌜ TakenOk r (add (partOf s) Word.Pin (valuesOf Word.Pin v)) ⌝ }
 {
     let m = v[0] as usize;
@@ -261,7 +262,7 @@ fn add_pin(s: State, v: [u64; 4]) -> Taken
 // What a line whose fields are read adds.
 fn add_item(s: State, w: Word, v: [u64; 4]) -> Taken
     requires { ⌜ Sound s ⌝ }
-    requires { ⌜ Entered s w ⌝ }
+    requires { ⌜ Entered chipKind (partOf s) w ⌝ }
     ensures { λ r. ⌜ TakenOk r (add (partOf s) w (valuesOf w v)) ⌝ }
 {
     match w {
@@ -282,7 +283,7 @@ fn add_item(s: State, w: Word, v: [u64; 4]) -> Taken
 // What a line leads to whose word passes, by the bytes after the word.
 fn take_fields(rest: &[u8], s: State, w: Word, line: usize) -> Taken
     requires { ⌜ Sound s ⌝ }
-    requires { ⌜ Entered s w ⌝ }
+    requires { ⌜ Entered chipKind (partOf s) w ⌝ }
     ensures { λ r. ⌜ TakenOk r (stepFields chipKind (partOf s) w (fields (rules w) (now (rest .entry)))) ⌝ }
 {
     let fields = line::read_fields(rest, w, line);

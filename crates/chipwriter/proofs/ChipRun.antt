@@ -40,7 +40,7 @@ module _ (n : ℕ) (ts : List HeldNet) (ps : List HeldPin) (nt : length ts ≡ 3
   pins-run q j line s h p count =
       let l : length (drop q ps) ≡ 128 - q = length-drop q ps ∙ ap (λ (k : ℕ). k - q) np in
       rw pin-items (line-is s _ _ (omega arith)
-      (run-many (λ x. pinItem (pinOf x)) blankPin (drop q ps) (Pins n q j) (λ i. pinFault ps n (q + i)) line (λ i t o. (let f = o .few .1 in omega arith)) (pin-steps n ts ps q j) (rw (le-ltb (q + length (drop q ps)) 128 (omega arith))) count 0 count s (omega arith) p))
+      (run-many (λ x. pinItem (pinOf x)) blankPin (drop q ps) (Pins n q j) (λ i. pinFault ps n (q + i)) line (λ i t o. (let f = o .few .1 in omega arith)) (pin-steps n ps q j) (rw (le-ltb (q + length (drop q ps)) 128 (omega arith))) count 0 count s (omega arith) p))
 
   pins-length : (q count : ℕ) → q + count ≤ 128 → length (map pinItem (pinsOf (firstOf blankPin count (drop q ps)))) ≡ count
   pins-length q count h = length-map (pinsOf (firstOf blankPin count (drop q ps))) pinItem ∙ (length-pins (firstOf blankPin count (drop q ps)) ∙ length-first blankPin count (drop q ps) (rw length-drop (omega arith)))
@@ -48,7 +48,7 @@ module _ (n : ℕ) (ts : List HeldNet) (ps : List HeldPin) (nt : length ts ≡ 3
   -- the nets from net j on with their pins from pin q on, and the end
   nets-run : (first t q j : ℕ) (s : Part) → Nets n ts q j s → Run Ended s (first + j + q) (netItems (netsOf (firstOf blankNet t (drop j ts)) (drop q ps)) ++ (endItem ∷ [])) (netsTested ts ps n first q j t)
   unfolding netsTested netItems netsOf firstOf pinsOf
-  nets-run first zero q j s p = run-item s (first + j + q) endItem [] _ tested.Passed (end-steps n ts ps q j s p) (λ t e. run-none t _ e)
+  nets-run first zero q j s p = run-item s (first + j + q) endItem [] _ tested.Passed (end-steps n ts q j s p) (λ t e. run-none t _ e)
   nets-run first (suc t) q j s p = by (decLt j (length ts)) (nets-run first t (q + getD ts j blankNet .pins) (suc j))
     where
       by : Dec (j < length ts) → ((u : Part) → Nets n ts (q + getD ts j blankNet .pins) (suc j) u → Run Ended u (first + suc j + (q + getD ts j blankNet .pins)) (netItems (netsOf (firstOf blankNet t (drop (suc j) ts)) (drop (q + getD ts j blankNet .pins) ps)) ++ (endItem ∷ [])) (netsTested ts ps n first (q + getD ts j blankNet .pins) (suc j) t))
@@ -58,13 +58,13 @@ module _ (n : ℕ) (ts : List HeldNet) (ps : List HeldPin) (nt : length ts ≡ 3
           let is : List Item = map pinItem (pinsOf (firstOf blankPin k (drop q ps))) in
           rw (drop-cons ts j blankNet l, drop-drop k q ps, append-assoc is _ (endItem ∷ []))
           (run-then s (first + j + q) (weightItem (getD ts j blankNet) ∷ is) _ _ _
-          (run-item s (first + j + q) (weightItem (getD ts j blankNet)) is (netFault ts j) _ (net-steps n ts ps q j s p) (λ u o. line-is u is _ (omega arith) (pins-run q j (first + j + q + 1) u (p .few .1) o k)))
-          (λ u o. (let m : length is ≡ k = pins-length q k (o .few .1) in line-is u _ _ (omega arith) (ih u (net-next n ts ps q j u o)))))
+          (run-item s (first + j + q) (weightItem (getD ts j blankNet)) is (netFault ts j) _ (net-steps n ts q j s p) (λ u o. line-is u is _ (omega arith) (pins-run q j (first + j + q + 1) u (p .few .1) o k)))
+          (λ u o. (let m : length is ≡ k = pins-length q k (o .few .1) in line-is u _ _ (omega arith) (ih u (net-next n ts q j u o)))))
       by (no l) ih =
           let h : j ≤ 32 = p .few .0 in
           let z : 32 ≤ j = omega arith in
           rw (drop-of-length-le ts {i = j} (omega arith), le-ltb j 32 z)
-          (too-many s (first + j + q) (weightItem blankNet) (endItem ∷ []) 6 tested.Passed refl (rw (List·getD-eq-default ts blankNet {n = j} (omega arith), le-ltb j 32 z) at (net-steps n ts ps q j s p)))
+          (too-many s (first + j + q) (weightItem blankNet) (endItem ∷ []) 6 tested.Passed refl (rw (List·getD-eq-default ts blankNet {n = j} (omega arith), le-ltb j 32 z) at (net-steps n ts q j s p)))
 
 module _ (c : HeldChip) (r : Tested) (a : ItemsAnswer c r) where
   items-run : Run Ended start 1 (chipItems (chipOf c)) r

@@ -1,15 +1,14 @@
 -- What has been read before each item of a chip, and the step at each kind of item.
 use mathlib.Core.Path.{_≡_, refl, sym, ap, _∙_}
-use mathlib.Core.Bool.{Bool, true, false, not, _||_, or-true, or-false}
+use mathlib.Core.Bool.{Bool, true, false, not, or-true, or-false}
 use mathlib.Core.List.{List, [], _∷_, _++_}
 use Prim.{tt}
-use Prim.Native.Nat.{ℕ, zero, suc, _+_, _-_, _≤_, _<_}
+use Prim.Native.Nat.{ℕ, suc, _+_, _≤_, _<_}
 use native.Mathlib.Omega.{arith}
 use lib.Dec.{leb, ltb, eqb}
-use lib.IntN.{ℤ}
 use lib.ListN.{length, getD, take, drop, length-append, length-take}
 use lib.Seq.{take-suc, getD-drop}
-use borrow.Author.Tests.{ltb-true, lt-ltb, eq-eqb, ne-eqb}
+use borrow.Author.Tests.{ltb-true, ne-eqb}
 use Rattle.model.specs.declared.Die.{Die}
 use Rattle.model.specs.declared.Fix.{Fix}
 use Rattle.model.specs.declared.Mac.{Mac}
@@ -21,10 +20,10 @@ use Rattle.model.specs.Meaning.{Pin, Net, blankFix, blankMac, blankNet, blankPi
 use Rattle.grammar.specs.Words.{isWord, isIn}
 use Rattle.grammar.proofs.Every.{Every}
 use Rattle.grammar.proofs.Items.{itemStep}
-use Rattle.chip.specs.Kind.{Part, start, followers, pinCount, pinned, fixInDie, clearOf, addPin, chipKind}
-use Rattle.chip.specs.Text.{dieItem, fixItem, macItem, netItem, pinItem, endItem}
+use Rattle.chip.specs.Kind.{Part, start, followers, pinCount, fixInDie, clearOf, addPin, chipKind}
+use Rattle.chip.specs.Text.{dieItem, fixItem, macItem, pinItem, endItem}
 use Rattle.chipwriter.specs.Tests.{dieFault, fixFault, macFault, bareBefore, weightItem, netFault, pinFault, need}
-use Rattle.chipwriter.proofs.Steps.{Steps, goes, stops, steps-check, item-steps}
+use Rattle.chipwriter.proofs.Steps.{Steps, goes, steps-check, item-steps}
 
 -- the words ws may be next
 abbrev Open : Part → List Word → Type 0
@@ -120,7 +119,7 @@ pins-pin p [] h = absurd (omega arith)
 pins-pin p (t ∷ []) h = rw length-append (omega arith)
 pins-pin p (t ∷ (u ∷ ts)) h = let q = pins-pin p (u ∷ ts) (omega arith) in omega arith
 
-module _ (n : ℕ) (ts : List HeldNet) (ps : List HeldPin) where
+module _ (n : ℕ) (ts : List HeldNet) where
   pub net-steps : (q j : ℕ) (s : Part) → Nets n ts q j s → Steps (Pins n q j 0) (itemStep chipKind s (weightItem (getD ts j blankNet))) (netFault ts j)
   unfolding isIn
   net-steps q j s p =
@@ -130,22 +129,22 @@ module _ (n : ℕ) (ts : List HeldNet) (ps : List HeldPin) where
       let h : q ≤ 128 = p .few .1 in
       goes _ refl (record { places = (refl, (refl, (refl, tt))); last = refl; macs = p .macs; nets = rw (length-append, p .nets) (omega arith); pins = rw (pins-net, p .pins) (omega arith); few = (g, omega arith) }))
 
-  pub pin-steps : (q j i : ℕ) (s : Part) → Pins n q j i s → Steps (Pins n q j (suc i)) (itemStep chipKind s (pinItem (pinOf (getD (drop q ps) i blankPin)))) (pinFault ps n (q + i))
-  unfolding isIn
-  pin-steps q j i s p =
-      let x : HeldPin = getD ps (q + i) blankPin in
-      rw (getD-drop q ps i blankPin)
-      (item-steps s (pinItem (pinOf x)) refl (p .places .1 .0) refl (ltb (q + i) 128) true _ (rw (p .pins)) (rw or-true)
-      (λ r. rw (p .macs) (steps-check (leb (x .m) n) 7 0 _ (λ a.
-      let g : q + i < 128 = ltb-true (q + i) 128 r in
-      let c = p .pins in
-      let l = p .nets in
-      let k = pins-pin (pinOf x) (s .chip .nets) (omega arith) in
-      goes _ refl (record { places = (refl, (refl, (refl, tt))); last = sym (ne-eqb (suc i) 0 (λ e. omega arith)); macs = p .macs; nets = nets-pin _ _ ∙ l; pins = omega arith; few = (p .few .0, omega arith) })))))
-
   pub end-steps : (q j : ℕ) (s : Part) → Nets n ts q j s → Steps Ended (itemStep chipKind s endItem) (need (not (bareBefore ts j)) 7 0)
   end-steps q j s p = item-steps s endItem refl (p .places .1 .0) refl true (not (bareBefore ts j)) 0 refl (rw (p .last, or-false)) (λ r. goes _ refl (record { last = refl }))
 
   -- the next net follows the pins of net j
   pub net-next : (q j : ℕ) (s : Part) → Pins n q j (getD ts j blankNet .pins) s → Nets n ts (q + getD ts j blankNet .pins) (suc j) s
   net-next q j s p = record { places = (p .places .0, p .places .1 .1); last = p .last; macs = p .macs; nets = p .nets; pins = p .pins; few = p .few }
+
+pub pin-steps : (n : ℕ) (ps : List HeldPin) (q j i : ℕ) (s : Part) → Pins n q j i s → Steps (Pins n q j (suc i)) (itemStep chipKind s (pinItem (pinOf (getD (drop q ps) i blankPin)))) (pinFault ps n (q + i))
+unfolding isIn
+pin-steps n ps q j i s p =
+    let x : HeldPin = getD ps (q + i) blankPin in
+    rw (getD-drop q ps i blankPin)
+    (item-steps s (pinItem (pinOf x)) refl (p .places .1 .0) refl (ltb (q + i) 128) true _ (rw (p .pins)) (rw or-true)
+    (λ r. rw (p .macs) (steps-check (leb (x .m) n) 7 0 _ (λ a.
+    let g : q + i < 128 = ltb-true (q + i) 128 r in
+    let c = p .pins in
+    let l = p .nets in
+    let k = pins-pin (pinOf x) (s .chip .nets) (omega arith) in
+    goes _ refl (record { places = (refl, (refl, (refl, tt))); last = sym (ne-eqb (suc i) 0 (λ e. omega arith)); macs = p .macs; nets = nets-pin _ _ ∙ l; pins = omega arith; few = (p .few .0, omega arith) })))))

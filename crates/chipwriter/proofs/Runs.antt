@@ -1,5 +1,5 @@
 -- Runs of items by the first refusal of their tests: one item, lists one after the other, and the items that a count stands for.
-use mathlib.Core.Path.{_≡_, refl, sym, ap, subst, _∙_}
+use mathlib.Core.Path.{_≡_, ap, subst, _∙_}
 use mathlib.Core.List.{List, [], _∷_, _++_, map, append-assoc}
 use Prim.Native.Nat.{ℕ, zero, suc, _+_, _≤_, _<_}
 use native.Mathlib.Decide.{decLt}
@@ -11,7 +11,7 @@ use Rattle.model.specs.declared.Tested.{Tested}
 use Rattle.model.specs.declared.Tested.the-variants as tested
 use Rattle.model.specs.Meaning.{firstOf}
 use Rattle.grammar.specs.Words.{Item}
-use Rattle.grammar.specs.Reading.{Step, next, refused}
+use Rattle.grammar.specs.Reading.{next, refused}
 use Rattle.grammar.proofs.Items.{itemStep, runItems}
 use Rattle.chip.specs.Kind.{Part, chipKind}
 use Rattle.chipwriter.specs.Tests.{onFault, thenTested, tests}

@@ -268,6 +268,7 @@ fn test_parts(
     test_nets(nets, t, pins, n, k + 2 + n)
 }
 
+// The same, of the chip as one value.
 fn test_items(c: Chip) -> Tested
     ensures { λ r. ⌜ ItemsAnswer c r ⌝ }
 {

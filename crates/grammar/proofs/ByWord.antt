@@ -1,32 +1,42 @@
 -- Words one by one, and by ranges of their ranks.
-use mathlib.Core.Path.{_≡_}
-use mathlib.Core.Bool.{false, _&&_}
+use mathlib.Core.Path.{_≡_, refl, sym, ap, _∙_}
+use mathlib.Core.Bool.{true, false, _&&_}
+use mathlib.Core.List.{List, [], _∷_}
 use Prim.Native.Nat.{ℕ, _≤_, _<_}
-use native.Mathlib.Omega.{arith}
-use lib.Dec.{leb}
-use borrow.Author.Tests.{le-leb, lt-leb}
+use lib.Dec.{leb, ltb}
+use lib.ListN.{getD}
+use borrow.Author.Tests.{le-leb, lt-leb, ltb-true}
 use Rattle.model.specs.declared.Word.{Word}
 use Rattle.model.specs.declared.Word.the-variants as word
 use Rattle.grammar.specs.Words.{rank}
 
-module _ (P : Word → Type 0) (p₀ : P word.Nothing) (p₁ : P word.Die) (p₂ : P word.Fix) (p₃ : P word.Mac) (p₄ : P word.Net) (p₅ : P word.Pin) (p₆ : P word.End) (p₇ : P word.Least) (p₈ : P word.None) (p₉ : P word.At) (p₁₀ : P word.Done) where
-  pub by-word : (w : Word) → P w
-  by-word word.Nothing = p₀
-  by-word word.Die = p₁
-  by-word word.Fix = p₂
-  by-word word.Mac = p₃
-  by-word word.Net = p₄
-  by-word word.Pin = p₅
-  by-word word.End = p₆
-  by-word word.Least = p₇
-  by-word word.None = p₈
-  by-word word.At = p₉
-  by-word word.Done = p₁₀
+-- what h says of each word, by rank
+abbrev pub ofAll : {A : Type 0} → (Word → A) → List A
+ofAll h = h word.Nothing ∷ h word.Die ∷ h word.Fix ∷ h word.Mac ∷ h word.Net ∷ h word.Pin ∷ h word.End ∷ h word.Least ∷ h word.None ∷ h word.At ∷ h word.Done ∷ []
+
+module _ {A : Type 0} where
+  at-rank : (z : A) (h : Word → A) (w : Word) → getD (ofAll h) (rank w) z ≡ h w
+  at-rank z h word.Nothing = refl
+  at-rank z h word.Die = refl
+  at-rank z h word.Fix = refl
+  at-rank z h word.Mac = refl
+  at-rank z h word.Net = refl
+  at-rank z h word.Pin = refl
+  at-rank z h word.End = refl
+  at-rank z h word.Least = refl
+  at-rank z h word.None = refl
+  at-rank z h word.At = refl
+  at-rank z h word.Done = refl
+
+  -- f and g agree where their lists do
+  pub alike : (f g : Word → A) → ofAll f ≡ ofAll g → (w : Word) → f w ≡ g w
+  alike f g e w = sym (at-rank (f word.Nothing) f w) ∙ (ap (λ (t : List A). getD t (rank w) (f word.Nothing)) e ∙ at-rank (f word.Nothing) g w)
+
+pub both-alike : {A : Type 0} (f g : Word → Word → A) → ofAll (λ w. ofAll (f w)) ≡ ofAll (λ w. ofAll (g w)) → (w v : Word) → f w v ≡ g w v
+both-alike f g e w = alike (f w) (g w) (alike (λ u. ofAll (f u)) (λ u. ofAll (g u)) e w)
 
 pub rank-below : (w : Word) → rank w < 11
-rank-below =
-    by-word (λ w. rank w < 11)
-    (omega arith) (omega arith) (omega arith) (omega arith) (omega arith) (omega arith) (omega arith) (omega arith) (omega arith) (omega arith) (omega arith)
+rank-below w = ltb-true (rank w) 11 (alike (λ u. ltb (rank u) 11) (λ u. true) refl w)
 
 -- n against the range from lo to hi
 module _ (lo n hi : ℕ) where

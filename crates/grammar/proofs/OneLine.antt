@@ -1,5 +1,5 @@
 -- The step of one line: its word, the tests before the fields, and the fields.
-use mathlib.Core.Path.{_≡_, refl, sym, ap, _∙_}
+use mathlib.Core.Path.{_≡_, sym, ap, _∙_}
 use mathlib.Core.List.{List}
 use Prim.Native.Nat.{ℕ, _-_, _≤_}
 use native.Mathlib.Omega.{arith}
@@ -9,7 +9,7 @@ use lib.Seq.{take-all}
 use Rattle.model.specs.declared.Word.{Word}
 use Rattle.grammar.specs.Line.{comma, upTo, from, Fields, got, faulty, fields}
 use Rattle.grammar.specs.Words.{wordIn, rules}
-use Rattle.grammar.specs.Reading.{Kind, Step, fault, Reading, accepted, refused, stepFields, stepBytes}
+use Rattle.grammar.specs.Reading.{Kind, fault, Reading, accepted, refused, stepFields, stepBytes}
 use Rattle.grammar.specs.Steps.{entryFault}
 use Rattle.grammar.proofs.Cut.{up-to-short, up-to-take, from-drop}
 use Rattle.grammar.proofs.Entry.{foundOr, found-fault, step-word}

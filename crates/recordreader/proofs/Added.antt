@@ -1,6 +1,6 @@
 -- What a line adds: the length, no placement, a spot, the end.
-use mathlib.Core.Path.{_≡_, refl, sym, ap, _∙_}
-use mathlib.Core.Bool.{true, false}
+use mathlib.Core.Path.{_≡_, refl, sym, _∙_}
+use mathlib.Core.Bool.{true, false, false≢true}
 use mathlib.Core.List.{List}
 use Prim.Native.Nat.{ℕ, suc, _+_}
 use native.Mathlib.Numerals.{add-one}
@@ -11,19 +11,15 @@ use borrow.Author.Tests.{eq-eqb, ne-eqb}
 use Rattle.model.specs.declared.Word.the-variants as word
 use Rattle.model.specs.Meaning.{firstOf, blankSpot}
 use Rattle.model.proofs.FirstOf.{first-set}
-use Rattle.grammar.specs.Reading.{fault}
 use Rattle.grammar.specs.Steps.{Entered}
 use Rattle.line.specs.Held.{valuesOf}
-use Rattle.record.specs.Kind.{recordKind, add, after, size, spotsOf}
+use Rattle.record.specs.Kind.{recordKind, add, size, spotsOf}
 use Rattle.recordreader.specs.declared.State.{State}
 use Rattle.recordreader.specs.declared.Fault.the-variants as held
 use Rattle.recordreader.specs.declared.Taken.{Taken}
 use Rattle.recordreader.specs.State.{Sound, partOf, withFault, TakenOk}
 use Rattle.recordreader.proofs.Values.{heldSpot, least-values, at-values}
 use Rattle.recordreader.proofs.Entry.{count-meant, at-fits, at-found}
-
-pub never : {A : Type 0} → false ≡ true → A
-never e = absurd (let z : _≡_ {A = ℕ} 0 1 = cc in omega arith)
 
 abbrev taken : State → Taken
 taken s = record { fault = held.Clear; state = s }
@@ -38,10 +34,10 @@ module _ (s : State) (v : List ℕ) (sound : Sound s) where
       }
 
   pub none-added : TakenOk (taken (record { last = word.None; found = false; wl = 0; count = 0; spots = s .spots })) (add (partOf s) word.None (valuesOf word.None v))
-  none-added = record { meant = refl; sound = record { few = omega arith; long = sound .long; blank = λ e. refl; opened = never } }
+  none-added = record { meant = refl; sound = record { few = omega arith; long = sound .long; blank = λ e. refl; opened = λ o. absurd (false≢true o) } }
 
   pub done-added : TakenOk (taken (record { last = word.Done; found = s .found; wl = s .wl; count = s .count; spots = s .spots })) (add (partOf s) word.Done (valuesOf word.Done v))
-  done-added = record { meant = refl; sound = record { few = sound .few; long = sound .long; blank = sound .blank; opened = never } }
+  done-added = record { meant = refl; sound = record { few = sound .few; long = sound .long; blank = sound .blank; opened = λ o. absurd (false≢true o) } }
 
   -- m against the next number
   turn : eqb (size (valuesOf word.At v) 0) (suc (length (spotsOf (partOf s .result)))) ≡ eqb (getD v 0 0) (s .count + 1)
@@ -57,7 +53,7 @@ module _ (s : State) (v : List ℕ) (sound : Sound s) where
         sound = record {
           few = omega (arith, at-fits s sound p);
           long = length-set (s .spots) (s .count) (heldSpot v) ∙ sound .long;
-          blank = λ e. never (sym e ∙ at-found s sound p);
+          blank = λ e. absurd (false≢true (sym e ∙ at-found s sound p));
           opened = λ o. at-found s sound p;
         };
       }

@@ -14,7 +14,7 @@ use Rattle.model.specs.Meaning.{Record, blankSpot}
 use Rattle.model.proofs.FirstOf.{length-first}
 use Rattle.grammar.specs.Words.{rank, isIn}
 use Rattle.grammar.specs.Steps.{entryFault, Entered}
-use Rattle.grammar.proofs.ByWord.{by-word, rank-below}
+use Rattle.grammar.proofs.ByWord.{alike, rank-below}
 use Rattle.grammar.proofs.Entry.{no-word as faulty-word, no-place as faulty-place, no-room as faulty-room, no-fault, in-place, has-room}
 use Rattle.record.specs.Kind.{recordKind, followers, room, spotsOf}
 use Rattle.recordreader.specs.declared.State.{State}
@@ -24,7 +24,7 @@ use Rattle.recordreader.proofs.Follow.{in-followers, after-least}
 -- ---- the count of what is held against that of the record that it means
 
 room-by-rank : (r : Record) (w : Word) → room r w ≡ (not (eqb (rank w) 9) || ltb (length (spotsOf r)) 8)
-room-by-rank r = by-word (λ w. room r w ≡ (not (eqb (rank w) 9) || ltb (length (spotsOf r)) 8)) refl refl refl refl refl refl refl refl refl refl refl
+room-by-rank r = alike (room r) (λ w. not (eqb (rank w) 9) || ltb (length (spotsOf r)) 8) refl
 
 spots-count : (found : Bool) (wl n : ℕ) (ps : List Spot) → n ≤ length ps → (found ≡ false → n ≡ 0) → length (spotsOf (resultOf found wl n ps)) ≡ n
 spots-count true wl n ps h z = length-first blankSpot n ps h

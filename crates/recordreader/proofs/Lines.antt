@@ -1,6 +1,6 @@
 -- Reading line by line: what is left to read, and each end of the reading.
-use mathlib.Core.Path.{_≡_, refl, sym, ap, subst, _∙_}
-use mathlib.Core.Bool.{true, false}
+use mathlib.Core.Path.{_≡_, refl, ap}
+use mathlib.Core.Bool.{true, false, false≢true}
 use mathlib.Core.List.{List}
 use Prim.Native.Nat.{ℕ, _+_, _-_, _≤_, _<_}
 use native.Mathlib.Omega.{arith}
@@ -15,7 +15,7 @@ use Rattle.grammar.specs.Words.{rank}
 use Rattle.grammar.specs.Reading.{Reading, refused, stepBytes, stepLine, ending}
 use Rattle.grammar.specs.Steps.{LineEnd, lineAt}
 use Rattle.grammar.proofs.LineAt.{step-open, step-ended}
-use Rattle.grammar.proofs.Left.{Left, text-too-long, text-left, text-fails, text-goes-on, text-ends}
+use Rattle.grammar.proofs.Left.{Left, text-too-long, text-fails, text-goes-on, text-ends}
 use Rattle.record.specs.Kind.{start, recordKind}
 use Rattle.record.specs.Text.{recordRead, readRecord}
 use Rattle.recordreader.specs.declared.State.{State}
@@ -23,9 +23,8 @@ use Rattle.recordreader.specs.declared.Fault.the-variants as held
 use Rattle.recordreader.specs.declared.Taken.{Taken}
 use Rattle.recordreader.specs.declared.RecordAnswer.the-variants as answer
 use Rattle.recordreader.specs.declared.RecordRead.{RecordRead}
-use Rattle.recordreader.specs.State.{Sound, resultOf, partOf, stepOf, withFault, TakenOk}
+use Rattle.recordreader.specs.State.{Sound, resultOf, partOf, withFault, TakenOk}
 use Rattle.recordreader.specs.Answer.{refusedAt, ReadOk}
-use Rattle.recordreader.proofs.Added.{never}
 
 pub refuses : (r : RecordRead) (n l : ℕ) (read : Reading Record) → refused n l ≡ read → r ≡ refusedAt n l → ReadOk read r
 refuses r n l read q e = rw e (record { meant = q; blank = refl })
@@ -38,7 +37,7 @@ too-long text h = ap recordRead (text-too-long recordKind start text h)
 
 module _ (ps : List Spot) (e : ps ≡ replicate 8 blankSpot) where
   pub empty-sound : Sound (record { last = word.Nothing; found = false; wl = 0; count = 0; spots = ps })
-  empty-sound = record { few = omega arith; long = ap length e; blank = λ f. refl; opened = never }
+  empty-sound = record { few = omega arith; long = ap length e; blank = λ f. refl; opened = λ o. absurd (false≢true o) }
 
 -- ---- a line
 

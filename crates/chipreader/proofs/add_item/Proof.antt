@@ -1,4 +1,5 @@
-use Rattle.chipreader.proofs.Item.{entered-as, taken-as, not-taken, end-taken}
+use Rattle.grammar.proofs.Entry.{entered-as}
+use Rattle.chipreader.proofs.Item.{taken-as, not-taken, end-taken}
 use borrow.Author.Needs.{needs}
 use Rattle.chipreader.proofs.add_item.Statement.{statement}
 use Rattle.chipreader.proofs.add_item.Tie as tie

@@ -1,4 +1,4 @@
-use Rattle.chipreader.proofs.Lines.{ends, end-fits}
+use Rattle.grammar.proofs.LineAt.{ends, end-fits}
 use borrow.Author.Needs.{needs}
 use Rattle.chipreader.proofs.line_end.Statement.{statement}
 use Rattle.chipreader.proofs.line_end.Tie as tie

@@ -1,8 +1,10 @@
 use borrow.Author.Needs.{needs}
 use Prim.Native.Nat.{ℕ, _+_, _-_, _≤_}
 use lib.ListN.{length}
-use Rattle.chipreader.specs.State.{Sound}
-use Rattle.chipreader.proofs.Lines.{Left, refuses, all-left, empty-sound, line-fails, line-read, all-read}
+use Rattle.grammar.proofs.Left.{Left}
+use Rattle.chip.specs.Kind.{start, chipKind}
+use Rattle.chipreader.specs.State.{Sound, partOf}
+use Rattle.chipreader.proofs.Lines.{refuses, all-left, empty-sound, line-fails, line-read, all-read}
 use Rattle.chipreader.proofs.read_lines.Statement.{statement}
 use Rattle.chipreader.proofs.read_lines.Tie as tie
 use Rattle.chipreader.proofs.read_lines.Reads as reads
@@ -14,7 +16,7 @@ use Rattle.chipreader.proofs.next_line.Reads as next-line-reads
 use Rattle.chipreader.proofs.refused.Reads as refused-reads
 
 abbrev Inv-loop : tie.InvT-loop
-Inv-loop text s₀ a₀ line₀ s a line = (a ≤ length text + 1) × (line ≤ a + 1) × Sound s × Left text s a line
+Inv-loop text s₀ a₀ line₀ s a line = (a ≤ length text + 1) × (line ≤ a + 1) × Sound s × Left chipKind start text (partOf s) a line
 
 abbrev μ-loop : tie.MeasureT-loop
 μ-loop text s₀ a₀ line₀ s a line = length text + 1 - a

@@ -1,4 +1,5 @@
-use Rattle.chipreader.proofs.OneLine.{word-end, word-long, entry-fails, entry-passed}
+use Rattle.grammar.proofs.OneLine.{word-end, word-long}
+use Rattle.chipreader.proofs.OneLine.{entry-fails, entry-passed}
 use borrow.Author.Needs.{needs}
 use Rattle.chipreader.proofs.take_line.Statement.{statement}
 use Rattle.chipreader.proofs.take_line.Tie as tie
