@@ -1,0 +1,5 @@
+pub mod Marks
+pub mod OrderLaws
+pub mod Cover
+pub mod FirstLeast
+pub mod Demand

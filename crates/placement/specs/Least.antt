@@ -1,0 +1,76 @@
+-- The earliest least placement. Document 01, "The search and its record": a legal placement is the chip's earliest least one when every other legal placement has at least its wirelength and each other one with the same wirelength comes later in the order. Here it is found by trying every placement in the die in that order and taking the first of least wirelength.
+use Prim.Native.Nat.{ℕ, zero, suc}
+use mathlib.Core.List.{List, [], _∷_, _++_, map}
+use mathlib.Core.Bool.{Bool, true, false}
+use lib.Dec.{ltb}
+use Rattle.model.specs.declared.Mac.{Mac}
+use Rattle.model.specs.declared.Spot.{Spot}
+use Rattle.model.specs.Meaning.{Chip, Record, none}
+use Rattle.model.specs.Meaning as meaning
+use Rattle.placement.specs.Legal.{legal}
+use Rattle.placement.specs.Length.{wirelength}
+use Rattle.placement.specs.Letters.{Letter, keepsLetters}
+
+-- a, a + 1 and so on, k of them
+unfoldable pub upFrom : ℕ → ℕ → List ℕ
+upFrom a zero = []
+upFrom a (suc k) = a ∷ upFrom (suc a) k
+
+-- the corners with that x
+unfoldable pub column : ℕ → List ℕ → List Spot
+column x [] = []
+column x (y ∷ ys) = record { x = x; y = y } ∷ column x ys
+
+unfoldable pub grid : List ℕ → List ℕ → List Spot
+grid [] ys = []
+grid (x ∷ xs) ys = column x ys ++ grid xs ys
+
+-- the corners 0..W, 0..H, by x and then by y
+abbrev pub corners : Chip → List Spot
+corners c = grid (upFrom 0 (suc (c .die .w))) (upFrom 0 (suc (c .die .h)))
+
+unfoldable pub inFront : List Spot → List (List Spot) → List (List Spot)
+inFront [] rest = []
+inFront (p ∷ ps) rest = map (λ (q : List Spot). p ∷ q) rest ++ inFront ps rest
+
+-- every placement of the macros on these corners, in order
+unfoldable pub placements : List Mac → List Spot → List (List Spot)
+placements [] all = [] ∷ []
+placements (m ∷ ms) all = inFront all (placements ms all)
+
+-- nothing found, or a wirelength and its placement
+pub data Best : Type 0 where
+  nothing : Best
+  found : ℕ → List Spot → Best
+
+abbrev pub shorter : ℕ → Best → Bool
+shorter l nothing = true
+shorter l (found m ps) = ltb l m
+
+-- the first of least wirelength among those that pass, after the best so far
+unfoldable pub tryAll : Chip → (List Spot → Bool) → List (List Spot) → Best → Best
+tryAll c passes [] b = b
+tryAll c passes (ps ∷ rest) b =
+    elim (passes ps) [
+      | true ↦ (let l : ℕ = wirelength c ps in elim (shorter l b) [ true ↦ tryAll c passes rest (found l ps) | false ↦ tryAll c passes rest b ])
+      | false ↦ tryAll c passes rest b
+    ]
+
+unfoldable pub firstLeast : Chip → (List Spot → Bool) → Best
+firstLeast c passes = tryAll c passes (placements (c .macs) (corners c)) nothing
+
+-- the earliest least legal placement
+abbrev pub earliestLeast : Chip → Best
+earliestLeast c = firstLeast c (legal c)
+
+-- the fit of letters: the least under them, and of those the earliest
+abbrev pub fitOf : Chip → List Letter → Best
+fitOf c ls = firstLeast c (keepsLetters c ls)
+
+abbrev pub bestRecord : Best → Record
+bestRecord nothing = none
+bestRecord (found wl ps) = meaning.least wl ps
+
+-- a chip alone fixes its record
+unfoldable pub chipRecord : Chip → Record
+chipRecord c = bestRecord (earliestLeast c)

@@ -1,0 +1,6 @@
+pub mod Legal
+pub mod Length
+pub mod Order
+pub mod Letters
+pub mod Least
+pub mod Marks
