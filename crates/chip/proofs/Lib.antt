@@ -5,3 +5,10 @@ pub mod ItemsChip
 pub mod ItemsRun
 pub mod ReadText
 pub mod TextRead
+pub mod LineValues
+pub mod NetsRead
+pub mod LineSound
+pub mod Accepted
+pub mod HeldNets
+pub mod HeldMeaning
+pub mod HeldChip

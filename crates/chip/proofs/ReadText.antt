@@ -10,7 +10,7 @@ use Rattle.chip.specs.Kind.{Part, start, chipKind}
 use Rattle.chip.specs.Text.{chipRead, readChip, chipItems, chipText}
 use Rattle.chip.proofs.Staged.{run-items}
 
-chip-accepted : (r : Reading Part) (c : Chip) → chipRead r ≡ accepted c → (s : Part) × (r ≡ accepted s) × (s .chip ≡ c)
+pub chip-accepted : (r : Reading Part) (c : Chip) → chipRead r ≡ accepted c → (s : Part) × (r ≡ accepted s) × (s .chip ≡ c)
 chip-accepted (accepted s) c e = (s, refl, cc)
 chip-accepted (refused n l) c e = no-refusal e
 

@@ -1,8 +1,8 @@
 -- How long the nets are. Document 01, "Legal, and how long": a net's length is its weight times (greatest x - least x + greatest y - least y) over its pins; the wirelength is the sum.
-use Prim.Native.Nat.{ℕ, zero, suc, _+_, _*_}
+use Prim.Native.Nat.{ℕ, zero, suc, _+_, _*_, _≤_, _<_}
 use mathlib.Core.List.{List, [], _∷_, map}
 use mathlib.Core.Bool.{Bool, true, false, cond}
-use lib.ListN.{getD}
+use lib.ListN.{length, getD}
 use lib.IntN.{ℤ, pos, negℤ, _+ℤ_, natAbs}
 use lib.Signed.{leZ}
 use Rattle.model.specs.declared.Spot.{Spot}
@@ -12,6 +12,11 @@ use Rattle.model.specs.Meaning.{Pin, Net, Chip, blankSpot}
 abbrev pub origin : List Spot → ℕ → Spot
 origin ps zero = blankSpot
 origin ps (suc m) = getD ps m blankSpot
+
+-- positions 0..1,024
+pub record Near (ps : List Spot) : Type 0 where
+  pub x : (i : ℕ) → i < length ps → getD ps i blankSpot .x ≤ 1024
+  pub y : (i : ℕ) → i < length ps → getD ps i blankSpot .y ≤ 1024
 
 -- where a pin lies
 abbrev pub pinX : List Spot → Pin → ℤ

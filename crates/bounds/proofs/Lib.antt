@@ -1,0 +1,13 @@
+pub mod Counts
+pub mod Members
+pub mod Sorts
+pub mod Limits
+pub mod Places
+pub mod Values
+pub mod Coordinates
+pub mod Fronts
+pub mod Positions
+pub mod Idle
+pub mod Oversize
+pub mod Answers
+pub mod Starts

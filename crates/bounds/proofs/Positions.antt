@@ -1,0 +1,59 @@
+-- Where the slots of macros and pairs stand.
+use Prim.Native.Nat.{ℕ, zero, suc, _+_, _*_, _<_}
+use mathlib.Core.Path.{_≡_, refl, ap, _∙_}
+use mathlib.Core.List.{List, [], _∷_}
+use native.Mathlib.Omega.{arith}
+use lib.ListN.{length, getD, List·getD-append}
+use lib.Seq.{getD-append-add}
+use Rattle.bounds.specs.Axis.{Axis, noSlot}
+use Rattle.bounds.specs.Listed.{slot, dieSlots, listed, slotAt}
+use Rattle.bounds.specs.Graph.{graphSlots, macroSlots}
+use Rattle.bounds.proofs.Counts.{length-die}
+use Rattle.bounds.proofs.Fronts.{listed-front, macros-front}
+
+die-rise : (side h : ℕ) (ws : List ℕ) (j s k : ℕ) → s ≡ 2 * j → k ≡ h + j → j < length ws → slotAt (dieSlots side h ws) s ≡ slot 0 k 0 0
+unfolding dieSlots
+die-rise side h [] j s k e d l = absurd (omega arith)
+die-rise side h (w ∷ ws) zero zero k e d l = ap (λ (u : ℕ). slot 0 u 0 0) (omega arith)
+die-rise side h (w ∷ ws) zero (suc s) k e d l = absurd (omega arith)
+die-rise side h (w ∷ ws) (suc j) zero k e d l = absurd (omega arith)
+die-rise side h (w ∷ ws) (suc j) (suc zero) k e d l = absurd (omega arith)
+die-rise side h (w ∷ ws) (suc j) (suc (suc s)) k e d l = die-rise side (suc h) ws j s k (omega arith) (omega arith) (omega arith)
+
+die-fall : (side h : ℕ) (ws : List ℕ) (j s k : ℕ) → s ≡ 2 * j + 1 → k ≡ h + j → j < length ws → slotAt (dieSlots side h ws) s ≡ slot k 0 (getD ws j 0) side
+unfolding dieSlots
+die-fall side h [] j s k e d l = absurd (omega arith)
+die-fall side h (w ∷ ws) j zero k e d l = absurd (omega arith)
+die-fall side h (w ∷ ws) zero (suc zero) k e d l = ap (λ (u : ℕ). slot u 0 w side) (omega arith)
+die-fall side h (w ∷ ws) zero (suc (suc s)) k e d l = absurd (omega arith)
+die-fall side h (w ∷ ws) (suc j) (suc zero) k e d l = absurd (omega arith)
+die-fall side h (w ∷ ws) (suc j) (suc (suc s)) k e d l = die-fall side (suc h) ws j s k (omega arith) (omega arith) (omega arith)
+
+module _ (a : Axis) where
+  pub rise-at : (i : ℕ) → i < length (a .sizes) → slotAt (macroSlots a) (2 * i) ≡ slot 0 (suc i) 0 0
+  unfolding macroSlots
+  rise-at i l =
+      let c = length-die (a .side) 1 (a .sizes) in
+      List·getD-append (dieSlots (a .side) 1 (a .sizes)) (a .pairs) noSlot (2 * i) (omega arith) ∙ die-rise (a .side) 1 (a .sizes) i (2 * i) (suc i) refl (omega arith) l
+
+  pub fall-at : (i : ℕ) → i < length (a .sizes) → slotAt (macroSlots a) (2 * i + 1) ≡ slot (suc i) 0 (getD (a .sizes) i 0) (a .side)
+  unfolding macroSlots
+  fall-at i l =
+      let c = length-die (a .side) 1 (a .sizes) in
+      List·getD-append (dieSlots (a .side) 1 (a .sizes)) (a .pairs) noSlot (2 * i + 1) (omega arith) ∙ die-fall (a .side) 1 (a .sizes) i (2 * i + 1) (suc i) refl (omega arith) l
+
+  pub pair-at : (j : ℕ) → slotAt (macroSlots a) (2 * length (a .sizes) + j) ≡ getD (a .pairs) j noSlot
+  unfolding macroSlots
+  pair-at j =
+      let c = length-die (a .side) 1 (a .sizes) in
+      ap (slotAt (macroSlots a)) (omega arith) ∙ getD-append-add (dieSlots (a .side) 1 (a .sizes)) (a .pairs) j noSlot
+
+  -- the list starts with the slots of macros and pairs, the graph with the list
+  pub listed-macro : (s : ℕ) → s < length (macroSlots a) → slotAt (listed a) s ≡ slotAt (macroSlots a) s
+  listed-macro s l = macros-front a .same s l
+
+  pub graph-listed : (s : ℕ) → s < length (listed a) → slotAt (graphSlots a) s ≡ slotAt (listed a) s
+  graph-listed s l = listed-front a .same s l
+
+  pub graph-macro : (s : ℕ) → s < length (macroSlots a) → slotAt (graphSlots a) s ≡ slotAt (macroSlots a) s
+  graph-macro s l = let p = macros-front a .short in graph-listed s (omega arith) ∙ listed-macro s l

@@ -1,0 +1,5 @@
+pub mod Axis
+pub mod Listed
+pub mod Answer
+pub mod Graph
+pub mod Held

@@ -1,0 +1,1 @@
+// Branches of the search: definitions and laws, no function is declared here.

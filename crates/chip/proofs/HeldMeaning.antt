@@ -1,0 +1,68 @@
+-- What a chip held as a value means, part by part: its fixes, its macros, and its nets with their pins.
+use Prim.Native.Nat.{ℕ, suc, _+_, _≤_, _<_}
+use native.Mathlib.Omega.{arith}
+use mathlib.Core.Path.{_≡_, ap, _∙_}
+use mathlib.Core.List.{List}
+use lib.ListN.{length, getD, take, drop, length-drop}
+use lib.Seq.{getD-drop}
+use Rattle.model.specs.declared.Pin.{Pin as HeldPin}
+use Rattle.model.specs.declared.Chip.{Chip as HeldChip}
+use Rattle.model.specs.Meaning.{Pin, firstOf, blankFix, blankMac, blankNet, blankPin, pinOf, pinsOf, chipOf}
+use Rattle.model.proofs.FirstOf.{first-take, length-first}
+use Rattle.model.proofs.Nets.{length-pins, length-nets}
+use Rattle.chip.specs.Valid.{noPin, noNet, pinsBefore, Fine}
+use Rattle.chip.proofs.HeldNets.{getD-first, getD-pins, before-first, getD-weight, getD-net, pins-before-up, pins-before-more}
+
+module _ (c : HeldChip) where
+  pub fix-held : (i : ℕ) → i < c .k → getD (chipOf c .fixes) i blankFix ≡ getD (c .fixes) i blankFix
+  unfolding chipOf
+  fix-held i h = getD-first blankFix (c .k) (c .fixes) i h
+
+  pub mac-held : (i : ℕ) → i < c .n → getD (chipOf c .macs) i blankMac ≡ getD (c .macs) i blankMac
+  unfolding chipOf
+  mac-held i h = getD-first blankMac (c .n) (c .macs) i h
+
+  pub weight-held : (j : ℕ) → j < c .t → getD (chipOf c .nets) j noNet .weight ≡ getD (c .nets) j blankNet .weight
+  unfolding chipOf
+  weight-held j h = getD-weight (firstOf blankNet (c .t) (c .nets)) (c .pins) j ∙ rw (getD-first blankNet (c .t) (c .nets) j h)
+
+  -- the pins of net j, the first of its count after those of the nets before it
+  pub net-held : (j : ℕ) → j < c .t → getD (chipOf c .nets) j noNet .pins ≡ pinsOf (firstOf blankPin (getD (c .nets) j blankNet .pins) (drop (pinsBefore j (c .nets)) (c .pins)))
+  unfolding chipOf
+  net-held j h = getD-net (firstOf blankNet (c .t) (c .nets)) (c .pins) j ∙ rw (getD-first blankNet (c .t) (c .nets) j h, before-first j (c .t) (c .nets) (omega arith))
+
+  -- where the chip is fine and its arrays are whole
+  module _ (v : Fine c) where
+    pub fixes-held : length (c .fixes) ≡ 8 → length (chipOf c .fixes) ≡ c .k
+    unfolding chipOf
+    fixes-held l = let q = v .fixCount in length-first blankFix (c .k) (c .fixes) (omega arith)
+
+    pub macs-held : length (c .macs) ≡ 8 → length (chipOf c .macs) ≡ c .n
+    unfolding chipOf
+    macs-held l = let q = v .macCount in length-first blankMac (c .n) (c .macs) (omega arith)
+
+    pub nets-held : length (c .nets) ≡ 32 → length (chipOf c .nets) ≡ c .t
+    unfolding chipOf
+    nets-held l = let q = v .netCount in length-nets (firstOf blankNet (c .t) (c .nets)) (c .pins) ∙ length-first blankNet (c .t) (c .nets) (omega arith)
+
+    module _ (l : length (c .pins) ≡ 128) (j : ℕ) (h : j < c .t) where
+      -- the pins of net j end within the list
+      pub pins-left : getD (c .nets) j blankNet .pins ≤ length (drop (pinsBefore j (c .nets)) (c .pins))
+      pins-left =
+          let q = v .pins in
+          let u = pins-before-up (suc j) (c .t) (c .nets) (omega arith) in
+          let m = pins-before-more j (c .nets) in
+          rw length-drop (omega arith)
+
+      pub pins-held : getD (chipOf c .nets) j noNet .pins ≡ pinsOf (take (getD (c .nets) j blankNet .pins) (drop (pinsBefore j (c .nets)) (c .pins)))
+      pins-held = net-held j h ∙ rw (first-take blankPin (getD (c .nets) j blankNet .pins) (drop (pinsBefore j (c .nets)) (c .pins)) pins-left)
+
+      pub pin-count-held : length (getD (chipOf c .nets) j noNet .pins) ≡ getD (c .nets) j blankNet .pins
+      pin-count-held = rw (net-held j h, length-pins) (length-first blankPin (getD (c .nets) j blankNet .pins) (drop (pinsBefore j (c .nets)) (c .pins)) pins-left)
+
+      pub pin-held : (i : ℕ) → i < getD (c .nets) j blankNet .pins → getD (getD (chipOf c .nets) j noNet .pins) i noPin ≡ pinOf (getD (c .pins) (pinsBefore j (c .nets) + i) blankPin)
+      pin-held i g =
+          let n : ℕ = getD (c .nets) j blankNet .pins in
+          let ps : List HeldPin = drop (pinsBefore j (c .nets)) (c .pins) in
+          let m : length (firstOf blankPin n ps) ≡ n = length-first blankPin n ps pins-left in
+          ap (λ (t : List Pin). getD t i noPin) (net-held j h) ∙ getD-pins (firstOf blankPin n ps) i (rw m g) ∙ ap pinOf (getD-first blankPin n ps i g ∙ getD-drop (pinsBefore j (c .nets)) (c .pins) i blankPin)

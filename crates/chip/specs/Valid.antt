@@ -1,0 +1,86 @@
+-- What every accepted chip keeps (document 01, "The chip file": ranges and counts), of its meaning and of a value that holds it.
+use Prim.Native.Nat.{ℕ, zero, suc, _+_, _≤_, _<_}
+use mathlib.Core.Path.{_≡_}
+use mathlib.Core.Bool.{true}
+use mathlib.Core.List.{List, [], _∷_}
+use lib.ListN.{length, getD}
+use lib.IntN.{pos}
+use Rattle.model.specs.declared.Fix.{Fix}
+use Rattle.model.specs.declared.Mac.{Mac}
+use Rattle.model.specs.declared.Net.{Net as HeldNet}
+use Rattle.model.specs.declared.Pin.{Pin as HeldPin}
+use Rattle.model.specs.declared.Chip.{Chip as HeldChip}
+use Rattle.model.specs.Meaning.{Pin, Net, Chip, blankFix, blankMac, blankNet, blankPin}
+use Rattle.model.specs.Limits.{isWithin, pinPlace}
+use Rattle.chip.specs.Kind.{pinCount}
+
+pub record Between (least v most : ℕ) : Type 0 where
+  pub low : least ≤ v
+  pub high : v ≤ most
+
+pub record ValidFix (f : Fix) : Type 0 where
+  pub x : f .x ≤ 1023
+  pub y : f .y ≤ 1023
+  pub w : Between 1 (f .w) 1024
+  pub h : Between 1 (f .h) 1024
+
+pub record ValidMac (m : Mac) : Type 0 where
+  pub w : Between 1 (m .w) 1024
+  pub h : Between 1 (m .h) 1024
+
+-- a pin of a chip with n macros
+pub record ValidPin (n : ℕ) (p : Pin) : Type 0 where
+  pub macro : p .m ≤ n
+  pub x : isWithin pinPlace (p .x) ≡ true
+  pub y : isWithin pinPlace (p .y) ≡ true
+
+abbrev pub noPin : Pin
+noPin = record { m = 0; x = pos 0; y = pos 0 }
+
+pub record ValidNet (n : ℕ) (t : Net) : Type 0 where
+  pub weight : Between 1 (t .weight) 1000
+  pub some : 0 < length (t .pins)
+  pub pin : (i : ℕ) → i < length (t .pins) → ValidPin n (getD (t .pins) i noPin)
+
+abbrev pub noNet : Net
+noNet = record { weight = 0; pins = [] }
+
+pub record Valid (c : Chip) : Type 0 where
+  pub dieW : Between 1 (c .die .w) 1024
+  pub dieH : Between 1 (c .die .h) 1024
+  pub fixCount : length (c .fixes) ≤ 8
+  pub macCount : length (c .macs) ≤ 8
+  pub netCount : length (c .nets) ≤ 32
+  pub pins : pinCount (c .nets) ≤ 128
+  pub fix : (i : ℕ) → i < length (c .fixes) → ValidFix (getD (c .fixes) i blankFix)
+  pub mac : (i : ℕ) → i < length (c .macs) → ValidMac (getD (c .macs) i blankMac)
+  pub net : (j : ℕ) → j < length (c .nets) → ValidNet (length (c .macs)) (getD (c .nets) j noNet)
+
+-- ---- the same of a chip held as a value
+
+-- the pins of the first j nets
+unfoldable pub pinsBefore : ℕ → List HeldNet → ℕ
+pinsBefore zero ts = 0
+pinsBefore (suc j) [] = 0
+pinsBefore (suc j) (t ∷ ts) = t .pins + pinsBefore j ts
+
+pub record FineNet (t : HeldNet) : Type 0 where
+  pub weight : Between 1 (t .weight) 1000
+  pub some : 0 < t .pins
+
+pub record FinePin (n : ℕ) (p : HeldPin) : Type 0 where
+  pub macro : p .m ≤ n
+  pub x : p .xup ≤ 8192
+  pub y : p .yup ≤ 8192
+
+pub record Fine (c : HeldChip) : Type 0 where
+  pub dieW : Between 1 (c .die .w) 1024
+  pub dieH : Between 1 (c .die .h) 1024
+  pub fixCount : c .k ≤ 8
+  pub macCount : c .n ≤ 8
+  pub netCount : c .t ≤ 32
+  pub pins : pinsBefore (c .t) (c .nets) ≤ 128
+  pub fix : (i : ℕ) → i < c .k → ValidFix (getD (c .fixes) i blankFix)
+  pub mac : (i : ℕ) → i < c .n → ValidMac (getD (c .macs) i blankMac)
+  pub net : (j : ℕ) → j < c .t → FineNet (getD (c .nets) j blankNet)
+  pub pin : (i : ℕ) → i < pinsBefore (c .t) (c .nets) → FinePin (c .n) (getD (c .pins) i blankPin)

@@ -1,0 +1,11 @@
+pub mod Ranges
+pub mod Boxes
+pub mod InTurn
+pub mod TurnLegal
+pub mod IsLegal
+pub mod Places
+pub mod Around
+pub mod HeldNet
+pub mod Lengths
+pub mod Answers
+pub mod Measured

@@ -1,0 +1,67 @@
+-- What the helpers of measuring compute and need, over the arrays of a chip.
+use Prim.Native.Nat.{ℕ, zero, suc, _+_, _*_, _≤_, _<_, min, max}
+use mathlib.Core.Path.{_≡_}
+use mathlib.Core.Bool.{Bool, true, _&&_}
+use mathlib.Core.List.{List, [], _∷_, _++_, map}
+use lib.ListN.{getD}
+use lib.Seq.{slice}
+use Rattle.model.specs.declared.Die.{Die}
+use Rattle.model.specs.declared.Fix.{Fix}
+use Rattle.model.specs.declared.Spot.{Spot}
+use Rattle.model.specs.declared.Net.{Net as HeldNet}
+use Rattle.model.specs.declared.Pin.{Pin as HeldPin}
+use Rattle.model.specs.declared.Chip.{Chip as HeldChip}
+use Rattle.model.specs.Meaning.{chipOf, blankNet, blankPin}
+use Rattle.grammar.specs.Reading.{accepted}
+use Rattle.chip.specs.Kind.{fixInDie, clearOf}
+use Rattle.chip.specs.Text.{readChip, chipText}
+use Rattle.chip.specs.Valid.{pinsBefore}
+use Rattle.numbers.specs.Spread.{spread}
+use Rattle.placement.specs.Length.{origin}
+use Rattle.placement.proofs.Spans.{upX, upY}
+use Rattle.measure.specs.declared.Extent.{Extent}
+
+-- a box lies in the die, and is apart from the fixes and from the boxes before it
+abbrev pub legalBox : Die → List Fix → List Fix → Fix → Bool
+legalBox d fs before b = fixInDie d b && (clearOf b fs && clearOf b before)
+
+-- so does each box of a list, in turn
+unfoldable pub legalAfter : Die → List Fix → List Fix → List Fix → Bool
+legalAfter d fs before [] = true
+legalAfter d fs before (b ∷ s) = legalBox d fs before b && legalAfter d fs (before ++ (b ∷ [])) s
+
+-- the least and the greatest places with one place more
+abbrev pub withPin : Extent → Spot → Extent
+withPin e p = record { left = min (e .left) (p .x); right = max (e .right) (p .x); low = min (e .low) (p .y); high = max (e .high) (p .y) }
+
+-- greatest x less least x, plus the same of y, over held pins
+abbrev pub halfAround : List Spot → List HeldPin → ℕ
+halfAround ps hs = spread (map (upX ps) hs) + spread (map (upY ps) hs)
+
+-- a pin within its ranges, whose macro's corner is within 0..1,024
+pub record Placed (ps : List Spot) (p : HeldPin) : Type 0 where
+  pub macro : p .m ≤ 8
+  pub x : origin ps (p .m) .x ≤ 1024
+  pub y : origin ps (p .m) .y ≤ 1024
+  pub xup : p .xup ≤ 8192
+  pub yup : p .yup ≤ 8192
+
+pub record PlacedTo (ps : List Spot) (hs : List HeldPin) (last : ℕ) : Type 0 where
+  pub at : (i : ℕ) → i < last → Placed ps (getD hs i blankPin)
+
+-- the lengths of the first j nets
+unfoldable pub lengthTo : List Spot → List HeldNet → List HeldPin → ℕ → ℕ
+lengthTo ps ts hs zero = 0
+lengthTo ps ts hs (suc j) = lengthTo ps ts hs j + getD ts j blankNet .weight * halfAround ps (slice (pinsBefore j ts) (pinsBefore (suc j) ts) hs)
+
+-- what summing the lengths of t nets needs: pins that are placed, and a sum that is not too large
+pub record Summable (ps : List Spot) (ts : List HeldNet) (hs : List HeldPin) (t : ℕ) : Type 0 where
+  pub nets : t ≤ 32
+  pub pins : pinsBefore t ts ≤ 128
+  pub some : (j : ℕ) → j < t → 0 < getD ts j blankNet .pins
+  pub placed : PlacedTo ps hs (pinsBefore t ts)
+  pub small : lengthTo ps ts hs t ≤ 589824000
+
+-- a chip held as a value whose test is passed
+abbrev pub Passed : HeldChip → Type 0
+Passed c = accepted (chipOf c) ≡ readChip (chipText (chipOf c))

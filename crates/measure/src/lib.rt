@@ -1,0 +1,256 @@
+// Measuring a placement: whether positions are legal for a chip, and their wirelength (document 01, "Legal, and how long").
+use model::Chip;
+use model::Die;
+use model::Fix;
+use model::Mac;
+use model::Net;
+use model::Pin;
+use model::Refusal;
+use model::Spot;
+use model::Tested;
+ghost use mathlib.Core.Path.{_≡_};
+ghost use Prim.Native.Nat.{_+_, _≤_, _<_, min, max};
+ghost use mathlib.Core.List.{[]};
+ghost use lib.ListN.{length, getD, take};
+ghost use lib.Seq.{slice};
+ghost use Rattle.model.specs.Meaning.{firstOf, blankFix, blankSpot, chipOf};
+ghost use Rattle.placement.specs.Legal.{boxes};
+ghost use Rattle.placement.specs.Length.{origin};
+ghost use Rattle.placement.proofs.Spans.{upX, upY};
+ghost use Rattle.measure.specs.Measuring.{measuredAs, inRange, measurePassed, measurePositions};
+ghost use Rattle.measure.specs.Held.{legalBox, legalAfter, withPin, halfAround, lengthTo, Placed, PlacedTo, Summable, Passed};
+
+// What measuring answers: legal or not and the wirelength, or the refusal.
+pub enum MeasureAnswer {
+    Measured(bool, u64),
+    Refused(Refusal),
+}
+
+// Whether each of the first count positions is within 0..1,024.
+fn in_range(spots: [Spot; 8], count: usize) -> bool
+    requires { ⌜ count ≤ 8 ⌝ }
+    ensures { λ r. ⌜ r ≡ inRange (take count spots) ⌝ }
+{
+    let mut i: usize = 0;
+    while i < count {
+        let p = spots[i];
+        if Spot::MOST < p.x {
+            return false;
+        }
+        if Spot::MOST < p.y {
+            return false;
+        }
+        i += 1;
+    }
+    true
+}
+
+// The macros at their positions, as boxes.
+fn boxes_at(macs: [Mac; 8], spots: [Spot; 8]) -> [Fix; 8]
+    ensures { λ r. ⌜ r ≡ boxes macs spots ⌝ }
+{
+    let mut bs = [Fix {
+        x: 0,
+        y: 0,
+        w: 0,
+        h: 0,
+    }; 8];
+    let mut i: usize = 0;
+    while i < 8 {
+        let m = macs[i];
+        let p = spots[i];
+        bs[i] = Fix {
+            x: p.x,
+            y: p.y,
+            w: m.w,
+            h: m.h,
+        };
+        i += 1;
+    }
+    bs
+}
+
+// Whether box i lies in the die, and is apart from the fixes and from the boxes before it.
+fn legal_box(die: Die, fixes: [Fix; 8], k: usize, bs: [Fix; 8], i: usize) -> bool
+    requires { ⌜ i < 8 ⌝ }
+    ensures { λ r. ⌜ r ≡ legalBox die (take k fixes) (take i bs) (getD bs i blankFix) ⌝ }
+{
+    let b = bs[i];
+    if !chip::fix_in_die(die, b) {
+        return false;
+    }
+    if !chip::clear_of_fixes(b, fixes, k) {
+        return false;
+    }
+    chip::clear_of_fixes(b, bs, i)
+}
+
+// Whether each of n boxes is legal.
+fn legal_boxes(die: Die, fixes: [Fix; 8], k: usize, bs: [Fix; 8], n: usize) -> bool
+    requires { ⌜ n ≤ 8 ⌝ }
+    ensures { λ r. ⌜ r ≡ legalAfter die (take k fixes) [] (take n bs) ⌝ }
+{
+    let mut i: usize = 0;
+    while i < n {
+        if !legal_box(die, fixes, k, bs, i) {
+            return false;
+        }
+        i += 1;
+    }
+    true
+}
+
+// The corner that a pin's x and y are added to: the macro's, or 0,0 for a pad.
+fn origin_of(spots: [Spot; 8], m: usize) -> Spot
+    requires { ⌜ m ≤ 8 ⌝ }
+    ensures { λ r. ⌜ r ≡ origin spots m ⌝ }
+{
+    if m == 0 {
+        return Spot { x: 0, y: 0 };
+    }
+    spots[m - 1]
+}
+
+// Where a pin lies, 4,096 higher.
+fn place_of(spots: [Spot; 8], p: Pin) -> Spot
+    requires { ⌜ Placed spots p ⌝ }
+    ensures { λ r. ⌜ r ≡ record { x = upX spots p; y = upY spots p } ⌝ }
+{
+    let o = origin_of(spots, p.m);
+    let x = o.x + p.xup;
+    let y = o.y + p.yup;
+    Spot { x, y }
+}
+
+fn lesser(a: u64, b: u64) -> u64
+    ensures { λ r. ⌜ r ≡ min a b ⌝ }
+{
+    if a < b {
+        return a;
+    }
+    b
+}
+
+fn greater(a: u64, b: u64) -> u64
+    ensures { λ r. ⌜ r ≡ max a b ⌝ }
+{
+    if a < b {
+        return b;
+    }
+    a
+}
+
+// The least and the greatest places of some pins.
+struct Extent {
+    left: u64,
+    right: u64,
+    low: u64,
+    high: u64,
+}
+
+// The same with one pin more.
+fn with_pin(e: Extent, p: Spot) -> Extent
+    ensures { λ r. ⌜ r ≡ withPin e p ⌝ }
+{
+    let left = lesser(e.left, p.x);
+    let right = greater(e.right, p.x);
+    let low = lesser(e.low, p.y);
+    let high = greater(e.high, p.y);
+    Extent {
+        left,
+        right,
+        low,
+        high,
+    }
+}
+
+// Greatest x less least x, plus greatest y less least y, over the pins from `from` up to `to`.
+fn half_around(spots: [Spot; 8], pins: [Pin; 128], from: usize, to: usize) -> u64
+    requires { ⌜ PlacedTo spots pins to × (from < to) × (to ≤ 128) ⌝ }
+    ensures { λ r. ⌜ r ≡ halfAround spots (slice from to pins) ⌝ }
+{
+    let first = place_of(spots, pins[from]);
+    let mut e = Extent {
+        left: first.x,
+        right: first.x,
+        low: first.y,
+        high: first.y,
+    };
+    let mut i = from + 1;
+    while i < to {
+        let p = place_of(spots, pins[i]);
+        e = with_pin(e, p);
+        i += 1;
+    }
+    (e.right - e.left) + (e.high - e.low)
+}
+
+// The sum of the lengths of t nets: each net's weight times half the way around its pins.
+fn length_of(nets: [Net; 32], t: usize, pins: [Pin; 128], spots: [Spot; 8]) -> u64
+    requires { ⌜ Summable spots nets pins t ⌝ }
+    ensures { λ r. ⌜ r ≡ lengthTo spots nets pins t ⌝ }
+{
+    let mut total: u64 = 0;
+    let mut from: usize = 0;
+    let mut j: usize = 0;
+    while j < t {
+        let net = nets[j];
+        let to = from + net.pins;
+        total += net.weight * half_around(spots, pins, from, to);
+        from = to;
+        j += 1;
+    }
+    total
+}
+
+// The parts of a chip whose test is passed, and positions: 13, then 14, then the measure.
+fn measure_parts(
+    die: Die,
+    k: usize,
+    fixes: [Fix; 8],
+    n: usize,
+    macs: [Mac; 8],
+    t: usize,
+    nets: [Net; 32],
+    pins: [Pin; 128],
+    count: usize,
+    spots: [Spot; 8],
+) -> MeasureAnswer
+    requires { ⌜ Passed (record { die = die; k = k; fixes = fixes; n = n; macs = macs; t = t; nets = nets; pins = pins }) ⌝ }
+    ensures { λ r. ⌜ measuredAs r ≡ measurePassed (chipOf (record { die = die; k = k; fixes = fixes; n = n; macs = macs; t = t; nets = nets; pins = pins })) (firstOf blankSpot count spots) ⌝ }
+{
+    if count != n {
+        return MeasureAnswer::Refused(Refusal { no: 13, line: 0 });
+    }
+    if !in_range(spots, n) {
+        return MeasureAnswer::Refused(Refusal { no: 14, line: 0 });
+    }
+    let bs = boxes_at(macs, spots);
+    let legal = legal_boxes(die, fixes, k, bs, n);
+    let length = length_of(nets, t, pins, spots);
+    MeasureAnswer::Measured(legal, length)
+}
+
+// A chip whose test is passed, as one value.
+fn measure_passed(c: Chip, count: usize, spots: [Spot; 8]) -> MeasureAnswer
+    requires { ⌜ Passed c ⌝ }
+    ensures { λ r. ⌜ measuredAs r ≡ measurePassed (chipOf c) (firstOf blankSpot count spots) ⌝ }
+{
+    let die = c.die;
+    let fixes = c.fixes;
+    let macs = c.macs;
+    let nets = c.nets;
+    let pins = c.pins;
+    measure_parts(die, c.k, fixes, c.n, macs, c.t, nets, pins, count, spots)
+}
+
+// Measures the first count positions; a count above 8 stands for a list that is too long.
+pub fn measure_array(c: Chip, count: usize, spots: [Spot; 8]) -> MeasureAnswer
+    ensures { λ r. ⌜ measuredAs r ≡ measurePositions (chipOf c) (firstOf blankSpot count spots) ⌝ }
+{
+    let tested = chipwriter::test_chip(c);
+    match tested {
+        Tested::Refused(f) => MeasureAnswer::Refused(f),
+        Tested::Passed => measure_passed(c, count, spots),
+    }
+}

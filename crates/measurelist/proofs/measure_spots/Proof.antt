@@ -1,0 +1,28 @@
+use Rattle.measurelist.proofs.Lists.{first-measured}
+use borrow.Author.Needs.{needs}
+use Rattle.measurelist.proofs.measure_spots.Statement.{statement}
+use Rattle.measurelist.proofs.measure_spots.Tie as tie
+use Rattle.measurelist.proofs.measure_spots.Reads as reads
+use Rattle.measurelist.proofs.measure_spots.Lts as lts
+use Rattle.measure.proofs.measure_array.Reads as measure-array-reads
+use Rattle.measurelist.proofs.measure_first.Reads as measure-first-reads
+
+-- src/lib.rt:72:9
+measure-array-requires : tie.Need-measure-array-requires
+measure-array-requires c κs = search needs
+
+-- src/lib.rt:72:9
+returns : tie.Need-returns
+returns c = search needs
+
+-- src/lib.rt:74:5
+measure-first-requires : tie.Need-measure-first-requires
+measure-first-requires c κs = search needs
+
+-- src/lib.rt:68:1
+returns-2 : tie.Need-returns-2
+returns-2 c = search (needs, first-measured)
+
+pub measure-spots-spec : {M : Type 1} → statement M
+measure-spots-spec =
+    tie.close (tie.spec measure-array-requires returns measure-first-requires returns-2)

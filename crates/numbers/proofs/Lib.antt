@@ -1,0 +1,5 @@
+pub mod Sums
+pub mod Terms
+pub mod Spreads
+pub mod Differences
+pub mod Stores

@@ -1,0 +1,1 @@
+// Sums and spreads of natural numbers: no function is declared here.

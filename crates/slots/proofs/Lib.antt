@@ -1,0 +1,11 @@
+pub mod Pairs
+pub mod Keeping
+pub mod Lengths
+pub mod Matches
+pub mod Amounting
+pub mod Flowing
+pub mod Answering
+pub mod Fitting
+pub mod Counting
+pub mod Fineness
+pub mod Whole

@@ -1,0 +1,4 @@
+pub mod Slots
+pub mod Amounts
+pub mod Fit
+pub mod Axes
