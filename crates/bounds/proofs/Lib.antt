@@ -11,3 +11,4 @@ pub mod Idle
 pub mod Oversize
 pub mod Answers
 pub mod Starts
+pub mod Lattice

@@ -3,3 +3,4 @@ pub mod Terms
 pub mod Spreads
 pub mod Differences
 pub mod Stores
+pub mod Lattice

@@ -136,7 +136,7 @@ sizes-most d [] h i l = absurd (omega arith)
 sizes-most d (m ∷ ms) h zero l = mac-side d m (h 0 l)
 sizes-most d (m ∷ ms) h (suc i) l = sizes-most d ms (rest-macs m ms h) i (omega arith)
 
-die-most : (d : Direction) (c : Chip) → Valid c → dieSide d (c .die) ≤ 1024
+pub die-most : (d : Direction) (c : Chip) → Valid c → dieSide d (c .die) ≤ 1024
 die-most horizontal c v = v .dieW .high
 die-most vertical c v = v .dieH .high
 

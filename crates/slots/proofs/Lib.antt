@@ -9,3 +9,4 @@ pub mod Fitting
 pub mod Counting
 pub mod Fineness
 pub mod Whole
+pub mod Smallest

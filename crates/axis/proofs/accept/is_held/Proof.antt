@@ -1,0 +1,48 @@
+use borrow.Author.Needs.{needs}
+use Rattle.axis.proofs.HeldAxes.{shaped, frame-no, frame-n, frame-p, frame-t, sizes-not, pairs-not, held-test}
+use borrow.Author.Needs.{needs}
+use Rattle.axis.proofs.accept.is_held.Statement.{statement}
+use Rattle.axis.proofs.accept.is_held.Tie as tie
+use Rattle.axis.proofs.accept.is_held.Reads as reads
+use Rattle.axis.proofs.accept.is_held.Lts as lts
+use Rattle.axis.proofs.accept.frame_fine.Reads as frame-fine-reads
+use Rattle.axis.proofs.accept.nets_fine.Reads as nets-fine-reads
+use Rattle.axis.proofs.accept.pairs_fine.Reads as pairs-fine-reads
+use Rattle.axis.proofs.accept.sizes_fine.Reads as sizes-fine-reads
+
+frame-fine-requires : tie.Need-frame-fine-requires
+frame-fine-requires c κs = search needs
+
+returns : tie.Need-returns
+returns c = search (shaped, frame-no)
+
+sizes-fine-requires : tie.Need-sizes-fine-requires
+sizes-fine-requires c κs = search frame-n
+
+returns-2 : tie.Need-returns-2
+returns-2 c = search (shaped, sizes-not)
+
+pairs-fine-requires : tie.Need-pairs-fine-requires
+pairs-fine-requires c κs = search frame-p
+
+returns-3 : tie.Need-returns-3
+returns-3 c = search (shaped, pairs-not)
+
+nets-fine-requires : tie.Need-nets-fine-requires
+nets-fine-requires c κs = search frame-t
+
+returns-4 : tie.Need-returns-4
+returns-4 c = search (shaped, held-test)
+
+pub is-held-spec : {M : Type 1} → statement M
+is-held-spec =
+    tie.close
+    (tie.spec
+    frame-fine-requires
+    returns
+    sizes-fine-requires
+    returns-2
+    pairs-fine-requires
+    returns-3
+    nets-fine-requires
+    returns-4)

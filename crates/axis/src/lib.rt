@@ -1,0 +1,18 @@
+// One axis of a fit: bounds between nodes, nets with weights; the least values under the bounds, and of those the smallest.
+//
+// `service` solves an axis that is held as a value. `accept` tests it against the limits, `build` writes its slots and nets into
+// the arrays of a graph, `start` gives the values that the graph starts from.
+//
+// A graph has nodes with values and slots with bounds. `admit` adds bounds, or shows that no values keep them all; `drain`
+// sends a net's weight from its lower to its upper node along slots that are tight; `solve` does so for every net and makes
+// the values the smallest. All of them grow a set of nodes along tight slots (`growth`) and push amounts along it (`push`).
+mod accept;
+mod admit;
+mod build;
+mod drain;
+mod graph;
+mod growth;
+mod push;
+pub mod service;
+mod solve;
+mod start;

@@ -1,0 +1,178 @@
+// Solving an axis that is held as a value.
+//
+// An axis beyond the limits is malformed. A macro larger than the die has no place. Then the pairs' bounds are added one after
+// the other to those of the macros, or refuted; and with the nets' slots the least length and its smallest coordinates are found.
+use crate::accept::is_held;
+use crate::admit::admit_all;
+use crate::build::count_pins;
+use crate::build::put_ends;
+use crate::build::put_nets;
+use crate::build::put_pairs;
+use crate::build::put_sizes;
+use crate::build::spans;
+use crate::graph::Graph;
+use crate::graph::NODE_ROOM;
+use crate::graph::SLOT_ROOM;
+use crate::growth::FARTHEST;
+use crate::growth::rebase;
+use crate::solve::solve_axis;
+use crate::start::coordinates;
+use crate::start::start_values;
+use bounds::Axis;
+use bounds::Slot;
+ghost use mathlib.Core.Path.{_≡_};
+ghost use Prim.Native.Nat.{_≤_, _<_};
+ghost use Rattle.bounds.specs.Axis.{axisOf};
+ghost use Rattle.bounds.specs.Graph.{macroSlots};
+ghost use Rattle.bounds.specs.Held.{Held};
+ghost use Rattle.axis.specs.Admit.{Free};
+ghost use Rattle.axis.specs.Build.{slotsFrom, macroGraph, wholeGraph};
+ghost use Rattle.axis.specs.Service.{SolutionOk, NoneAbove, FirstAbove};
+
+// Malformed: beyond a limit. Unsolvable: no coordinates keep the bounds. Solved: the best coordinates are found.
+pub enum Verdict {
+    Malformed,
+    Unsolvable,
+    Solved,
+}
+
+// at: the macros' coordinates. amounts: what each listed slot carries, a flow where solved, a closed chain where unsolvable.
+pub struct Solution {
+    pub verdict: Verdict,
+    pub at: [u64; 8],
+    pub amounts: [u64; SLOT_ROOM],
+}
+
+// The first of n macros that is larger than the die, or n.
+fn first_above(sizes: [u64; 8], side: u64, n: usize) -> usize
+    requires { ⌜ n ≤ 8 ⌝ }
+    ensures { λ r. ⌜ FirstAbove side sizes n r ⌝ }
+{
+    let mut i: usize = 0;
+    while i < n {
+        if side < sizes[i] {
+            return i;
+        }
+        i += 1;
+    }
+    n
+}
+
+// The whole graph, from the slots of macros and pairs.
+fn whole_graph(a: Axis, ss: [Slot; SLOT_ROOM]) -> Graph
+    requires { ⌜ Held a ⌝ }
+    requires { ⌜ ss ≡ slotsFrom (macroSlots (axisOf a)) ⌝ }
+    ensures { λ r. ⌜ r ≡ wholeGraph (axisOf a) ⌝ }
+{
+    let nets = a.nets;
+    let pins = a.pins;
+    let c = count_pins(nets, a.t);
+    let at = 2 * a.n + a.p;
+    let end = at + 2 * c;
+    let h = a.n + 1;
+    let listed = put_nets(ss, at, a.base, h, nets, pins, a.t);
+    Graph {
+        n: h + 2 * a.t,
+        m: end + 2 * a.t,
+        slots: put_ends(listed, end, h, a.t),
+    }
+}
+
+// The nets, from the slots of macros and pairs and values that keep them.
+fn solve_nets(a: Axis, ss: [Slot; SLOT_ROOM], x: [u64; NODE_ROOM]) -> Solution
+    requires { ⌜ Held a ⌝ }
+    requires { ⌜ ss ≡ slotsFrom (macroSlots (axisOf a)) ⌝ }
+    requires { ⌜ Free (macroGraph (axisOf a)) x ⌝ }
+    ensures { λ r. ⌜ SolutionOk a (r .verdict) (r .at) (r .amounts) ⌝ }
+{
+    let nets = a.nets;
+    let pins = a.pins;
+    let g = whole_graph(a, ss);
+    let y = rebase(x, a.n + 1);
+    let z = start_values(y, a.n, a.base, nets, pins, a.t);
+    let e = spans(a.n, nets, a.t);
+    let r = solve_axis(g, z, e, a.t);
+    let v = r.x;
+    let f = r.f;
+    let at = coordinates(v, a.n);
+    Solution {
+        verdict: Verdict::Solved,
+        at,
+        amounts: f,
+    }
+}
+
+// The pairs, where no macro is larger than the die.
+fn solve_pairs(a: Axis) -> Solution
+    requires { ⌜ Held a ⌝ }
+    requires { ⌜ NoneAbove (a .side) (a .sizes) (a .n) ⌝ }
+    ensures { λ r. ⌜ SolutionOk a (r .verdict) (r .at) (r .amounts) ⌝ }
+{
+    let none = [Slot {
+        tail: 0,
+        head: 0,
+        plus: 0,
+        minus: 0,
+    }; SLOT_ROOM];
+    let from = 2 * a.n;
+    let to = from + a.p;
+    let sizes = a.sizes;
+    let pairs = a.pairs;
+    let die = put_sizes(none, a.side, sizes, a.n);
+    let all = put_pairs(die, from, pairs, a.p);
+    let g = Graph {
+        n: a.n + 1,
+        m: to,
+        slots: die,
+    };
+    let even = [FARTHEST; NODE_ROOM];
+    let s = admit_all(g, even, all, from, to);
+    let x = s.x;
+    let f = s.f;
+    let fits = s.fits;
+    if fits {
+        return solve_nets(a, all, x);
+    }
+    Solution {
+        verdict: Verdict::Unsolvable,
+        at: [0u64; 8],
+        amounts: f,
+    }
+}
+
+// Macro i is larger than the die: its two slots are a chain.
+fn too_large(a: Axis, i: usize) -> Solution
+    requires { ⌜ Held a ⌝ }
+    requires { ⌜ i < a .n ⌝ }
+    requires { ⌜ FirstAbove (a .side) (a .sizes) (a .n) i ⌝ }
+    ensures { λ r. ⌜ SolutionOk a (r .verdict) (r .at) (r .amounts) ⌝ }
+{
+    let mut f = [0u64; SLOT_ROOM];
+    let o = 2 * i;
+    f[o] = 1;
+    f[o + 1] = 1;
+    Solution {
+        verdict: Verdict::Unsolvable,
+        at: [0u64; 8],
+        amounts: f,
+    }
+}
+
+// The least length of the axis's nets under its bounds, and of the coordinates with that length the smallest.
+pub fn solve(a: Axis) -> Solution
+    ensures { λ r. ⌜ SolutionOk a (r .verdict) (r .at) (r .amounts) ⌝ }
+{
+    if !is_held(a) {
+        return Solution {
+            verdict: Verdict::Malformed,
+            at: [0u64; 8],
+            amounts: [0u64; SLOT_ROOM],
+        };
+    }
+    let sizes = a.sizes;
+    let i = first_above(sizes, a.side, a.n);
+    if i < a.n {
+        return too_large(a, i);
+    }
+    solve_pairs(a)
+}

@@ -1,0 +1,70 @@
+-- Corners made from coordinates, and the positions of a fit.
+use Prim.Native.Nat.{ℕ, zero, suc, _+_, _-_, _≤_, _<_}
+use mathlib.Core.Path.{_≡_, refl, sym, ap, subst, _∙_}
+use mathlib.Core.Bool.{Bool, true, _&&_}
+use mathlib.Core.List.{List, [], _∷_, _++_, map}
+use native.Mathlib.Omega.{arith}
+use lib.IntN.{pos}
+use lib.Signed.{leZ}
+use lib.ListN.{length, getD, take, replicate}
+use borrow.Author.Tests.{le-leb}
+use Rattle.model.specs.declared.Spot.{Spot}
+use Rattle.model.specs.Meaning.{blankSpot, firstOf}
+use Rattle.model.specs.Limits.{isWithin, placedCorner}
+use Rattle.slots.specs.declared.Direction.{Direction}
+use Rattle.slots.specs.declared.Direction.the-variants.{Horizontal as horizontal, Vertical as vertical}
+use Rattle.slots.specs.Axes.{cornerOn, cornersOn}
+use Rattle.measure.specs.Measuring.{inRange}
+use Rattle.fit.specs.Answer.{padded}
+use Rattle.fit.specs.Lists.{spotsOf}
+
+pub spots-length : (xs ys : List ℕ) → length xs ≡ length ys → length (spotsOf xs ys) ≡ length xs
+unfolding spotsOf
+spots-length [] ys e = refl
+spots-length (x ∷ xs) [] e = absurd (omega arith)
+spots-length (x ∷ xs) (y ∷ ys) e = let h = spots-length xs ys (omega arith) in omega arith
+
+pub take-spots : (n : ℕ) (xs ys : List ℕ) → take n (spotsOf xs ys) ≡ spotsOf (take n xs) (take n ys)
+unfolding spotsOf
+take-spots zero xs ys = refl
+take-spots (suc n) [] ys = refl
+take-spots (suc n) (x ∷ xs) [] = refl
+take-spots (suc n) (x ∷ xs) (y ∷ ys) = ap (λ (r : List Spot). record { x = x; y = y } ∷ r) (take-spots n xs ys)
+
+pub corners-x : (xs ys : List ℕ) → length xs ≡ length ys → cornersOn horizontal (spotsOf xs ys) ≡ xs
+unfolding spotsOf
+corners-x [] ys e = refl
+corners-x (x ∷ xs) [] e = absurd (omega arith)
+corners-x (x ∷ xs) (y ∷ ys) e = ap (λ (r : List ℕ). x ∷ r) (corners-x xs ys (omega arith))
+
+pub corners-y : (xs ys : List ℕ) → length xs ≡ length ys → cornersOn vertical (spotsOf xs ys) ≡ ys
+unfolding spotsOf
+corners-y [] [] e = refl
+corners-y [] (y ∷ ys) e = absurd (omega arith)
+corners-y (x ∷ xs) [] e = absurd (omega arith)
+corners-y (x ∷ xs) (y ∷ ys) e = ap (λ (r : List ℕ). y ∷ r) (corners-y xs ys (omega arith))
+
+-- coordinates within 0..1,024 make positions within range
+pub spots-in-range : (xs ys : List ℕ) → ((i : ℕ) → getD xs i 0 ≤ 1024) → ((i : ℕ) → getD ys i 0 ≤ 1024) → inRange (spotsOf xs ys) ≡ true
+unfolding spotsOf inRange
+spots-in-range [] ys h k = refl
+spots-in-range (x ∷ xs) [] h k = refl
+spots-in-range (x ∷ xs) (y ∷ ys) h k = rw (le-leb 0 x (omega arith), le-leb x 1024 (h 0), le-leb 0 y (omega arith), le-leb y 1024 (k 0), spots-in-range xs ys (λ i. h (suc i)) (λ i. k (suc i)))
+
+zeros : (xs ys : List ℕ) → length xs ≡ length ys → ((i : ℕ) → getD xs i 0 ≡ 0) → ((i : ℕ) → getD ys i 0 ≡ 0) → spotsOf xs ys ≡ replicate (length xs) blankSpot
+unfolding spotsOf
+zeros [] ys e h k = refl
+zeros (x ∷ xs) [] e h k = absurd (omega arith)
+zeros (x ∷ xs) (y ∷ ys) e h k =
+    let p : x ≡ 0 = h 0 in let q : y ≡ 0 = k 0 in
+    rw (p, q, zeros xs ys (omega arith) (λ i. h (suc i)) (λ i. k (suc i)))
+
+-- past n the coordinates are 0, so the first n corners are padded with 0,0
+pub spots-padded : (n : ℕ) (xs ys : List ℕ) → n ≤ length xs → length xs ≡ length ys → ((i : ℕ) → n ≤ i → getD xs i 0 ≡ 0) → ((i : ℕ) → n ≤ i → getD ys i 0 ≡ 0) → spotsOf xs ys ≡ spotsOf (take n xs) (take n ys) ++ replicate (length xs - n) blankSpot
+unfolding spotsOf
+spots-padded zero xs ys l e h k = zeros xs ys e (λ i. h i (omega arith)) (λ i. k i (omega arith)) ∙ ap (λ (m : ℕ). replicate m blankSpot) (let q : length xs ≡ length xs - 0 = omega arith in q)
+spots-padded (suc n) [] ys l e h k = absurd (omega arith)
+spots-padded (suc n) (x ∷ xs) [] l e h k = absurd (omega arith)
+spots-padded (suc n) (x ∷ xs) (y ∷ ys) l e h k =
+    ap (λ (r : List Spot). record { x = x; y = y } ∷ r) (spots-padded n xs ys (omega arith) (omega arith) (λ i m. h (suc i) (omega arith)) (λ i m. k (suc i) (omega arith)))
+    ∙ ap (λ (m : ℕ). record { x = x; y = y } ∷ (spotsOf (take n xs) (take n ys) ++ replicate m blankSpot)) (let q : length xs - n ≡ suc (length xs) - suc n = omega arith in q)

@@ -1,0 +1,172 @@
+-- From the test of a chip to the answer of its fit: the refusals of the chip, 11, 12 and 15, and the counts of letters and slots.
+use Prim.Native.Nat.{ℕ, _+_, _-_, _*_, _/_, _≤_, _<_}
+use mathlib.Core.Path.{_≡_, refl, sym, ap, subst, _∙_}
+use mathlib.Core.Bool.{Bool, true, false, not}
+use mathlib.Core.List.{List, [], _∷_, map}
+use native.Mathlib.Nat.{mul-le-mul}
+use native.Mathlib.Omega.{arith}
+use lib.Dec.{eqb}
+use lib.ListN.{length, drop, length-map, length-drop}
+use mir.Syntax.{w64}
+use mir.Val.{Fits}
+use borrow.Author.Tests.{eq-eqb, ne-eqb, le-leb, lt-leb, not-true, not-false}
+use Rattle.model.specs.declared.Fix.{Fix}
+use Rattle.model.specs.declared.Mac.{Mac}
+use Rattle.model.specs.declared.Net.{Net as HeldNet}
+use Rattle.model.specs.declared.Pin.{Pin as HeldPin}
+use Rattle.model.specs.declared.Chip.{Chip as HeldChip}
+use Rattle.model.specs.declared.Refusal.{Refusal}
+use Rattle.model.specs.declared.Tested.{Tested}
+use Rattle.model.specs.declared.Tested.the-variants as tested
+use Rattle.model.specs.Meaning.{Chip, firstOf, blankNet, blankPin, netsOf, chipOf}
+use Rattle.model.proofs.FirstOf.{length-first}
+use Rattle.model.proofs.Nets.{length-pins}
+use Rattle.grammar.specs.Reading.{Reading, accepted, refused}
+use Rattle.grammar.specs.Writing.{testedAs}
+use Rattle.chip.specs.Kind.{pinCount}
+use Rattle.chip.specs.Text.{readChip, chipText}
+use Rattle.chip.specs.Valid.{pinsBefore, Fine}
+use Rattle.chip.proofs.Accepted.{accepted-valid}
+use Rattle.chip.proofs.HeldNets.{before-first}
+use Rattle.chip.proofs.HeldMeaning.{fixes-held, macs-held}
+use Rattle.chip.proofs.HeldChip.{tested-fine}
+use Rattle.slots.specs.Fit.{Fit, refusedBy, areLetters, letterCount, slotCount, fitChip, fitLetters, Filled}
+use Rattle.fit.specs.declared.FitAnswer.{FitAnswer}
+use Rattle.fit.specs.declared.FitOutcome.the-variants as outcome
+use Rattle.fit.specs.Answer.{padded, answerFor}
+use Rattle.fit.specs.Results.{Passed, Asking, fitting, Answered}
+
+-- ---- a chip whose test is passed
+
+-- nets whose pins are in the list have as many as they say
+pins-all : (ts : List HeldNet) (ps : List HeldPin) → pinsBefore (length ts) ts ≤ length ps → pinCount (netsOf ts ps) ≡ pinsBefore (length ts) ts
+unfolding netsOf pinCount pinsBefore
+pins-all [] ps h = refl
+pins-all (t ∷ ts) ps h =
+    let p = length-pins (firstOf blankPin (t .pins) ps) in
+    let e = length-first blankPin (t .pins) ps (omega arith) in
+    let d = length-drop (t .pins) ps in
+    let i = pins-all ts (drop (t .pins) ps) (omega arith) in
+    omega arith
+
+-- a chip whose arrays are as long as its type says
+pub record Whole (c : HeldChip) : Type 0 where
+  pub fixes : length (c .fixes) ≡ 8
+  pub macs : length (c .macs) ≡ 8
+  pub nets : length (c .nets) ≡ 32
+  pub pins : length (c .pins) ≡ 128
+
+-- it is, since images of the arrays are that long
+pub whole : (c : HeldChip) (A B C D : Type 0) (f : Fix → A) (g : Mac → B) (h : HeldNet → C) (k : HeldPin → D) → length (map f (c .fixes)) ≡ 8 → length (map g (c .macs)) ≡ 8 → length (map h (c .nets)) ≡ 32 → length (map k (c .pins)) ≡ 128 → Whole c
+whole c A B C D f g h k p q r s =
+    record { fixes = sym (length-map (c .fixes) f) ∙ p; macs = sym (length-map (c .macs) g) ∙ q; nets = sym (length-map (c .nets) h) ∙ r; pins = sym (length-map (c .pins) k) ∙ s }
+
+module _ (c : HeldChip) (w : Whole c) where
+  pins-held : Fine c → pinCount (chipOf c .nets) ≡ pinsBefore (c .t) (c .nets)
+  unfolding chipOf
+  pins-held v =
+      let F : List HeldNet = firstOf blankNet (c .t) (c .nets) in
+      let a = v .netCount in
+      let b = v .pins in
+      let x = w .nets in
+      let y = w .pins in
+      let n : length F ≡ c .t = length-first blankNet (c .t) (c .nets) (omega arith) in
+      let s : pinsBefore (length F) F ≡ pinsBefore (c .t) (c .nets) = ap (λ (k : ℕ). pinsBefore k F) n ∙ before-first (c .t) (c .t) (c .nets) (omega arith) in
+      pins-all F (c .pins) (omega arith) ∙ s
+
+  passed-read : accepted (chipOf c) ≡ readChip (chipText (chipOf c)) → Passed c
+  passed-read e =
+      let v : Fine c = tested-fine c (w .fixes) (w .macs) (w .nets) (w .pins) e in
+      record {
+        read = e;
+        fine = v;
+        valid = accepted-valid (chipText (chipOf c)) (chipOf c) (sym e);
+        fixes = fixes-held c v (w .fixes);
+        macs = macs-held c v (w .macs);
+        pins = pins-held v;
+      }
+
+  pub test-passed : (t : Tested) → testedAs (chipOf c) t ≡ readChip (chipText (chipOf c)) → t ≡ tested.Passed → Passed c
+  test-passed t e q = passed-read (ap (testedAs (chipOf c)) (sym q) ∙ e)
+
+-- ---- a refusal: nothing is written
+
+module _ (c : HeldChip) (s : List ℕ) (room : ℕ) where
+  refused-so : (number line : ℕ) → fitLetters (chipOf c) s room ≡ refusedBy number line → (r : FitAnswer) → r ≡ answerFor (refusedBy number line) → (list : List ℕ) → Answered c s (fitLetters (chipOf c) s room) r list list
+  refused-so number line q r e list =
+      record { answer = e ∙ ap answerFor (sym q); list = subst (λ (f : Fit). Filled (chipOf c) s f list list) (sym q) refl }
+
+  test-fit : (f : Refusal) → refused (f .no) (f .line) ≡ readChip (chipText (chipOf c)) → fitLetters (chipOf c) s room ≡ refusedBy (f .no) (f .line)
+  unfolding fitLetters
+  test-fit f e = ap (λ (t : Reading Chip). fitChip t s room) (sym e)
+
+  pub test-refused : (t : Tested) → testedAs (chipOf c) t ≡ readChip (chipText (chipOf c)) → (f : Refusal) → t ≡ tested.Refused f → (r : FitAnswer) → r ≡ record { outcome = outcome.Refused f; spots = padded [] } → (list : List ℕ) → Answered c s (fitLetters (chipOf c) s room) r list list
+  test-refused t e f q r o list = refused-so (f .no) (f .line) (test-fit f (ap (testedAs (chipOf c)) (sym q) ∙ e)) r o list
+
+-- ---- a chip whose test is passed
+
+module _ (c : HeldChip) (p : ℕ) where
+  few-letters : c .n ≤ 8 → c .k ≤ 8 → p ≡ c .n * (c .n - 1) / 2 + c .n * c .k → p ≤ 96
+  few-letters h g e =
+      let o : c .n - 1 ≤ 7 = omega arith in
+      let a : c .n * (c .n - 1) ≤ 8 * 7 = mul-le-mul h o in
+      let b : c .n * c .k ≤ 8 * 8 = mul-le-mul h g in
+      omega arith
+
+module _ (c : HeldChip) (pass : Passed c) (p : ℕ) (ep : p ≡ c .n * (c .n - 1) / 2 + c .n * c .k) where
+  count-p : p ≡ letterCount (chipOf c)
+  count-p = ep ∙ rw (pass .macs, pass .fixes)
+
+  p-most : p ≤ 96
+  p-most = few-letters c p (pass .fine .macCount) (pass .fine .fixCount) ep
+
+  module _ (q : ℕ) (eq : q ≡ pinsBefore (c .t) (c .nets)) where
+    abbrev m : ℕ
+    m = 2 * c .n + p + 2 * q
+
+    m-most : m ≤ 456
+    m-most = let a = pass .fine .macCount in let b = p-most in let d = pass .fine .pins in omega arith
+
+    pub fit-both : Fits w64 (m + m)
+    fit-both = let a = m-most in omega arith
+
+    count-m : m + m ≡ slotCount (chipOf c)
+    count-m = let a = count-p in let b = pass .macs in let d = pass .pins in omega arith
+
+    pub asks : (s : List ℕ) → length s ≡ p → Asking c s m
+    asks s el = record { passed = pass; letters = el ∙ count-p; slots = count-m; few = m-most }
+
+  module _ (s list : List ℕ) where
+    abbrev room : ℕ
+    room = length list
+
+    fit-as : fitLetters (chipOf c) s room ≡ fitChip (accepted (chipOf c)) s room
+    unfolding fitLetters
+    fit-as = ap (λ (t : Reading Chip). fitChip t s room) (sym (pass .read))
+
+    pub wrong-count : (length s ≡ p → ⊥) → (r : FitAnswer) → r ≡ answerFor (refusedBy 11 0) → Answered c s (fitLetters (chipOf c) s room) r list list
+    wrong-count n r e =
+        refused-so c s room 11 0 (fit-as ∙ rw (ne-eqb (length s) (letterCount (chipOf c)) (λ o. n (o ∙ sym count-p)))) r e list
+
+    module _ (el : length s ≡ p) (b : Bool) (eb : b ≡ areLetters s) where
+      counted : eqb (length s) (letterCount (chipOf c)) ≡ true
+      counted = eq-eqb (length s) (letterCount (chipOf c)) (el ∙ count-p)
+
+      pub wrong-letter : not b ≡ true → (r : FitAnswer) → r ≡ answerFor (refusedBy 12 0) → Answered c s (fitLetters (chipOf c) s room) r list list
+      wrong-letter n r e =
+          let f : areLetters s ≡ false = sym eb ∙ not-true b n in
+          refused-so c s room 12 0 (fit-as ∙ rw (counted, f)) r e list
+
+      module _ (n : not b ≡ false) (q : ℕ) (eq : q ≡ pinsBefore (c .t) (c .nets)) where
+        fine-letters : areLetters s ≡ true
+        fine-letters = sym eb ∙ not-false b n
+
+        pub short-list : room < m q eq + m q eq → (r : FitAnswer) → r ≡ answerFor (refusedBy 15 0) → Answered c s (fitLetters (chipOf c) s room) r list list
+        short-list l r e =
+            let o : room < slotCount (chipOf c) = subst (λ (k : ℕ). room < k) (count-m q eq) l in
+            refused-so c s room 15 0 (fit-as ∙ rw (counted, fine-letters, lt-leb (slotCount (chipOf c)) room o)) r e list
+
+        pub fitted : m q eq + m q eq ≤ room → (r : FitAnswer) (exit : List ℕ) → Answered c s (fitting c s) r list exit → Answered c s (fitLetters (chipOf c) s room) r list exit
+        fitted l r exit a =
+            let o : slotCount (chipOf c) ≤ room = subst (λ (k : ℕ). k ≤ room) (count-m q eq) l in
+            subst (λ (f : Fit). Answered c s f r list exit) (sym (fit-as ∙ rw (counted, fine-letters, le-leb (slotCount (chipOf c)) room o))) a

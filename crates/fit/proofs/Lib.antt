@@ -1,0 +1,10 @@
+pub mod Copies
+pub mod Asking
+pub mod Pairing
+pub mod MadeAxes
+pub mod Leaves
+pub mod Listing
+pub mod Corners
+pub mod Fits
+pub mod Directions
+pub mod Entering

@@ -1,0 +1,65 @@
+use Rattle.fit.proofs.Entering.{Whole, whole, test-passed, test-refused}
+use borrow.Author.Needs.{needs}
+use Rattle.fit.proofs.fit_letters.Statement.{statement}
+use Rattle.fit.proofs.fit_letters.Tie as tie
+use Rattle.fit.proofs.fit_letters.Reads as reads
+use Rattle.fit.proofs.fit_letters.Lts as lts
+use Rattle.chipwriter.proofs.test_chip.Reads as test-chip-reads
+use Rattle.fit.proofs.bare.Reads as bare-reads
+use Rattle.fit.proofs.fit_passed.Reads as fit-passed-reads
+
+-- the chip's arrays are as long as its type says
+shape : (t : lts.Start (test-chip-reads.Asked, test-chip-reads.Learnt, bare-reads.Asked, bare-reads.Learnt, fit-passed-reads.Asked, fit-passed-reads.Learnt) reads.Pre reads.Post) → Whole (t .args .c)
+shape t = search whole
+
+-- src/lib.rt:307:9
+test-chip-requires : tie.Need-test-chip-requires
+test-chip-requires c κs = search needs
+
+-- src/lib.rt:309:25
+enum-known-tested : tie.Need-enum-known-tested
+enum-known-tested c = search needs
+
+-- src/lib.rt:309:31
+bare-requires : tie.Need-bare-requires
+bare-requires c κs = search needs
+
+-- src/lib.rt:310:50
+enum-told : tie.Need-enum-told
+enum-told c = search needs
+
+-- src/lib.rt:310:27
+fit-passed-requires : tie.Need-fit-passed-requires
+fit-passed-requires c κs =
+    let h = c .before .before .before in
+    let b = h .before .before .before in
+    test-passed _ (shape b) (h .test-chip .result) (h .test-chip .ensures) (c .before .enum-told .given .1)
+
+-- src/lib.rt:303:1
+returns : tie.Need-returns
+returns c =
+    let h = c .before .before .before .before in
+    let b = h .before .before .before in
+    let a = test-refused _ _ _ (h .test-chip .result) (h .test-chip .ensures) (c .before .before .tested .given .0 .0) (c .before .before .tested .given .1) _ (c .bare .ensures) _ in
+    (a .answer, a .list)
+
+-- src/lib.rt:303:1
+same-length : tie.Need-same-length
+same-length c = search needs
+
+-- src/lib.rt:303:1
+returns-2 : tie.Need-returns-2
+returns-2 c = search needs
+
+pub fit-letters-spec : {M : Type 1} → statement M
+fit-letters-spec =
+    tie.close
+    (tie.spec
+    test-chip-requires
+    enum-known-tested
+    bare-requires
+    enum-told
+    fit-passed-requires
+    returns
+    same-length
+    returns-2)

@@ -1,0 +1,32 @@
+use Rattle.fit.proofs.Asking.{asks-before, asks-after, asks-nothing}
+use borrow.Author.Needs.{needs}
+use Rattle.fit.proofs.pairslots.asked_by.Statement.{statement}
+use Rattle.fit.proofs.pairslots.asked_by.Tie as tie
+use Rattle.fit.proofs.pairslots.asked_by.Reads as reads
+use Rattle.fit.proofs.pairslots.asked_by.Lts as lts
+use Rattle.fit.proofs.pairslots.letter_after.Reads as letter-after-reads
+use Rattle.fit.proofs.pairslots.letter_before.Reads as letter-before-reads
+
+-- src/pairslots.rt:45:18
+letter-before-requires : tie.Need-letter-before-requires
+letter-before-requires c κs = search needs
+
+-- src/pairslots.rt:46:9
+returns : tie.Need-returns
+returns c = search asks-before
+
+-- src/pairslots.rt:48:18
+letter-after-requires : tie.Need-letter-after-requires
+letter-after-requires c κs = search needs
+
+-- src/pairslots.rt:49:9
+returns-2 : tie.Need-returns-2
+returns-2 c = search asks-after
+
+-- src/pairslots.rt:42:1
+returns-3 : tie.Need-returns-3
+returns-3 c = search asks-nothing
+
+pub asked-by-spec : {M : Type 1} → statement M
+asked-by-spec =
+    tie.close (tie.spec letter-before-requires returns letter-after-requires returns-2 returns-3)

@@ -1,0 +1,84 @@
+use borrow.Author.Needs.{needs}
+use Prim.Native.Nat.{_-_, _≤_}
+use lib.ListN.{length}
+use Rattle.fit.proofs.Pairing.{Written, none-written, few-letters, slot-place, pair-reached, slot-written, all-written}
+use Rattle.fit.proofs.pairslots.pair_slots.Statement.{statement}
+use Rattle.fit.proofs.pairslots.pair_slots.Tie as tie
+use Rattle.fit.proofs.pairslots.pair_slots.Reads as reads
+use Rattle.fit.proofs.pairslots.pair_slots.Lts as lts
+use Rattle.fit.proofs.pairslots.asked_by.Reads as asked-by-reads
+use Rattle.fit.proofs.pairslots.slot_at.Reads as slot-at-reads
+
+-- s slots are written, and the cursor is at the pair of letter s
+abbrev Inv-loop : tie.InvT-loop
+Inv-loop macs n fixes k letters d pairs₀ at₀ s₀ pairs at s = (s ≤ length letters) × Written d macs n fixes k letters pairs at s
+
+abbrev μ-loop : tie.MeasureT-loop
+μ-loop macs n fixes k letters d pairs₀ at₀ s₀ pairs at s = length letters - s
+
+-- src/pairslots.rt:141:9
+first-pair-requires : tie.Need-first-pair-requires Inv-loop μ-loop
+first-pair-requires c κs = search needs
+
+-- src/pairslots.rt:143:5
+loop-holds : tie.Need-loop-holds Inv-loop μ-loop
+loop-holds c = (search needs, search (needs, none-written))
+
+-- src/pairslots.rt:144:41
+shared-slice-read-asked-by : tie.Need-shared-slice-read-asked-by Inv-loop μ-loop
+shared-slice-read-asked-by c = search needs
+
+-- src/pairslots.rt:144:32
+asked-by-requires : tie.Need-asked-by-requires Inv-loop μ-loop
+asked-by-requires c κs = search needs
+
+-- src/pairslots.rt:144:20
+slot-at-requires : tie.Need-slot-at-requires Inv-loop μ-loop
+slot-at-requires c κs = search (needs, pair-reached)
+
+-- src/pairslots.rt:144:9
+mul-pairs : tie.Need-mul-pairs Inv-loop μ-loop
+mul-pairs c = search (needs, slot-place)
+
+-- src/pairslots.rt:144:9
+array-set-from-pairs : tie.Need-array-set-from-pairs Inv-loop μ-loop
+array-set-from-pairs c = search (needs, few-letters)
+
+-- src/pairslots.rt:145:9
+next-pair-requires : tie.Need-next-pair-requires Inv-loop μ-loop
+next-pair-requires c κs = search needs
+
+-- src/pairslots.rt:146:9
+add-s : tie.Need-add-s Inv-loop μ-loop
+add-s c = search needs
+
+-- src/pairslots.rt:143:5
+loop-less : tie.Need-loop-less Inv-loop μ-loop
+loop-less c = search needs
+
+-- src/pairslots.rt:143:5
+loop-again : tie.Need-loop-again Inv-loop μ-loop
+loop-again c = (search needs, search (needs, slot-written))
+
+-- src/pairslots.rt:124:1
+returns : tie.Need-returns Inv-loop μ-loop
+returns c = search (needs, all-written)
+
+pub pair-slots-spec : {M : Type 1} → statement M
+pair-slots-spec =
+    tie.close
+    (tie.spec
+    Inv-loop
+    μ-loop
+    first-pair-requires
+    loop-holds
+    shared-slice-read-asked-by
+    asked-by-requires
+    slot-at-requires
+    mul-pairs
+    array-set-from-pairs
+    next-pair-requires
+    add-s
+    loop-less
+    loop-again
+    returns)

@@ -1,0 +1,62 @@
+use borrow.Author.Needs.{needs}
+use Rattle.chip.specs.Valid.{pinsBefore}
+use mathlib.Core.Path.{_≡_}
+use Prim.Native.Nat.{ℕ, _+_, _-_, _≤_}
+use Rattle.fit.proofs.Leaves.{pins-none, pins-more, pins-fit, pins-all}
+use Rattle.fit.proofs.pin_total.Statement.{statement}
+use Rattle.fit.proofs.pin_total.Tie as tie
+use Rattle.fit.proofs.pin_total.Reads as reads
+use Rattle.fit.proofs.pin_total.Lts as lts
+
+abbrev Inv-loop : tie.InvT-loop
+Inv-loop t nets q₀ j₀ q j = (j ≤ t) × (q ≡ pinsBefore j nets)
+
+abbrev μ-loop : tie.MeasureT-loop
+μ-loop t nets q₀ j₀ q j = t - j
+
+-- src/lib.rt:103:5
+loop-holds : tie.Need-loop-holds Inv-loop μ-loop
+loop-holds c = (search needs, search pins-none)
+
+-- src/lib.rt:104:19
+mul-net : tie.Need-mul-net Inv-loop μ-loop
+mul-net c = search needs
+
+-- src/lib.rt:104:19
+array-copy-out-net : tie.Need-array-copy-out-net Inv-loop μ-loop
+array-copy-out-net c = search needs
+
+-- src/lib.rt:105:9
+add-q : tie.Need-add-q Inv-loop μ-loop
+add-q c = search (needs, pins-fit)
+
+-- src/lib.rt:106:9
+add-j : tie.Need-add-j Inv-loop μ-loop
+add-j c = search needs
+
+-- src/lib.rt:103:5
+loop-less : tie.Need-loop-less Inv-loop μ-loop
+loop-less c = search needs
+
+-- src/lib.rt:103:5
+loop-again : tie.Need-loop-again Inv-loop μ-loop
+loop-again c = (search needs, search pins-more)
+
+-- src/lib.rt:96:1
+returns : tie.Need-returns Inv-loop μ-loop
+returns c = search pins-all
+
+pub pin-total-spec : {M : Type 1} → statement M
+pin-total-spec =
+    tie.close
+    (tie.spec
+    Inv-loop
+    μ-loop
+    loop-holds
+    mul-net
+    array-copy-out-net
+    add-q
+    add-j
+    loop-less
+    loop-again
+    returns)

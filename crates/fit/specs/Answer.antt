@@ -1,0 +1,27 @@
+-- The program's answer for a fit (document 01, "The fit" and "Refusal table"): the number and the line of a refusal, no fit, or the wirelength and the number of slots of a placement; beside it the positions, 0,0 past the macros, and 0,0 everywhere without a placement.
+use Prim.Native.Nat.{ℕ, _-_}
+use mathlib.Core.List.{List, [], _∷_, _++_}
+use lib.ListN.{length, replicate}
+use Rattle.model.specs.declared.Spot.{Spot}
+use Rattle.model.specs.Meaning.{blankSpot}
+use Rattle.slots.specs.Fit.{Fit, refusedBy, noFit, placed}
+use Rattle.fit.specs.declared.FitOutcome.{FitOutcome}
+use Rattle.fit.specs.declared.FitOutcome.the-variants as outcome
+use Rattle.fit.specs.declared.FitAnswer.{FitAnswer}
+
+abbrev pub outcomeOf : Fit → FitOutcome
+outcomeOf (refusedBy number line) = outcome.Refused (record { no = number; line = line })
+outcomeOf noFit = outcome.NoFit
+outcomeOf (placed l count ps) = outcome.Placed (record { length = l; slots = count })
+
+abbrev pub positionsOf : Fit → List Spot
+positionsOf (refusedBy number line) = []
+positionsOf noFit = []
+positionsOf (placed l count ps) = ps
+
+-- the positions, then 0,0 up to 8 in all
+abbrev pub padded : List Spot → List Spot
+padded ps = ps ++ replicate (8 - length ps) blankSpot
+
+abbrev pub answerFor : Fit → FitAnswer
+answerFor f = record { outcome = outcomeOf f; spots = padded (positionsOf f) }

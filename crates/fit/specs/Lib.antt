@@ -1,0 +1,5 @@
+pub mod Answer
+pub mod Lists
+pub mod Axes
+pub mod Pairs
+pub mod Results

@@ -1,0 +1,153 @@
+// What a direction reads of a chip, as the axis that the solver takes.
+use crate::pairslots::pair_slots;
+use bounds::Axis;
+use bounds::AxisNet;
+use bounds::AxisPin;
+use model::Chip;
+use model::Die;
+use model::Fix;
+use model::Mac;
+use model::Net;
+use model::Pin;
+use slots::Direction;
+ghost use mathlib.Core.Path.{_≡_};
+ghost use mathlib.Core.List.{map};
+ghost use lib.ListN.{length};
+ghost use Rattle.model.specs.Meaning.{chipOf};
+ghost use Rattle.chip.specs.Valid.{Fine, Valid};
+ghost use Rattle.slots.specs.Slots.{dieSide, macSide, fixSide, fixCorner};
+ghost use Rattle.slots.specs.Fit.{letterCount};
+ghost use Rattle.fit.specs.Axes.{heldUp, heldPin, heldNet, Taken, AxisFor};
+
+pub(crate) fn die_side(die: Die, d: Direction) -> u64
+    ensures { λ r. ⌜ r ≡ dieSide d die ⌝ }
+{
+    match d {
+        Direction::Horizontal => die.w,
+        Direction::Vertical => die.h,
+    }
+}
+
+pub(crate) fn mac_side(m: Mac, d: Direction) -> u64
+    ensures { λ r. ⌜ r ≡ macSide d m ⌝ }
+{
+    match d {
+        Direction::Horizontal => m.w,
+        Direction::Vertical => m.h,
+    }
+}
+
+pub(crate) fn fix_side(f: Fix, d: Direction) -> u64
+    ensures { λ r. ⌜ r ≡ fixSide d f ⌝ }
+{
+    match d {
+        Direction::Horizontal => f.w,
+        Direction::Vertical => f.h,
+    }
+}
+
+pub(crate) fn fix_corner(f: Fix, d: Direction) -> u64
+    ensures { λ r. ⌜ r ≡ fixCorner d f ⌝ }
+{
+    match d {
+        Direction::Horizontal => f.x,
+        Direction::Vertical => f.y,
+    }
+}
+
+// A pin's place, 4,096 higher.
+fn pin_up(p: Pin, d: Direction) -> u64
+    ensures { λ r. ⌜ r ≡ heldUp d p ⌝ }
+{
+    match d {
+        Direction::Horizontal => p.xup,
+        Direction::Vertical => p.yup,
+    }
+}
+
+fn mac_sides(macs: [Mac; 8], d: Direction) -> [u64; 8]
+    ensures { λ r. ⌜ r ≡ map (macSide d) macs ⌝ }
+{
+    let mut sizes = [0u64; 8];
+    let mut i: usize = 0;
+    while i < 8 {
+        let m = macs[i];
+        sizes[i] = mac_side(m, d);
+        i += 1;
+    }
+    sizes
+}
+
+fn axis_pins(pins: [Pin; 128], d: Direction) -> [AxisPin; 128]
+    ensures { λ r. ⌜ r ≡ map (heldPin d) pins ⌝ }
+{
+    let mut on = [AxisPin { node: 0, up: 0 }; 128];
+    let mut i: usize = 0;
+    while i < 128 {
+        let p = pins[i];
+        on[i] = AxisPin {
+            node: p.m,
+            up: pin_up(p, d),
+        };
+        i += 1;
+    }
+    on
+}
+
+fn axis_nets(nets: [Net; 32]) -> [AxisNet; 32]
+    ensures { λ r. ⌜ r ≡ map heldNet nets ⌝ }
+{
+    let mut on = [AxisNet { weight: 0, pins: 0 }; 32];
+    let mut j: usize = 0;
+    while j < 32 {
+        let net = nets[j];
+        on[j] = AxisNet {
+            weight: net.weight,
+            pins: net.pins,
+        };
+        j += 1;
+    }
+    on
+}
+
+// The axis of a direction, from the parts of a chip.
+fn axis_parts(
+    die: Die,
+    k: usize,
+    fixes: [Fix; 8],
+    n: usize,
+    macs: [Mac; 8],
+    t: usize,
+    nets: [Net; 32],
+    pins: [Pin; 128],
+    letters: &[u8],
+    d: Direction,
+) -> Axis
+    requires { ⌜ Taken (record { die = die; k = k; fixes = fixes; n = n; macs = macs; t = t; nets = nets; pins = pins }) (now letters) ⌝ }
+    ensures { λ r. ⌜ AxisFor (record { die = die; k = k; fixes = fixes; n = n; macs = macs; t = t; nets = nets; pins = pins }) (now (letters .entry)) d r ⌝ }
+{
+    Axis {
+        side: die_side(die, d),
+        n,
+        sizes: mac_sides(macs, d),
+        p: letters.len(),
+        pairs: pair_slots(macs, n, fixes, k, letters, d),
+        base: 4096,
+        t,
+        nets: axis_nets(nets),
+        pins: axis_pins(pins, d),
+    }
+}
+
+// The axis of a direction of a chip whose test is passed, with one letter for each pair.
+pub(crate) fn axis_of(c: Chip, letters: &[u8], d: Direction) -> Axis
+    requires { ⌜ Fine c × Valid (chipOf c) × (length (now letters) ≡ letterCount (chipOf c)) ⌝ }
+    ensures { λ r. ⌜ AxisFor c (now (letters .entry)) d r ⌝ }
+{
+    let die = c.die;
+    let fixes = c.fixes;
+    let macs = c.macs;
+    let nets = c.nets;
+    let pins = c.pins;
+    axis_parts(die, c.k, fixes, c.n, macs, c.t, nets, pins, letters, d)
+}

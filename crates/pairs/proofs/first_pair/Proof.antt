@@ -1,0 +1,16 @@
+use Rattle.pairs.proofs.Cursors.{first-macs, first-fixes}
+use Rattle.pairs.proofs.first_pair.Statement.{statement}
+use Rattle.pairs.proofs.first_pair.Tie as tie
+use Rattle.pairs.proofs.first_pair.Reads as reads
+use Rattle.pairs.proofs.first_pair.Lts as lts
+
+-- src/lib.rt:16:9
+returns : tie.Need-returns
+returns c = search first-macs
+
+-- src/lib.rt:12:1
+returns-2 : tie.Need-returns-2
+returns-2 c = search first-fixes
+
+pub first-pair-spec : {M : Type 1} → statement M
+first-pair-spec = tie.close (tie.spec returns returns-2)

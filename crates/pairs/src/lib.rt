@@ -1,0 +1,83 @@
+// A cursor through the pairs of a chip, in the order of their letters.
+ghost use mathlib.Core.Path.{_≡_};
+ghost use Rattle.pairs.specs.Order.{First, isOn, nextOf};
+
+// A pair in the order of letters: macros i and j, or macro i and fix j, counted from 0.
+pub struct Cursor {
+    pub fix: bool,
+    pub i: usize,
+    pub j: usize,
+}
+
+pub fn first_pair(n: usize) -> Cursor
+    ensures { λ r. ⌜ First n r ⌝ }
+{
+    if 2 <= n {
+        return Cursor {
+            fix: false,
+            i: 0,
+            j: 1,
+        };
+    }
+    Cursor {
+        fix: true,
+        i: 0,
+        j: 0,
+    }
+}
+
+// Whether n macros and k fixes have the pair.
+fn on_pair(at: Cursor, n: usize, k: usize) -> bool
+    ensures { λ r. ⌜ r ≡ isOn n k (at .fix) (at .i) (at .j) ⌝ }
+{
+    let fix = at.fix;
+    let i = at.i;
+    let j = at.j;
+    if fix {
+        if i < n {
+            return j < k;
+        }
+        return false;
+    }
+    if i < j {
+        return j < n;
+    }
+    false
+}
+
+// The pair after the one at hand, with n macros and k fixes. A cursor that is on no pair stays as it is.
+pub fn next_pair(at: Cursor, n: usize, k: usize) -> Cursor
+    ensures { λ r. ⌜ r ≡ nextOf at n k ⌝ }
+{
+    if !on_pair(at, n, k) {
+        return at;
+    }
+    let fix = at.fix;
+    let i = at.i;
+    let j = at.j;
+    if fix {
+        if j + 1 < k {
+            return Cursor { fix, i, j: j + 1 };
+        }
+        return Cursor {
+            fix: true,
+            i: i + 1,
+            j: 0,
+        };
+    }
+    if j + 1 < n {
+        return Cursor { fix, i, j: j + 1 };
+    }
+    if i + 2 < n {
+        return Cursor {
+            fix: false,
+            i: i + 1,
+            j: i + 2,
+        };
+    }
+    Cursor {
+        fix: true,
+        i: 0,
+        j: 0,
+    }
+}

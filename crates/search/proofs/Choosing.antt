@@ -1,0 +1,198 @@
+-- The choice of a pair: the cursor is at the place of each letter in turn, and the boxes read there are the pair of that place.
+use Prim.Native.Nat.{ℕ, _+_, _-_, _≤_, _<_}
+use mathlib.Core.Path.{_≡_, refl, sym, ap, _∙_}
+use mathlib.Core.Bool.{Bool, true, false, not}
+use mathlib.Core.List.{List, []}
+use native.Mathlib.Decide.{ℕ-discrete}
+use native.Mathlib.Numerals.{add-one}
+use native.Mathlib.Omega.{arith}
+use lib.Dec.{ltb}
+use lib.ListN.{length, getD, take, List·getD-map}
+use lib.Seq.{length-take-le, getD-take}
+use borrow.Author.Tests.{lt-ltb, le-ltb, not-true, not-false}
+use Rattle.model.specs.declared.Fix.{Fix}
+use Rattle.model.specs.declared.Mac.{Mac}
+use Rattle.model.specs.declared.Spot.{Spot}
+use Rattle.model.specs.declared.Chip.{Chip as HeldChip}
+use Rattle.model.specs.Meaning.{Chip, chipOf, firstOf, blankFix, blankMac, blankSpot}
+use Rattle.model.proofs.FirstOf.{first-take}
+use Rattle.chip.specs.Valid.{Fine}
+use Rattle.placement.specs.Legal.{Box, apart}
+use Rattle.placement.specs.Letters.{Pair, pairs}
+use Rattle.slots.specs.Slots.{macFix, couplesOf}
+use Rattle.slots.specs.Fit.{letterCount}
+use Rattle.slots.proofs.Pairs.{pairOf, pairs-couples}
+use Rattle.slots.proofs.Counting.{letters-count}
+use Rattle.pairs.specs.declared.Cursor.{Cursor}
+use Rattle.pairs.specs.Order.{pairAt, coupleAt, OnPair, First, nextOf}
+use Rattle.pairs.proofs.Cursors.{on-near}
+use Rattle.pairs.proofs.Places.{AtPlace, place-first, place-on, place-next, place-couple, couple-taken}
+use Rattle.search.specs.Choice.{Small, overlaps, boxOf, secondOf, Near, SmallSpots, noPair, apartAt, Chosen, partsOf, Laid}
+
+-- two boxes overlap exactly when they are not apart
+pub overlaps-apart : (c : Chip) (a b : Box) → overlaps a b ≡ not (apart c a b)
+unfolding overlaps
+overlaps-apart c a b = refl
+
+module _ (macs : List Mac) (n : ℕ) (fixes : List Fix) (k : ℕ) (spots : List Spot) (p : ℕ) where
+  abbrev ms : List Mac
+  ms = take n macs
+
+  abbrev fs : List Fix
+  fs = take k fixes
+
+  abbrev ps : List Spot
+  ps = take n spots
+
+  -- a chip with these macros and fixes
+  abbrev bare : Chip
+  bare = record { die = record { w = 0; h = 0 }; fixes = fs; macs = ms; nets = [] }
+
+  abbrev apartHere : ℕ → Bool
+  apartHere s = apartAt bare (pairs bare ps) s
+
+  pub record Sized : Type 0 where
+    pub laid : Laid macs n fixes k spots p
+    pub macCount : length ms ≡ n
+    pub fixCount : length fs ≡ k
+    pub spotCount : length ps ≡ n
+    pub macsFirst : firstOf blankMac n macs ≡ ms
+    pub fixesFirst : firstOf blankFix k fixes ≡ fs
+    pub pairCount : p ≡ length (couplesOf ms fs)
+
+  sized : Laid macs n fixes k spots p → length macs ≡ 8 → length fixes ≡ 8 → length spots ≡ 8 → Sized
+  sized l lm lf ls =
+      let a = l .few in
+      let b = l .fewFixes in
+      let em = first-take blankMac n macs (omega arith) in
+      let ef = first-take blankFix k fixes (omega arith) in
+      record {
+        laid = l;
+        macCount = length-take-le n macs (omega arith);
+        fixCount = length-take-le k fixes (omega arith);
+        spotCount = length-take-le n spots (omega arith);
+        macsFirst = em;
+        fixesFirst = ef;
+        pairCount = l .count ∙ sym (letters-count (partsOf macs n fixes k)) ∙ rw (em, ef);
+      }
+
+  -- s pairs are seen, and best is the place of one that overlaps, or p
+  pub record Seen (at : Cursor) (s best most : ℕ) : Type 0 where
+    pub size : Sized
+    pub place : AtPlace ms fs at s
+    pub within : best ≤ p
+    pub overlap : best < p → apartHere best ≡ false
+    pub quiet : best ≡ p → most ≡ 0
+    pub apart : best ≡ p → (t : ℕ) → t < s → apartHere t ≡ true
+
+  pub none-seen : (r : Cursor) → Laid macs n fixes k spots p → length macs ≡ 8 → length fixes ≡ 8 → length spots ≡ 8 → First n r → Seen r 0 p 0
+  none-seen r l lm lf ls f =
+      let z = sized l lm lf ls in
+      let g : First (length ms) r = rw (z .macCount) f in
+      record { size = z; place = place-first ms fs r g; within = omega arith; overlap = λ h. absurd (omega arith); quiet = λ e. refl; apart = λ e t h. absurd (omega arith) }
+
+  module _ (at : Cursor) (s best most : ℕ) (w : Seen at s best most) (h : s < p) where
+    here : s < length (couplesOf ms fs)
+    here = let e = w .size .pairCount in omega arith
+
+    on : OnPair n k at
+    on = rw (w .size .macCount, w .size .fixCount) at (place-on ms fs at s (w .place) here)
+
+    pub pair-near : Near macs fixes spots at
+    pair-near =
+        let q = on-near n k at on (w .size .laid .few) (w .size .laid .fewFixes) in
+        record { i = q .0; j = q .1; first = w .size .laid .mac (at .i) inside; second = by (at .fix) refl }
+      where
+        inside : at .i < n
+        inside = by (at .fix) refl
+          where
+            by : (f : Bool) → at .fix ≡ f → at .i < n
+            by false e = let q = on .macs e in omega arith
+            by true e = on .fixes e .0
+
+        by : (f : Bool) → at .fix ≡ f → Small (secondOf macs fixes spots f (at .j))
+        by false e = w .size .laid .mac (at .j) (on .macs e .1)
+        by true e = w .size .laid .fix (at .j) (on .fixes e .1)
+
+    -- the pair of place s
+    abbrev taken : Pair
+    taken = record { first = boxOf macs spots (at .i); second = secondOf macs fixes spots (at .fix) (at .j) }
+
+    at-couple : pairOf ps (coupleAt macs fixes at) ≡ taken
+    at-couple = by (at .fix) refl
+      where
+        by : (f : Bool) → at .fix ≡ f → pairOf ps (pairAt macs fixes f (at .i) (at .j)) ≡ record { first = boxOf macs spots (at .i); second = secondOf macs fixes spots f (at .j) }
+        by false e = let q = on .macs e in rw (add-one (at .i), add-one (at .j), getD-take n spots (at .i) blankSpot (omega arith), getD-take n spots (at .j) blankSpot (omega arith))
+        by true e = let q = on .fixes e in rw (add-one (at .i), getD-take n spots (at .i) blankSpot (omega arith))
+
+    at-place : getD (pairs bare ps) s noPair ≡ taken
+    at-place =
+        ap (λ (t : List Pair). getD t s noPair) (pairs-couples bare ps (w .size .spotCount ∙ sym (w .size .macCount)))
+        ∙ List·getD-map (pairOf ps) (couplesOf ms fs) s (macFix 0 blankMac blankFix)
+        ∙ ap (pairOf ps) (place-couple ms fs at s (w .place) here (macFix 0 blankMac blankFix) ∙ sym (couple-taken macs fixes n k at on))
+        ∙ at-couple
+
+    module _ (v : ℕ) (ev : ltb 0 v ≡ overlaps (boxOf macs spots (at .i)) (secondOf macs fixes spots (at .fix) (at .j))) where
+      apart-not : not (apartHere s) ≡ ltb 0 v
+      apart-not = sym (ev ∙ overlaps-apart bare (taken .first) (taken .second) ∙ ap (λ (q : Pair). not (apart bare (q .first) (q .second))) (sym at-place))
+
+      scored-overlap : 0 < v → apartHere s ≡ false
+      scored-overlap g = not-true (apartHere s) (apart-not ∙ lt-ltb 0 v g)
+
+      scored-apart : v ≤ 0 → apartHere s ≡ true
+      scored-apart g = not-false (apartHere s) (apart-not ∙ le-ltb 0 v g)
+
+      module _ (r : Cursor) (er : r ≡ nextOf at n k) where
+        onward : AtPlace ms fs r (s + 1)
+        onward = rw er (rw (w .size .macCount, w .size .fixCount) at (place-next ms fs at s (w .place) here))
+
+        pub taken-seen : most < v → Seen r (s + 1) s v
+        taken-seen g = record {
+          size = w .size;
+          place = onward;
+          within = omega arith;
+          overlap = λ b. scored-overlap (omega arith);
+          quiet = λ e. absurd (omega arith);
+          apart = λ e. absurd (omega arith);
+        }
+
+        pub left-seen : v ≤ most → Seen r (s + 1) best most
+        left-seen g = record {
+          size = w .size;
+          place = onward;
+          within = w .within;
+          overlap = w .overlap;
+          quiet = w .quiet;
+          apart = λ e t b. by e t b (ℕ-discrete t s);
+        }
+          where
+            by : best ≡ p → (t : ℕ) → t < s + 1 → Dec (t ≡ s) → apartHere t ≡ true
+            by e t b (yes q) = let z = w .quiet e in rw q (scored-apart (omega arith))
+            by e t b (no q) = w .apart e t (omega arith)
+
+  pub all-chosen : (at : Cursor) (s best most : ℕ) → Seen at s best most → p ≤ s → Chosen (partsOf macs n fixes k) (take n spots) p best
+  all-chosen at s best most w h = record {
+    place = w .within;
+    overlap = λ g. same best (w .overlap g);
+    none = λ e t g. same t (w .apart e t (omega arith));
+  }
+    where
+      same : {b : Bool} (t : ℕ) → apartHere t ≡ b → apartAt (partsOf macs n fixes k) (pairs (partsOf macs n fixes k) ps) t ≡ b
+      same t e = rw (w .size .macsFirst, w .size .fixesFirst) e
+
+-- ---- the chip
+
+module _ (c : HeldChip) (spots : List Spot) (p : ℕ) where
+  pub all-laid : Fine c → p ≡ letterCount (chipOf c) → SmallSpots (c .n) spots → Laid (c .macs) (c .n) (c .fixes) (c .k) spots p
+  unfolding chipOf
+  all-laid f e s = record {
+    few = f .macCount;
+    fewFixes = f .fixCount;
+    count = e;
+    mac = λ i h. record { x = s .x i h; y = s .y i h; w = f .mac i h .w .high; h = f .mac i h .h .high };
+    fix = λ j h. let q = f .fix j h .x in let r = f .fix j h .y in record { x = omega arith; y = omega arith; w = f .fix j h .w .high; h = f .fix j h .h .high };
+  }
+
+  pub chip-chosen : (r : ℕ) → Chosen (partsOf (c .macs) (c .n) (c .fixes) (c .k)) (take (c .n) spots) p r → Chosen (chipOf c) (take (c .n) spots) p r
+  unfolding chipOf pairs
+  chip-chosen r h = record { place = h .place; overlap = h .overlap; none = h .none }

@@ -1,0 +1,104 @@
+-- The fit at hand: when it closes the branch, and what its choice of a pair means for the letters.
+use Prim.Native.Nat.{ℕ, _≤_, _<_}
+use mathlib.Core.Path.{_≡_, refl, sym, ap, subst, _∙_}
+use mathlib.Core.Bool.{Bool, true, false, not}
+use mathlib.Core.List.{List}
+use native.Mathlib.Omega.{arith}
+use lib.ListN.{length, getD, take}
+use borrow.Author.Tests.{not-true, not-false}
+use Rattle.model.specs.declared.Chip.{Chip as HeldChip}
+use Rattle.model.specs.declared.Record.{Record as HeldRecord}
+use Rattle.model.specs.declared.Outcome.{Outcome}
+use Rattle.model.specs.declared.Outcome.the-variants as outcome
+use Rattle.model.specs.declared.Spot.{Spot}
+use Rattle.model.specs.Meaning.{Chip, chipOf, firstOf, blankSpot, outcomeOf, recordOf}
+use Rattle.model.proofs.FirstOf.{first-take}
+use Rattle.chip.proofs.HeldNets.{getD-first}
+use Rattle.placement.specs.Letters.{Letter, dot, keepsLetters}
+use Rattle.placement.specs.Least.{found, fitOf}
+use Rattle.placement.proofs.Demand.{fit-found}
+use Rattle.branches.specs.Branch.{pick, better}
+use Rattle.branches.proofs.Betters.{Sized}
+use Rattle.branches.proofs.Closing.{letters-inside, closes, legal-closes}
+use Rattle.search.specs.Best.{resultOf, bestOf, CountIs, Counted, Told, Alike, Better}
+use Rattle.search.specs.Choice.{SmallSpots, Chosen}
+use Rattle.search.specs.Search.{Passed, lettersIn, Lettered, FitHeld, Searched}
+use Rattle.search.proofs.Deciding.{chosen-undecided, chosen-legal}
+use Rattle.search.proofs.Lettering.{letters-long}
+use Rattle.search.proofs.Records.{counted-sized}
+use Rattle.search.proofs.Nearby.{within-long, within-near}
+
+module _ (c : HeldChip) (letters : List ℕ) (p : ℕ) (here best : HeldRecord) (fit : FitHeld c letters p here) (counted : Counted (c .n) best) where
+  abbrev C : Chip
+  C = chipOf c
+
+  abbrev ls : List Letter
+  ls = lettersIn letters p
+
+  pub both-alike : Alike best here
+  both-alike = record { n = c .n; first = counted; second = fit .counted }
+
+  sized : Passed c → Sized (length (C .macs)) (bestOf best)
+  sized ok = subst (λ (m : ℕ). Sized m (bestOf best)) (sym (ok .macs)) (counted-sized (c .n) best counted)
+
+  -- the fit does not replace the best: nothing of the branch does
+  pub fit-closes : Passed c → (t : Bool) → pick t (bestOf here) (bestOf best) ≡ better (bestOf best) (bestOf here) → not t ≡ true → Searched c letters p best best
+  fit-closes ok t b q = record { is = sym (closes C ls (bestOf best) (sized ok) stays); counted = counted }
+    where
+      stays : better (bestOf best) (fitOf C ls) ≡ bestOf best
+      stays = ap (better (bestOf best)) (sym (fit .is)) ∙ (sym b ∙ ap (λ (u : Bool). pick u (bestOf here) (bestOf best)) (not-true t q))
+
+  -- the fit is a placement
+  module _ (ok : Passed c) (t : Bool) (told : Told t here) (q : not t ≡ false) where
+    held-found : (o : Outcome) → (o ≡ outcome.None → ⊥) → CountIs (c .n) o → (s : List Spot) → (l : ℕ) × (resultOf (outcomeOf o s) ≡ found l (firstOf blankSpot (c .n) s))
+    held-found outcome.None n k s = absurd (n refl)
+    held-found (outcome.Least wl m) n k s = (wl, ap (λ (j : ℕ). found wl (firstOf blankSpot j s)) k)
+
+    abbrev ps : List Spot
+    ps = take (c .n) (here .spots)
+
+    spots-are : firstOf blankSpot (c .n) (here .spots) ≡ ps
+    spots-are = let f = fit .counted .few in let w = fit .counted .whole in first-take blankSpot (c .n) (here .spots) (omega arith)
+
+    is-found : (l : ℕ) × (bestOf here ≡ found l ps)
+    unfolding bestOf recordOf
+    is-found = let r = held-found (here .outcome) (told .placed (not-false t q)) (fit .counted .count) (here .spots) in (r .0, r .1 ∙ ap (found (r .0)) spots-are)
+
+    fit-is : fitOf C ls ≡ found (is-found .0) ps
+    fit-is = sym (fit .is) ∙ is-found .1
+
+    keeps : keepsLetters C ls ps ≡ true
+    keeps = fit-found C ls (is-found .0) ps fit-is .passed
+
+    pub fit-near : SmallSpots (c .n) (here .spots)
+    fit-near = record { x = λ i h. at-x i h; y = λ i h. at-y i h }
+      where
+        long : length ps ≡ c .n
+        long = within-long C ps (letters-inside C ls ps keeps) ∙ ok .macs
+
+        same : (i : ℕ) → i < c .n → getD ps i blankSpot ≡ getD (here .spots) i blankSpot
+        same i h = ap (λ (s : List Spot). getD s i blankSpot) (sym spots-are) ∙ getD-first blankSpot (c .n) (here .spots) i h
+
+        at-x : (i : ℕ) → i < c .n → getD (here .spots) i blankSpot .x ≤ 1024
+        at-x i h = rw (same i h) at (within-near C ps (letters-inside C ls ps keeps) (ok .valid) .x i (omega (arith, long)))
+
+        at-y : (i : ℕ) → i < c .n → getD (here .spots) i blankSpot .y ≤ 1024
+        at-y i h = rw (same i h) at (within-near C ps (letters-inside C ls ps keeps) (ok .valid) .y i (omega (arith, long)))
+
+    -- a pair is chosen, or none where the fit is legal
+    module _ (s : ℕ) (chosen : Chosen C ps p s) where
+      pub chosen-less : (s ≡ p → ⊥) → s < p
+      chosen-less n = let a = chosen .place in omega arith
+
+      module _ (l : length letters ≡ 92) (e : Lettered c letters p) where
+        as-many : p ≡ length ls
+        as-many = let f = e .few in sym (letters-long letters p (omega arith))
+
+        pub legal-found : s ≡ p → (r : HeldRecord) → Better best here r → Searched c letters p best r
+        legal-found g r w = record {
+          is = w .is ∙ ap (better (bestOf best)) (is-found .1 ∙ sym (legal-closes C ls (is-found .0) ps fit-is (chosen-legal C ls ps p s keeps as-many chosen g)));
+          counted = w .counted (c .n) counted (fit .counted);
+        }
+
+        pub chosen-dot : (s ≡ p → ⊥) → getD ls s dot ≡ dot
+        chosen-dot n = chosen-undecided C ls ps p s keeps as-many chosen (chosen-less n)

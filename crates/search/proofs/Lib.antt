@@ -1,0 +1,17 @@
+pub mod Earlier
+pub mod Chosen
+pub mod Boxes
+pub mod Weighing
+pub mod Choosing
+pub mod Deciding
+pub mod Lettering
+pub mod Rests
+pub mod Records
+pub mod Visits
+pub mod FourKids
+pub mod Nearby
+pub mod Closings
+pub mod FitRecords
+pub mod RecordsRead
+pub mod Placing
+pub mod Demand3

@@ -1,0 +1,44 @@
+-- Placements within the die of a valid chip: each coordinate is at most 1,024.
+use Prim.Native.Nat.{ℕ, zero, suc, _+_, _≤_, _<_}
+use mathlib.Core.Path.{_≡_}
+use mathlib.Core.Bool.{true}
+use mathlib.Core.List.{List, [], _∷_}
+use native.Mathlib.Nat.{le-of-suc-le-suc}
+use native.Mathlib.Omega.{arith}
+use lib.Dec.{leb}
+use lib.ListN.{length, getD}
+use borrow.Author.Tests.{leb-true, eqb-true}
+use Rattle.model.specs.declared.Mac.{Mac}
+use Rattle.model.specs.declared.Spot.{Spot}
+use Rattle.model.specs.Meaning.{Chip, blankSpot}
+use Rattle.grammar.proofs.Lacks.{and-left, and-right}
+use Rattle.chip.specs.Valid.{Valid}
+use Rattle.placement.specs.Legal.{boxAt, boxes, inDie, allInDie, placesAll, within}
+use Rattle.placement.specs.Length.{Near}
+
+module _ (c : Chip) where
+  corner-in : (ms : List Mac) (ps : List Spot) → length ps ≡ length ms → allInDie c (boxes ms ps) ≡ true → (i : ℕ) → i < length ps → (getD ps i blankSpot .x ≤ c .die .w) × (getD ps i blankSpot .y ≤ c .die .h)
+  unfolding boxes allInDie
+  corner-in ms [] e h i g = absurd (omega arith)
+  corner-in [] (p ∷ ps) e h i g = absurd (omega arith)
+  corner-in (m ∷ ms) (p ∷ ps) e h zero g =
+      let a = and-left (inDie c (boxAt m p)) (allInDie c (boxes ms ps)) h in
+      let u = leb-true (p .x + m .w) (c .die .w) (and-left (leb (p .x + m .w) (c .die .w)) (leb (p .y + m .h) (c .die .h)) a) in
+      let v = leb-true (p .y + m .h) (c .die .h) (and-right (leb (p .x + m .w) (c .die .w)) (leb (p .y + m .h) (c .die .h)) a) in
+      (omega arith, omega arith)
+  corner-in (m ∷ ms) (p ∷ ps) e h (suc i) g = corner-in ms ps (omega arith) (and-right (inDie c (boxAt m p)) (allInDie c (boxes ms ps)) h) i (le-of-suc-le-suc g)
+
+  module _ (ps : List Spot) (h : within c ps ≡ true) where
+    pub within-long : length ps ≡ length (c .macs)
+    unfolding within
+    within-long = eqb-true (length ps) (length (c .macs)) (and-left (placesAll c ps) (allInDie c (boxes (c .macs) ps)) h)
+
+    inside : allInDie c (boxes (c .macs) ps) ≡ true
+    unfolding within
+    inside = and-right (placesAll c ps) (allInDie c (boxes (c .macs) ps)) h
+
+    pub within-near : Valid c → Near ps
+    within-near v = record {
+      x = λ i g. let q = corner-in (c .macs) ps within-long inside i g .0 in let d = v .dieW .high in omega arith;
+      y = λ i g. let q = corner-in (c .macs) ps within-long inside i g .1 in let d = v .dieH .high in omega arith;
+    }

@@ -1,0 +1,160 @@
+-- From the test or the reading of a chip to its record, and to what is written: in the form of the needs of the services.
+use Prim.Native.Nat.{ℕ, _+_, _-_, _*_, _/_, _≤_}
+use mathlib.Core.Path.{_≡_, refl, sym, ap, subst, _∙_}
+use mathlib.Core.List.{List, map}
+use native.Mathlib.Nat.{mul-le-mul}
+use native.Mathlib.Omega.{arith}
+use lib.ListN.{length, replicate, length-map}
+use mir.Syntax.{w64}
+use mir.Val.{Fits}
+use Rattle.model.specs.declared.Fix.{Fix}
+use Rattle.model.specs.declared.Mac.{Mac}
+use Rattle.model.specs.declared.Net.{Net}
+use Rattle.model.specs.declared.Pin.{Pin}
+use Rattle.model.specs.declared.Spot.{Spot}
+use Rattle.model.specs.declared.Chip.{Chip as HeldChip}
+use Rattle.model.specs.declared.Record.{Record as HeldRecord}
+use Rattle.model.specs.declared.Refusal.{Refusal}
+use Rattle.model.specs.declared.Tested.{Tested}
+use Rattle.model.specs.declared.Tested.the-variants as tested
+use Rattle.model.specs.Meaning.{Chip, Record, none, least, chipOf, recordOf}
+use Rattle.grammar.specs.Reading.{Reading, accepted}
+use Rattle.grammar.specs.Writing.{Written, testedAs, refuse, writeText}
+use Rattle.chip.specs.Text.{readChip, chipText}
+use Rattle.chip.specs.Valid.{Fine}
+use Rattle.chip.proofs.Accepted.{accepted-valid}
+use Rattle.chip.proofs.HeldChip.{tested-fine}
+use Rattle.chip.proofs.HeldMeaning.{fixes-held, macs-held}
+use Rattle.chip.proofs.ReadText.{read-text}
+use Rattle.chipreader.specs.declared.ChipAnswer.{ChipAnswer}
+use Rattle.chipreader.specs.declared.ChipAnswer.the-variants as answer
+use Rattle.chipreader.specs.Answer.{meant}
+use Rattle.record.specs.Text.{recordText, writeRecord}
+use Rattle.placement.specs.Letters.{pairs}
+use Rattle.placement.specs.Least.{Best, earliestLeast, bestRecord, chipRecord}
+use Rattle.slots.specs.Slots.{couples}
+use Rattle.slots.specs.Fit.{letterCount}
+use Rattle.slots.proofs.Counting.{letters-count}
+use Rattle.slots.proofs.Pairs.{pairOf, pairs-couples}
+use Rattle.branches.specs.Branch.{better, underLetters}
+use Rattle.branches.proofs.Betters.{nothing-better}
+use Rattle.branches.proofs.Branching.{all-dots}
+use Rattle.search.specs.Best.{resultOf, bestOf, Counted}
+use Rattle.search.specs.Search.{Passed, lettersIn, Lettered, noRecord, Searched}
+use Rattle.search.specs.Place.{searchChip, placeText, placeRead}
+use Rattle.search.proofs.Lettering.{dots-are, dots-in}
+use Rattle.search.proofs.Rests.{no-best}
+use Rattle.search.proofs.Records.{none-counted}
+use Rattle.search.proofs.RecordsRead.{chip-record-read}
+
+-- ---- how many letters
+
+pub no-letters : (n k : ℕ) → n ≡ 0 → 0 ≡ n * (n - 1) / 2 + n * k
+no-letters n k e = rw e (omega arith)
+
+module _ (n : ℕ) (h : n ≤ 8) where
+  few-pairs : n * (n - 1) ≤ 56
+  few-pairs = let l : n - 1 ≤ 7 = omega arith in mul-le-mul h l
+
+  pub pairs-fit : Fits w64 (n * (n - 1))
+  pairs-fit = let p = few-pairs in omega arith
+
+  module _ (k : ℕ) (l : k ≤ 8) where
+    few-fixed : n * k ≤ 64
+    few-fixed = mul-le-mul h l
+
+    pub fixed-fit : Fits w64 (n * k)
+    fixed-fit = let p = few-fixed in omega arith
+
+    pub letters-fit : Fits w64 (n * (n - 1) / 2 + n * k)
+    letters-fit = let p = few-pairs in let q = few-fixed in omega arith
+
+    few-letters : n * (n - 1) / 2 + n * k ≤ 92
+    few-letters = let p = few-pairs in let q = few-fixed in omega arith
+
+-- ---- the record of a chip whose test is passed
+
+module _ (c : HeldChip) (p : ℕ) (ok : Passed c) (e : p ≡ c .n * (c .n - 1) / 2 + c .n * c .k) where
+  count : p ≡ letterCount (chipOf c)
+  count = e ∙ rw (ok .macs, ok .fixes)
+
+  few : p ≤ 92
+  few = let q = few-letters (c .n) (ok .fine .macCount) (c .k) (ok .fine .fixCount) in omega arith
+
+  pub dots-lettered : Lettered c (replicate 92 46) p
+  dots-lettered = record { count = count; few = few; bytes = dots-are 92 p }
+
+  many : (ps : List Spot) → length ps ≡ length (chipOf c .macs) → length (pairs (chipOf c) ps) ≡ p
+  many ps l = ap (λ (t : List _). length t) (pairs-couples (chipOf c) ps l) ∙ (length-map (couples (chipOf c)) (pairOf ps) ∙ (letters-count (chipOf c) ∙ sym count))
+
+  best-is : (r : Record) → bestRecord (resultOf r) ≡ r
+  best-is none = refl
+  best-is (least wl ps) = refl
+
+  pub whole-record : (o r : HeldRecord) → o ≡ noRecord → Searched c (replicate 92 46) p o r → recordOf r ≡ chipRecord (chipOf c)
+  unfolding chipRecord bestOf
+  whole-record o r q w = sym (best-is (recordOf r)) ∙ ap bestRecord all
+    where
+      all : bestOf r ≡ earliestLeast (chipOf c)
+      all = w .is
+          ∙ (ap (λ (t : HeldRecord). better (bestOf t) (underLetters (chipOf c) (lettersIn (replicate 92 46) p))) q
+          ∙ (ap (λ (t : Best). better t (underLetters (chipOf c) (lettersIn (replicate 92 46) p))) no-best
+          ∙ (nothing-better (underLetters (chipOf c) (lettersIn (replicate 92 46) p))
+          ∙ (ap (underLetters (chipOf c)) (dots-in 92 p few) ∙ all-dots (chipOf c) p many))))
+
+pub start-counted : (c : HeldChip) (o : HeldRecord) → Passed c → o ≡ noRecord → Counted (c .n) o
+start-counted c o ok q = rw q (none-counted (c .n) (ok .fine .macCount))
+
+-- ---- a chip whose arrays are as long as its type says
+
+pub record Whole (c : HeldChip) : Type 0 where
+  pub fixes : length (c .fixes) ≡ 8
+  pub macs : length (c .macs) ≡ 8
+  pub nets : length (c .nets) ≡ 32
+  pub pins : length (c .pins) ≡ 128
+
+-- it is, since images of the arrays are that long
+pub whole : (c : HeldChip) (A B C D : Type 0) (f : Fix → A) (g : Mac → B) (h : Net → C) (k : Pin → D) → length (map f (c .fixes)) ≡ 8 → length (map g (c .macs)) ≡ 8 → length (map h (c .nets)) ≡ 32 → length (map k (c .pins)) ≡ 128 → Whole c
+whole c A B C D f g h k p q r s =
+    record { fixes = sym (length-map (c .fixes) f) ∙ p; macs = sym (length-map (c .macs) g) ∙ q; nets = sym (length-map (c .nets) h) ∙ r; pins = sym (length-map (c .pins) k) ∙ s }
+
+module _ (c : HeldChip) (w : Whole c) where
+  passed-by : accepted (chipOf c) ≡ readChip (chipText (chipOf c)) → Passed c
+  passed-by e =
+      let v : Fine c = tested-fine c (w .fixes) (w .macs) (w .nets) (w .pins) e in
+      record {
+        read = e;
+        fine = v;
+        valid = accepted-valid (chipText (chipOf c)) (chipOf c) (sym e);
+        fixes = fixes-held c v (w .fixes);
+        macs = macs-held c v (w .macs);
+      }
+
+  pub test-passed : (t : Tested) → testedAs (chipOf c) t ≡ readChip (chipText (chipOf c)) → t ≡ tested.Passed → Passed c
+  test-passed t e q = passed-by (ap (testedAs (chipOf c)) (sym q) ∙ e)
+
+  pub read-passed : (text : List ℕ) (a : ChipAnswer) → meant a c ≡ readChip text → a ≡ answer.Accepted → Passed c
+  read-passed text a e q = passed-by (sym (subst (λ (t : List ℕ). readChip t ≡ accepted (chipOf c)) (read-text text (chipOf c) read) read))
+    where
+      read : readChip text ≡ accepted (chipOf c)
+      read = sym e ∙ ap (λ (t : ChipAnswer). meant t c) q
+
+-- ---- what is written
+
+module _ (c : HeldChip) (ok : Passed c) (r : HeldRecord) (q : recordOf r ≡ chipRecord (chipOf c)) (out : List ℕ) where
+  -- the record is not refused when it is tested
+  written : (w : Written) → w ≡ writeRecord (recordOf r) out → w ≡ writeText (accepted (chipOf c)) (recordText (chipRecord (chipOf c))) out
+  written w e = e ∙ rw (q, chip-record-read (chipOf c) (ok .valid))
+
+  pub record-searched : (w : Written) → w ≡ writeRecord (recordOf r) out → w ≡ searchChip (chipOf c) out
+  record-searched w e = written w e ∙ ap (λ (t : Reading Chip). writeText t (recordText (chipRecord (chipOf c))) out) (ok .read)
+
+  pub record-placed : (text : List ℕ) (a : ChipAnswer) → meant a c ≡ readChip text → a ≡ answer.Accepted → (w : Written) → w ≡ writeRecord (recordOf r) out → w ≡ placeText text out
+  record-placed text a e g w o = written w o ∙ ap (λ (t : Reading Chip). placeRead t out) (ap (λ (t : ChipAnswer). meant t c) (sym g) ∙ e)
+
+module _ (c : HeldChip) (out : List ℕ) (f : Refusal) where
+  pub search-refused : (t : Tested) → testedAs (chipOf c) t ≡ readChip (chipText (chipOf c)) → t ≡ tested.Refused f → refuse (f .no) (f .line) out ≡ searchChip (chipOf c) out
+  search-refused t e q = ap (λ (s : Reading Chip). writeText s (recordText (chipRecord (chipOf c))) out) (ap (testedAs (chipOf c)) (sym q) ∙ e)
+
+  pub place-refused : (text : List ℕ) (a : ChipAnswer) → meant a c ≡ readChip text → a ≡ answer.Refused f → refuse (f .no) (f .line) out ≡ placeText text out
+  place-refused text a e q = ap (λ (s : Reading Chip). placeRead s out) (ap (λ (t : ChipAnswer). meant t c) (sym q) ∙ e)

@@ -1,0 +1,22 @@
+use Rattle.search.proofs.Chosen.{other-better, best-better}
+use borrow.Author.Needs.{needs}
+use Rattle.search.proofs.best.better_record.Statement.{statement}
+use Rattle.search.proofs.best.better_record.Tie as tie
+use Rattle.search.proofs.best.better_record.Reads as reads
+use Rattle.search.proofs.best.better_record.Lts as lts
+use Rattle.search.proofs.best.replaces_best.Reads as replaces-best-reads
+
+-- src/best.rt:58:8
+replaces-best-requires : tie.Need-replaces-best-requires
+replaces-best-requires c κs = search needs
+
+-- src/best.rt:59:9
+returns : tie.Need-returns
+returns c = search other-better
+
+-- src/best.rt:54:1
+returns-2 : tie.Need-returns-2
+returns-2 c = search best-better
+
+pub better-record-spec : {M : Type 1} → statement M
+better-record-spec = tie.close (tie.spec replaces-best-requires returns returns-2)

@@ -1,0 +1,22 @@
+use Rattle.search.proofs.FourKids.{stored}
+use borrow.Author.Needs.{needs}
+use Rattle.search.proofs.branch.decided.Statement.{statement}
+use Rattle.search.proofs.branch.decided.Tie as tie
+use Rattle.search.proofs.branch.decided.Reads as reads
+use Rattle.search.proofs.branch.decided.Lts as lts
+use Rattle.search.proofs.branch.letter.Reads as letter-reads
+
+-- src/branch.rt:58:13
+letter-requires : tie.Need-letter-requires
+letter-requires c κs = search needs
+
+-- src/branch.rt:58:5
+array-write-ls : tie.Need-array-write-ls
+array-write-ls c = search needs
+
+-- src/branch.rt:53:1
+returns : tie.Need-returns
+returns c = search stored
+
+pub decided-spec : {M : Type 1} → statement M
+decided-spec = tie.close (tie.spec letter-requires array-write-ls returns)

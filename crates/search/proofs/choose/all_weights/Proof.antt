@@ -1,0 +1,69 @@
+use borrow.Author.Needs.{needs}
+use Prim.Native.Nat.{_-_, _≤_}
+use Rattle.search.specs.Weights.{SmallWeights}
+use Rattle.search.proofs.Weighing.{fine-nets, no-weights, weights-long, weight-set}
+use lib.ListN.{length}
+use mathlib.Core.Path.{_≡_}
+use Rattle.search.proofs.choose.all_weights.Statement.{statement}
+use Rattle.search.proofs.choose.all_weights.Tie as tie
+use Rattle.search.proofs.choose.all_weights.Reads as reads
+use Rattle.search.proofs.choose.all_weights.Lts as lts
+use Rattle.search.proofs.choose.net_weights.Reads as net-weights-reads
+
+abbrev Inv-loop : tie.InvT-loop
+Inv-loop nets t pins weights₀ i₀ weights i = (i ≤ 8) × (length weights ≡ 8) × SmallWeights weights
+
+abbrev μ-loop : tie.MeasureT-loop
+μ-loop nets t pins weights₀ i₀ weights i = 8 - i
+
+-- src/choose.rt:233:5
+loop-holds : tie.Need-loop-holds Inv-loop μ-loop
+loop-holds c = (search needs, search needs, search no-weights)
+
+-- src/choose.rt:234:49
+add-net-weights : tie.Need-add-net-weights Inv-loop μ-loop
+add-net-weights c = search needs
+
+-- src/choose.rt:234:22
+net-weights-requires : tie.Need-net-weights-requires Inv-loop μ-loop
+net-weights-requires c κs = search fine-nets
+
+-- src/choose.rt:234:9
+mul-weights : tie.Need-mul-weights Inv-loop μ-loop
+mul-weights c = search needs
+
+-- src/choose.rt:234:9
+array-write-weights : tie.Need-array-write-weights Inv-loop μ-loop
+array-write-weights c = search needs
+
+-- src/choose.rt:235:9
+add-i : tie.Need-add-i Inv-loop μ-loop
+add-i c = search needs
+
+-- src/choose.rt:233:5
+loop-less : tie.Need-loop-less Inv-loop μ-loop
+loop-less c = search needs
+
+-- src/choose.rt:233:5
+loop-again : tie.Need-loop-again Inv-loop μ-loop
+loop-again c = (search needs, search (needs, weights-long), search weight-set)
+
+-- src/choose.rt:224:1
+returns : tie.Need-returns Inv-loop μ-loop
+returns c = search needs
+
+pub all-weights-spec : {M : Type 1} → statement M
+all-weights-spec =
+    tie.close
+    (tie.spec
+    Inv-loop
+    μ-loop
+    loop-holds
+    add-net-weights
+    net-weights-requires
+    mul-weights
+    array-write-weights
+    add-i
+    loop-less
+    loop-again
+    returns)

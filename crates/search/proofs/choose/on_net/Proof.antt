@@ -1,0 +1,64 @@
+use borrow.Author.Needs.{needs}
+use Prim.Native.Nat.{_-_, _≤_}
+use Rattle.search.proofs.choose.on_net.Statement.{statement}
+use Rattle.search.proofs.choose.on_net.Tie as tie
+use Rattle.search.proofs.choose.on_net.Reads as reads
+use Rattle.search.proofs.choose.on_net.Lts as lts
+
+abbrev Inv-loop : tie.InvT-loop
+Inv-loop q count m pins e₀ e = e ≤ count
+
+abbrev μ-loop : tie.MeasureT-loop
+μ-loop q count m pins e₀ e = count - e
+
+-- src/choose.rt:194:5
+loop-holds : tie.Need-loop-holds Inv-loop μ-loop
+loop-holds c = search needs
+
+-- src/choose.rt:195:22
+add-p : tie.Need-add-p Inv-loop μ-loop
+add-p c = search needs
+
+-- src/choose.rt:195:17
+mul-p : tie.Need-mul-p Inv-loop μ-loop
+mul-p c = search needs
+
+-- src/choose.rt:195:17
+array-copy-out-p : tie.Need-array-copy-out-p Inv-loop μ-loop
+array-copy-out-p c = search needs
+
+-- src/choose.rt:197:13
+returns : tie.Need-returns Inv-loop μ-loop
+returns c = search needs
+
+-- src/choose.rt:199:9
+add-e : tie.Need-add-e Inv-loop μ-loop
+add-e c = search needs
+
+-- src/choose.rt:194:5
+loop-less : tie.Need-loop-less Inv-loop μ-loop
+loop-less c = search needs
+
+-- src/choose.rt:194:5
+loop-again : tie.Need-loop-again Inv-loop μ-loop
+loop-again c = search needs
+
+-- src/choose.rt:190:1
+returns-2 : tie.Need-returns-2 Inv-loop μ-loop
+returns-2 c = search needs
+
+pub on-net-spec : {M : Type 1} → statement M
+on-net-spec =
+    tie.close
+    (tie.spec
+    Inv-loop
+    μ-loop
+    loop-holds
+    add-p
+    mul-p
+    array-copy-out-p
+    returns
+    add-e
+    loop-less
+    loop-again
+    returns-2)

@@ -1,0 +1,63 @@
+use Rattle.search.proofs.Boxes.{least-small, least-fits}
+use borrow.Author.Needs.{needs}
+use Rattle.search.proofs.choose.two_least.Statement.{statement}
+use Rattle.search.proofs.choose.two_least.Tie as tie
+use Rattle.search.proofs.choose.two_least.Reads as reads
+use Rattle.search.proofs.choose.two_least.Lts as lts
+use Rattle.search.proofs.choose.greater.Reads as greater-reads
+use Rattle.search.proofs.choose.lesser.Reads as lesser-reads
+
+-- src/choose.rt:89:9
+lesser-requires : tie.Need-lesser-requires
+lesser-requires c κs = search needs
+
+-- src/choose.rt:90:9
+lesser-requires-2 : tie.Need-lesser-requires-2
+lesser-requires-2 c κs = search needs
+
+-- src/choose.rt:91:22
+greater-requires : tie.Need-greater-requires
+greater-requires c κs = search needs
+
+-- src/choose.rt:91:44
+greater-requires-2 : tie.Need-greater-requires-2
+greater-requires-2 c κs = search needs
+
+-- src/choose.rt:91:9
+lesser-requires-3 : tie.Need-lesser-requires-3
+lesser-requires-3 c κs = search needs
+
+-- src/choose.rt:92:5
+lesser-requires-4 : tie.Need-lesser-requires-4
+lesser-requires-4 c κs = search needs
+
+-- src/choose.rt:92:27
+greater-requires-3 : tie.Need-greater-requires-3
+greater-requires-3 c κs = search needs
+
+-- src/choose.rt:92:20
+lesser-requires-5 : tie.Need-lesser-requires-5
+lesser-requires-5 c κs = search needs
+
+-- src/choose.rt:92:5
+mul-result : tie.Need-mul-result
+mul-result c = search (needs, least-fits)
+
+-- src/choose.rt:85:1
+returns : tie.Need-returns
+returns c = search least-small
+
+pub two-least-spec : {M : Type 1} → statement M
+two-least-spec =
+    tie.close
+    (tie.spec
+    lesser-requires
+    lesser-requires-2
+    greater-requires
+    greater-requires-2
+    lesser-requires-3
+    lesser-requires-4
+    greater-requires-3
+    lesser-requires-5
+    mul-result
+    returns)

@@ -1,0 +1,66 @@
+use Rattle.search.proofs.Placing.{Whole, whole, read-passed, place-refused, record-placed}
+use borrow.Author.Needs.{needs}
+use Rattle.search.proofs.service.place_text.Statement.{statement}
+use Rattle.search.proofs.service.place_text.Tie as tie
+use Rattle.search.proofs.service.place_text.Reads as reads
+use Rattle.search.proofs.service.place_text.Lts as lts
+use Rattle.chipreader.proofs.read_chip.Reads as read-chip-reads
+use Rattle.recordwriter.proofs.write_record.Reads as write-record-reads
+use Rattle.search.proofs.service.chip_record.Reads as chip-record-reads
+
+-- the chip's arrays are as long as its type says
+shape : (t : lts.After-read-chip (read-chip-reads.Asked, read-chip-reads.Learnt, chip-record-reads.Asked, chip-record-reads.Learnt, write-record-reads.Asked, write-record-reads.Learnt) reads.Pre reads.Post) → Whole (t .read-chip .result .chip)
+shape t = search whole
+
+-- src/service.rt:57:9
+read-chip-requires : tie.Need-read-chip-requires
+read-chip-requires c κs = search needs
+
+-- src/service.rt:61:29
+enum-known-answer : tie.Need-enum-known-answer
+enum-known-answer c = search needs
+
+-- src/service.rt:62:60
+enum-told : tie.Need-enum-told
+enum-told c = search needs
+
+-- src/service.rt:62:60
+chip-record-requires : tie.Need-chip-record-requires
+chip-record-requires c κs =
+    let h = c .before .before .before in
+    read-passed _ (shape h) _ (h .read-chip .result .answer) (h .read-chip .ensures .0) (c .enum-told .given .1)
+
+-- src/service.rt:62:33
+write-record-requires : tie.Need-write-record-requires
+write-record-requires c κs = search needs
+
+-- src/service.rt:54:1
+returns : tie.Need-returns
+returns c =
+    let h = c .before .before .before .before in
+    place-refused (h .read-chip .result .chip) _ (c .before .answer .given .0 .0) _ (h .read-chip .result .answer) (h .read-chip .ensures .0) (c .before .answer .given .1)
+
+-- src/service.rt:54:1
+same-length : tie.Need-same-length
+same-length c = search needs
+
+-- src/service.rt:54:1
+returns-2 : tie.Need-returns-2
+returns-2 c =
+    let m = c .before .before .before .before in
+    let h = m .before .before .before .before in
+    let told = m .before .enum-told .given .1 in
+    record-placed (h .read-chip .result .chip) (read-passed _ (shape h) _ (h .read-chip .result .answer) (h .read-chip .ensures .0) told) _ (m .chip-record .ensures) _ _ (h .read-chip .result .answer) (h .read-chip .ensures .0) told _ (c .before .before .write-record .ensures)
+
+pub place-text-spec : {M : Type 1} → statement M
+place-text-spec =
+    tie.close
+    (tie.spec
+    read-chip-requires
+    enum-known-answer
+    enum-told
+    chip-record-requires
+    write-record-requires
+    returns
+    same-length
+    returns-2)

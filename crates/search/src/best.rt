@@ -1,0 +1,81 @@
+// The best placement so far: document 01, "replaced by a shorter one, or by an equally short one that comes earlier".
+use model::Outcome;
+use model::Record;
+use model::Spot;
+ghost use mathlib.Core.Path.{_≡_};
+ghost use Prim.Native.Nat.{_≤_};
+ghost use lib.ListN.{take};
+ghost use Rattle.placement.specs.Order.{before};
+ghost use Rattle.branches.specs.Branch.{pick, better};
+ghost use Rattle.search.specs.Best.{bestOf, Told, Alike, Better};
+
+// Whether a comes before b, of the first n corners.
+fn comes_before(n: usize, a: [Spot; 8], b: [Spot; 8]) -> bool
+    requires { ⌜ n ≤ 8 ⌝ }
+    ensures { λ r. ⌜ r ≡ before (take n a) (take n b) ⌝ }
+{
+    let mut i: usize = 0;
+    while i < n {
+        let p = a[i];
+        let q = b[i];
+        i += 1;
+        if p.x != q.x {
+            return p.x < q.x;
+        }
+        if p.y != q.y {
+            return p.y < q.y;
+        }
+    }
+    false
+}
+
+// Whether the other replaces the best.
+pub(crate) fn replaces_best(best: Record, other: Record) -> bool
+    requires { ⌜ Alike best other ⌝ }
+    ensures { λ r. ⌜ pick r (bestOf other) (bestOf best) ≡ better (bestOf best) (bestOf other) ⌝ }
+    ensures { λ r. ⌜ Told r other ⌝ }
+{
+    let theirs = other.outcome;
+    let Outcome::Least(l, n) = theirs else {
+        return false;
+    };
+    let ours = best.outcome;
+    let Outcome::Least(m, _) = ours else {
+        return true;
+    };
+    if l != m {
+        return l < m;
+    }
+    let a = other.spots;
+    let b = best.spots;
+    comes_before(n, a, b)
+}
+
+// The better of the two records.
+fn better_record(best: Record, other: Record) -> Record
+    requires { ⌜ Alike best other ⌝ }
+    ensures { λ r. ⌜ Better best other r ⌝ }
+{
+    if replaces_best(best, other) {
+        return other;
+    }
+    best
+}
+
+// The best record is replaced by the other where that is better.
+pub(crate) fn keep_better(best: &mut Record, other: Record)
+    requires { ⌜ Alike (now best) other ⌝ }
+    ensures { λ _. ⌜ Better (now (best .entry)) other (now (best .exit)) ⌝ }
+{
+    *best = better_record(*best, other);
+}
+
+// The best record after one more.
+pub(crate) fn replaced(best: Record, other: Record) -> Record
+    requires { ⌜ Alike best other ⌝ }
+    ensures { λ r. ⌜ Better best other r ⌝ }
+{
+    let mut kept = best;
+    keep_better(&mut kept, other);
+    kept
+}

@@ -1,0 +1,5 @@
+// The search: the earliest least legal placement of a chip.
+mod best;
+mod branch;
+mod choose;
+pub mod service;

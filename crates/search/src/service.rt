@@ -1,0 +1,64 @@
+// The search as a service: of a chip held as a value, and from chip text to record text.
+use crate::branch::fit_record;
+use crate::branch::no_record;
+use crate::branch::search;
+use crate::choose::all_weights;
+use chipreader::ChipAnswer;
+use model::Chip;
+use model::Record;
+use model::Tested;
+use model::WriteAnswer;
+ghost use mathlib.Core.Path.{_≡_};
+ghost use Prim.Native.Nat.{_+_, _-_, _*_, _/_, _≤_};
+ghost use Rattle.model.specs.Meaning.{chipOf, recordOf};
+ghost use Rattle.grammar.specs.Writing.{answerOf};
+ghost use Rattle.placement.specs.Least.{chipRecord};
+ghost use Rattle.search.specs.Search.{Passed};
+ghost use Rattle.search.specs.Place.{searchChip, placeText};
+
+// With n macros, k fixes there are n(n-1)/2 + n·k letters.
+fn letter_count(n: usize, k: usize) -> usize
+    requires { ⌜ (n ≤ 8) × (k ≤ 8) ⌝ }
+    ensures { λ r. ⌜ r ≡ n * (n - 1) / 2 + n * k ⌝ }
+{
+    if n == 0 {
+        return 0;
+    }
+    n * (n - 1) / 2 + n * k
+}
+
+// The record of a chip whose test is passed: the search from dots alone, with no placement so far.
+fn chip_record(c: Chip) -> Record
+    requires { ⌜ Passed c ⌝ }
+    ensures { λ r. ⌜ recordOf r ≡ chipRecord (chipOf c) ⌝ }
+{
+    let letters = [46u8; 92];
+    let p = letter_count(c.n, c.k);
+    let weights = all_weights(c);
+    let root = fit_record(c, letters, p);
+    search(c, weights, letters, p, root, no_record())
+}
+
+// The record of a chip held as a value, into the lent buffer.
+pub fn search_chip(c: Chip, out: &mut [u8]) -> WriteAnswer
+    ensures { λ r. ⌜ record { answer = answerOf r; buffer = now (out .exit) } ≡ searchChip (chipOf c) (now (out .entry)) ⌝ }
+{
+    let tested = chipwriter::test_chip(c);
+    match tested {
+        Tested::Refused(f) => WriteAnswer::Refused(f),
+        Tested::Passed => recordwriter::write_record(chip_record(c), out),
+    }
+}
+
+// From chip text to record text.
+pub fn place_text(text: &[u8], out: &mut [u8]) -> WriteAnswer
+    ensures { λ r. ⌜ record { answer = answerOf r; buffer = now (out .exit) } ≡ placeText (now (text .entry)) (now (out .entry)) ⌝ }
+{
+    let read = chipreader::read_chip(text);
+    let answer = read.answer;
+    let c = read.chip;
+    match answer {
+        ChipAnswer::Refused(f) => WriteAnswer::Refused(f),
+        ChipAnswer::Accepted => recordwriter::write_record(chip_record(c), out),
+    }
+}
