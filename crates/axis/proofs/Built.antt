@@ -94,7 +94,7 @@ module _ (base hi from c at : ℕ) (ps : List AxisPin) (ss : List Slot) where
   pins-start = record { rest = ap (λ (k : ℕ). sets ss k (pinSlots base hi (suc hi) (take c (drop from ps)))) (omega arith) }
 
   module _ (r : List Slot) (i : ℕ) (h : PinsPut base hi from c at ps ss r i) where
-    pub pins-put : length ps ≡ 128 → from + c ≤ 128 → i < c → PinsPut base hi from c at ps ss (set (set r (at + 2 * i) (slot (getD ps (from + i) noPin .node) hi (getD ps (from + i) noPin .up) base)) (at + 2 * i + 1) (slot (hi + 1) (getD ps (from + i) noPin .node) base (getD ps (from + i) noPin .up))) (i + 1)
+    pins-put : length ps ≡ 128 → from + c ≤ 128 → i < c → PinsPut base hi from c at ps ss (set (set r (at + 2 * i) (slot (getD ps (from + i) noPin .node) hi (getD ps (from + i) noPin .up) base)) (at + 2 * i + 1) (slot (hi + 1) (getD ps (from + i) noPin .node) base (getD ps (from + i) noPin .up))) (i + 1)
     unfolding pinSlots
     pins-put lp b l =
         subst (λ (k : ℕ). PinsPut base hi from c at ps ss (set (set r (at + 2 * i) (slot (q .node) hi (q .up) base)) (at + 2 * i + 1) (slot (hi + 1) (q .node) base (q .up))) k) (next i)
@@ -110,7 +110,10 @@ module _ (base hi from c at : ℕ) (ps : List AxisPin) (ss : List Slot) where
         q : AxisPin
         q = getD ps (from + i) noPin
 
-    pub pins-all : c ≤ i → r ≡ sets ss at (pinSlots base hi (suc hi) (take c (drop from ps)))
+    pub pins-put-by : (u v : Slot) → u ≡ slot (getD ps (from + i) noPin .node) hi (getD ps (from + i) noPin .up) base → v ≡ slot (hi + 1) (getD ps (from + i) noPin .node) base (getD ps (from + i) noPin .up) → length ps ≡ 128 → from + c ≤ 128 → i < c → PinsPut base hi from c at ps ss (set (set r (at + 2 * i) u) (at + 2 * i + 1) v) (i + 1)
+    pins-put-by u v eu ev lp b l = rw (eu, ev) (pins-put lp b l)
+
+    pins-all : c ≤ i → r ≡ sets ss at (pinSlots base hi (suc hi) (take c (drop from ps)))
     unfolding pinSlots
     pins-all l = sym (h .rest ∙ ap (λ (t : List AxisPin). sets r (at + 2 * i) (pinSlots base hi (suc hi) t)) (drop-of-length-le (take c (drop from ps)) {i = i} (let e = length-take c (drop from ps) in omega arith)))
 
@@ -143,7 +146,7 @@ module _ (base h t at : ℕ) (ts : List AxisNet) (ps : List AxisPin) (ss : List 
       pub net-room : at + 2 * pinsBefore t ts ≤ 456 → at + 2 * from + 2 * getD ts j noNet .pins ≤ 456
       net-room o = let a = p .place in let b = pins-within j t ts l in omega arith
 
-      pub net-put : length ts ≡ 32 → length ps ≡ 128 → t ≤ 32 → (s : List Slot) → s ≡ sets r (at + 2 * from) (pinSlots base (h + 2 * j) (suc (h + 2 * j)) (take (getD ts j noNet .pins) (drop from ps))) → NetsPut base h t at ts ps ss s (from + getD ts j noNet .pins) (j + 1)
+      net-put : length ts ≡ 32 → length ps ≡ 128 → t ≤ 32 → (s : List Slot) → s ≡ sets r (at + 2 * from) (pinSlots base (h + 2 * j) (suc (h + 2 * j)) (take (getD ts j noNet .pins) (drop from ps))) → NetsPut base h t at ts ps ss s (from + getD ts j noNet .pins) (j + 1)
       unfolding netsOf netSlots
       net-put lt lp b s e =
           record {
@@ -162,6 +165,9 @@ module _ (base h t at : ℕ) (ts : List AxisNet) (ps : List AxisPin) (ss : List 
         where
           c : ℕ
           c = getD ts j noNet .pins
+
+      pub net-put-by : length ts ≡ 32 → length ps ≡ 128 → t ≤ 32 → (s : List Slot) (i : ℕ) → PinsPut base (h + 2 * j) from (getD ts j noNet .pins) (at + 2 * from) ps r s i → getD ts j noNet .pins ≤ i → NetsPut base h t at ts ps ss s (from + getD ts j noNet .pins) (j + 1)
+      net-put-by lt lp u s i q m = net-put lt lp u s (pins-all base (h + 2 * j) from (getD ts j noNet .pins) (at + 2 * from) ps r s i q m)
 
     pub nets-all : t ≤ j → r ≡ sets ss at (netSlots base h (netsOf (take t ts) ps))
     unfolding netsOf netSlots

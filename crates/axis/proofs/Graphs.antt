@@ -19,7 +19,7 @@ use Rattle.bounds.proofs.Idle.{past-end}
 use Rattle.axis.specs.declared.graph.Graph.{Graph}
 use Rattle.axis.specs.Limits.{nodeRoom, slotRoom}
 use Rattle.axis.specs.Graph.{at, Fine, Holds, Near, Leads, Net}
-use Rattle.axis.specs.Build.{slotsFrom, dieGraph, wholeGraph}
+use Rattle.axis.specs.Build.{slotsFrom, dieGraph, macroGraph, wholeGraph}
 use Rattle.axis.proofs.Reaches.{leads-slot, leads-on}
 
 -- ---- an array that holds the slots of a list
@@ -140,6 +140,9 @@ module _ (b : Axis) (fine : FineAxis b) where
   pub die-fine : Fine (dieGraph b)
   die-fine = fine-array dies few-dies (length (macroSlots b)) (suc (length (b .sizes))) few-macros (let e = fine .macs in omega arith) (omega arith) (subst (Each (FineOn (suc (length (b .sizes))))) bare-is (macro-fine (bare b) fine-bare))
 
+  pub macros-fine : Fine (macroGraph b)
+  macros-fine = fine-array (macroSlots b) few-macros (length (macroSlots b)) (suc (length (b .sizes))) few-macros (let e = fine .macs in omega arith) (omega arith) (macro-fine b fine)
+
   pub whole-fine : Fine (wholeGraph b)
   whole-fine = fine-array (graphSlots b) (few-slots b fine) (length (graphSlots b)) (nodeCount b) (few-slots b fine) (let e = few-nodes b fine in omega arith) (omega arith) (graph-fine b fine)
 
@@ -150,6 +153,9 @@ module _ (b : Axis) (fine : FineAxis b) where
 
   pub die-near : Near (slotsFrom dies) (length (macroSlots b)) (suc (length (b .sizes)))
   die-near = record { near = λ y h. macro-near (bare b) fine-bare y (die-list y h) }
+
+  pub macros-near : Near (slotsFrom (macroSlots b)) (length (macroSlots b)) (suc (length (b .sizes)))
+  macros-near = record { near = λ y h. macro-near b fine y (list-holds (macroSlots b) few-macros (length (macroSlots b)) (omega arith) y h) }
 
   pub whole-near : Near (slotsFrom (graphSlots b)) (length (graphSlots b)) (nodeCount b)
   whole-near = record { near = λ y h. near b fine y (list-holds (graphSlots b) (few-slots b fine) (length (graphSlots b)) (omega arith) y h) }

@@ -1,4 +1,6 @@
 pub mod Zeros
+pub mod Tests
+pub mod Gathers
 pub mod Slacks
 pub mod Raising
 pub mod Joins
@@ -13,6 +15,7 @@ pub mod Admissions
 pub mod AllBounds
 pub mod AllNets
 pub mod Optimum
+pub mod Certified
 pub mod NetPins
 pub mod Accepting
 pub mod HeldAxes

@@ -6,7 +6,7 @@ use mathlib.Core.Path.{_≡_, ap, subst, _∙_}
 use mathlib.Core.List.{List}
 use Prim.Native.Nat.{ℕ, _+_, _≤_, _<_}
 use native.Mathlib.Omega.{arith}
-use Rattle.flow.specs.Flow.{atNode, weigh, Ends}
+use Rattle.flow.specs.Flow.{atNode, weigh, Ends, Balance}
 use Rattle.flow.proofs.Duality.{exchange, weak, strong, tight-at-least}
 use Rattle.axis.specs.declared.graph.Graph.{Graph}
 use Rattle.axis.specs.declared.growth.Growth.{Growth}
@@ -25,13 +25,15 @@ module _ (g : Graph) (nets : List Span) (c : ℕ) (fine : Fine g) (ns : Nets g n
   hi-ends : Ends (his nets) c (g .n)
   hi-ends = record { lt = λ j l. ns .net j l .hi-in }
 
-  module _ (f x : List ℕ) (i : Flows g nets c x f) where
-    abbrev sup : ℕ → ℕ
-    sup = atNode (los nets) (weights nets) c
+  abbrev sup : ℕ → ℕ
+  sup = atNode (los nets) (weights nets) c
 
-    abbrev dem : ℕ → ℕ
-    dem = atNode (his nets) (weights nets) c
+  abbrev dem : ℕ → ℕ
+  dem = atNode (his nets) (weights nets) c
 
+  -- ---- amounts that balance
+
+  module _ (f : List ℕ) (bal : Balance (tails (g .slots)) (heads (g .slots)) (at f) sup dem (g .m) (g .n)) where
     up-is : (z : List ℕ) → weigh (at z) dem (g .n) ≡ upper nets c z
     unfolding upper
     up-is z = exchange (his nets) (weights nets) (at z) c (g .n) hi-ends
@@ -46,33 +48,36 @@ module _ (g : Graph) (nets : List Span) (c : ℕ) (fine : Fine g) (ns : Nets g n
     abbrev M : ℕ
     M = weigh (minuses (g .slots)) (at f) (g .m)
 
-    weak-at : (z : List ℕ) → Holds (g .slots) (g .m) z → P + lower nets c z ≤ M + upper nets c z
+    pub weak-at : (z : List ℕ) → Holds (g .slots) (g .m) z → P + lower nets c z ≤ M + upper nets c z
     weak-at z h =
-        let a = weak (tails (g .slots)) (heads (g .slots)) (pluses (g .slots)) (minuses (g .slots)) (at f) (at z) sup dem (g .m) (g .n) (fine .tail) (fine .head) (i .balance) h in
+        let a = weak (tails (g .slots)) (heads (g .slots)) (pluses (g .slots)) (minuses (g .slots)) (at f) (at z) sup dem (g .m) (g .n) (fine .tail) (fine .head) bal h in
         let b = up-is z in let d = low-is z in omega arith
 
-    strong-at : (z : List ℕ) → Tights (g .slots) (g .m) f z → P + lower nets c z ≡ M + upper nets c z
+    pub strong-at : (z : List ℕ) → Tights (g .slots) (g .m) f z → P + lower nets c z ≡ M + upper nets c z
     strong-at z t =
-        let a = strong (tails (g .slots)) (heads (g .slots)) (pluses (g .slots)) (minuses (g .slots)) (at f) (at z) sup dem (g .m) (g .n) (fine .tail) (fine .head) (i .balance) t in
+        let a = strong (tails (g .slots)) (heads (g .slots)) (pluses (g .slots)) (minuses (g .slots)) (at f) (at z) sup dem (g .m) (g .n) (fine .tail) (fine .head) bal t in
         let b = up-is z in let d = low-is z in omega arith
 
-    tight-at : (z : List ℕ) → Holds (g .slots) (g .m) z → M + upper nets c z ≤ P + lower nets c z → Tights (g .slots) (g .m) f z
+    pub tight-at : (z : List ℕ) → Holds (g .slots) (g .m) z → M + upper nets c z ≤ P + lower nets c z → Tights (g .slots) (g .m) f z
     tight-at z h e =
-        tight-at-least (tails (g .slots)) (heads (g .slots)) (pluses (g .slots)) (minuses (g .slots)) (at f) (at z) sup dem (g .m) (g .n) (fine .tail) (fine .head) (i .balance) h
+        tight-at-least (tails (g .slots)) (heads (g .slots)) (pluses (g .slots)) (minuses (g .slots)) (at f) (at z) sup dem (g .m) (g .n) (fine .tail) (fine .head) bal h
         (let b = up-is z in let d = low-is z in omega arith)
 
+  -- ---- the last growth
+
+  module _ (f x : List ℕ) (i : Flows g nets c x f) where
     pub solved : (v : Growth) → v ≡ seedOf x 0 1 → (w : Growth) → Settled g f (v .start) w → Solved g nets c (w .x) f
     solved v ve w s =
-        let e = strong-at (w .x) (s .growing .tight) in
+        let e = strong-at f (i .balance) (w .x) (s .growing .tight) in
         record {
           holds = s .growing .holds;
           most = i .most;
           idle = i .idle;
           balance = i .balance;
           reaches = e;
-          least = λ z h. let a = weak-at z h in omega arith;
+          least = λ z h. let a = weak-at f (i .balance) z h in omega arith;
           smallest = λ z h q k l.
-              let t = tight-at z h (omega arith) in
+              let t = tight-at f (i .balance) z h (omega arith) in
               let start : w .start ≡ 0 = s .from ∙ ap (λ (u : Growth). u .start) ve in
               let root : 0 < at (w .rank) 0 = subst (λ (r : ℕ). 0 < at (w .rank) r) start (s .growing .tree .root) in
               let a = above (g .slots) (g .m) (g .n) f (w .x) (w .rank) (w .parent) (w .room) (w .count) (w .start) (s .growing .tree) z h t (at (w .rank) k) k (omega arith) (l .leads f (w .rank) (s .closed) root) in

@@ -21,12 +21,13 @@ use Rattle.axis.specs.Limits.{nodeRoom, slotRoom, farthest}
 use Rattle.axis.specs.Graph.{at, Decides, Fine}
 use Rattle.axis.specs.Admit.{target, Free, Refuted, AdmitOk, Wanted}
 use Rattle.axis.specs.Build.{slotsFrom, endsOf, dieGraph, macroGraph, wholeGraph}
+use Rattle.axis.specs.Certify.{Shows, Kept}
 use Rattle.axis.specs.Service.{MalformedOk, UnsolvableOk, NoneAbove, FirstAbove}
 use Rattle.axis.proofs.Zeros.{zero-at}
 use Rattle.numbers.proofs.Stores.{sets-append}
 use Rattle.axis.proofs.Accepting.{held-by, failed-by}
 use Rattle.axis.proofs.HeldAxes.{Shaped, length-sizes, length-pairs, length-of-nets, count-of-nets}
-use Rattle.axis.proofs.Graphs.{die-fine}
+use Rattle.axis.proofs.Graphs.{die-fine, macros-fine, macros-near}
 use Rattle.axis.proofs.Admitted.{even, even-free, pairs-wanted, pairs-refuted}
 
 -- ---- the test, and the first macro larger than the die
@@ -153,17 +154,36 @@ module _ (a : HeldAxis) (sh : Shaped a) (h : Held a) where
           ∙ ap (λ (k : ℕ). record { n = suc (length (axisOf a .sizes)); m = k; slots = all }) (sym m-is)
           ∙ ap (λ (ss : List Slot). record { n = suc (length (axisOf a .sizes)); m = length (macroSlots (axisOf a)); slots = ss }) all-are
 
+      -- ---- proposed values, and a proposed chain
+
+      abbrev macros : Graph
+      macros = record { n = a .n + 1; m = 2 * a .n + a .p; slots = all }
+
+      pub all-fine : Fine (record { n = a .n + 1; m = 2 * a .n + a .p; slots = all })
+      all-fine = subst Fine (sym macro-graph) (macros-fine (axisOf a) (h .fine))
+
+      pub values-free : (x : List ℕ) (b : Bool) → Shows b (Kept (record { n = a .n + 1; m = 2 * a .n + a .p; slots = all }) x) → b ≡ true → Free (macroGraph (axisOf a)) x
+      values-free x b s e = let k = subst (λ (g : Graph). Kept g x) macro-graph (s .shown e) in record { holds = k .holds; low = k .low; near = macros-near (axisOf a) (h .fine) }
+
+      refused : (f : List ℕ) → Refuted macros f → UnsolvableOk a (replicate 8 0) f
+      refused f r =
+          record {
+            held = h;
+            unsolved = unsolved-on (axisOf a) (h .fine) f (pairs-refuted (axisOf a) (h .fine) f (subst (λ (g : Graph). Refuted g f) macro-graph r));
+            none = refl;
+          }
+
+      pub chain-none : (f : List ℕ) (b : Bool) → Shows b (Refuted (record { n = a .n + 1; m = 2 * a .n + a .p; slots = all }) f) → b ≡ true → UnsolvableOk a (replicate 8 0) f
+      chain-none f b s e = refused f (s .shown e)
+
+      -- ---- bound by bound
+
       module _ (b : Bool) (x f : List ℕ) (ok : AdmitOk (target (record { n = a .n + 1; m = 2 * a .n + a .p; slots = die }) all) b x f) where
         pub admitted-free : b ≡ true → Free (macroGraph (axisOf a)) x
         admitted-free e = subst (λ (g : Graph). Free g x) macro-graph (subst (λ (c : Bool). AdmitOk (target (record { n = a .n + 1; m = 2 * a .n + a .p; slots = die }) all) c x f) e ok)
 
         pub admitted-none : b ≡ false → UnsolvableOk a (replicate 8 0) f
-        admitted-none e =
-            record {
-              held = h;
-              unsolved = unsolved-on (axisOf a) (h .fine) f (pairs-refuted (axisOf a) (h .fine) f (subst (λ (g : Graph). Refuted g f) macro-graph (subst (λ (c : Bool). AdmitOk (target (record { n = a .n + 1; m = 2 * a .n + a .p; slots = die }) all) c x f) e ok)));
-              none = refl;
-            }
+        admitted-none e = refused f (subst (λ (c : Bool). AdmitOk (target (record { n = a .n + 1; m = 2 * a .n + a .p; slots = die }) all) c x f) e ok)
 
   -- ---- the whole graph
 

@@ -9,3 +9,4 @@ pub mod Accept
 pub mod Build
 pub mod Start
 pub mod Service
+pub mod Certify

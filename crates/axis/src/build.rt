@@ -6,11 +6,11 @@ use bounds::AxisNet;
 use bounds::AxisPin;
 use bounds::Slot;
 ghost use mathlib.Core.Path.{_≡_};
-ghost use Prim.Native.Nat.{suc, _+_, _*_, _≤_};
-ghost use lib.ListN.{take, drop};
+ghost use Prim.Native.Nat.{_+_, _*_, _≤_};
+ghost use lib.ListN.{take};
 ghost use lib.Seq.{sets};
 ghost use Rattle.bounds.specs.Axis.{netsOf};
-ghost use Rattle.bounds.specs.Listed.{dieSlots, pinSlots, netSlots};
+ghost use Rattle.bounds.specs.Listed.{slot, dieSlots, netSlots};
 ghost use Rattle.bounds.specs.Held.{pinsBefore};
 ghost use Rattle.axis.specs.Limits.{slotRoom};
 ghost use Rattle.axis.specs.Build.{endsOf, SpansTo};
@@ -71,45 +71,20 @@ pub(crate) fn put_pairs(
     r
 }
 
-// The two slots of each of a net's c pins, from `at` on; lo is the node after hi.
-fn put_pins(
-    ss: [Slot; SLOT_ROOM],
-    at: usize,
-    base: u64,
-    hi: usize,
-    pins: [AxisPin; 128],
-    from: usize,
-    c: usize,
-) -> [Slot; SLOT_ROOM]
-    requires { ⌜ from + c ≤ 128 ⌝ }
-    requires { ⌜ at + 2 * c ≤ slotRoom ⌝ }
-    requires { ⌜ hi ≤ 73 ⌝ }
-    ensures { λ r. ⌜ r ≡ sets ss at (pinSlots base hi (suc hi) (take c (drop from pins))) ⌝ }
+// The bound of a slot.
+fn bound(tail: usize, head: usize, plus: u64, minus: u64) -> Slot
+    ensures { λ r. ⌜ r ≡ slot tail head plus minus ⌝ }
 {
-    let lo = hi + 1;
-    let mut r = ss;
-    let mut i: usize = 0;
-    while i < c {
-        let q = pins[from + i];
-        let o = at + 2 * i;
-        r[o] = Slot {
-            tail: q.node,
-            head: hi,
-            plus: q.up,
-            minus: base,
-        };
-        r[o + 1] = Slot {
-            tail: lo,
-            head: q.node,
-            plus: base,
-            minus: q.up,
-        };
-        i += 1;
+    Slot {
+        tail,
+        head,
+        plus,
+        minus,
     }
-    r
 }
 
-// The slots of the pins of t nets, from `at` on; the first net has node h as its hi.
+// The slots of the pins of t nets, from `at` on; the first net has node h as its hi. Each pin has two slots: to hi, and from lo,
+// which is the node after hi.
 pub(crate) fn put_nets(
     ss: [Slot; SLOT_ROOM],
     at: usize,
@@ -131,8 +106,16 @@ pub(crate) fn put_nets(
     while j < t {
         let k = nets[j];
         let c = k.pins;
-        let s = put_pins(r, at + 2 * from, base, h + 2 * j, pins, from, c);
-        r = s;
+        let hi = h + 2 * j;
+        let start = at + 2 * from;
+        let mut i: usize = 0;
+        while i < c {
+            let q = pins[from + i];
+            let o = start + 2 * i;
+            r[o] = bound(q.node, hi, q.up, base);
+            r[o + 1] = bound(hi + 1, q.node, base, q.up);
+            i += 1;
+        }
         from += c;
         j += 1;
     }

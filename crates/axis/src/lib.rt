@@ -6,12 +6,19 @@
 // A graph has nodes with values and slots with bounds. `admit` adds bounds, or shows that no values keep them all; `drain`
 // sends a net's weight from its lower to its upper node along slots that are tight; `solve` does so for every net and makes
 // the values the smallest. All of them grow a set of nodes along tight slots (`growth`) and push amounts along it (`push`).
+//
+// That way is sure but slow. `propose` makes an answer faster, with cheapest ways in plain arrays (`paths`, `arrays`), of which
+// nothing is proved but that it ends; `certify` tests what was proposed, and what fails the test is done the sure way.
 mod accept;
 mod admit;
+mod arrays;
 mod build;
+mod certify;
 mod drain;
 mod graph;
 mod growth;
+mod paths;
+mod propose;
 mod push;
 pub mod service;
 mod solve;

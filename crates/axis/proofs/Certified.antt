@@ -1,0 +1,93 @@
+-- What a certificate shows: the values are the smallest of the least.
+--
+-- Amounts that balance and stand on tight slots make the values least, as those of the solver. By the order of the ranks every node
+-- stands as near to node 0 as in any other least values (`above`).
+use mathlib.Core.Path.{_≡_, refl, sym, ap, subst, _∙_}
+use mathlib.Core.Bool.{Bool, true, false, not}
+use mathlib.Core.List.{List, []}
+use mathlib.Core.Logic.{⊎-elim}
+use Prim.Native.Nat.{ℕ, zero, suc, _+_, _*_, _≤_, _<_}
+use native.Mathlib.Decide.{ℕ-discrete, decLt}
+use native.Mathlib.Omega.{arith}
+use lib.ListN.{length, getD, replicate, getD-replicate, length-replicate, List·getD-eq-default}
+use Rattle.bounds.specs.declared.Slot.{Slot}
+use Rattle.bounds.specs.Listed.{slotAt, tails, heads, pluses, minuses}
+use Rattle.axis.specs.declared.graph.Graph.{Graph}
+use Rattle.axis.specs.declared.solve.Span.{Span}
+use Rattle.axis.specs.Limits.{nodeRoom, slotRoom}
+use Rattle.axis.specs.Graph.{at, Fine, Holds, Tights, Closed, Leads, TightAt}
+use Rattle.axis.specs.Solved.{Nets, Solved}
+use Rattle.axis.specs.Certify.{Shows, Kept, Flow, Tied, Parent, Rooted, parentOf, rankOf}
+use Rattle.axis.proofs.Optimum.{weak-at, strong-at, tight-at}
+use Rattle.axis.proofs.Tests.{shown-by}
+
+-- ---- nodes that 0 leads to
+
+leads-in : (g : Graph) → Fine g → 0 < g .n → (k : ℕ) → Leads g 0 k → k < g .n
+leads-in g fine some k h = by (decLt k (g .n))
+  where
+    ones : List ℕ
+    ones = replicate (g .n) 1
+
+    one-at : (j : ℕ) → j < g .n → at ones j ≡ 1
+    one-at j l = getD-replicate (g .n) j 1 0 l
+
+    closed : Closed g [] ones
+    closed = record { none = λ s l w. let p = one-at (tails (g .slots) s) (fine .tail .lt s l) in let q = one-at (heads (g .slots) s) (fine .head .lt s l) in ⊎-elim (λ v. let u = v .1 in absurd (omega arith)) (λ v. let u = v .0 in absurd (omega arith)) (w .way) }
+
+    by : Dec (k < g .n) → k < g .n
+    by (yes l) = l
+    by (no n) =
+        let a = h .leads [] ones closed (let o = one-at 0 some in omega arith) in
+        let z = List·getD-eq-default ones 0 {n = k} (let e = length-replicate {A = ℕ} (g .n) 1 in omega arith) in
+        absurd (omega arith)
+
+-- ---- as near to node 0 as any
+
+module _ (g : Graph) (f x way : List ℕ) (fine : Fine g) (t : Rooted (g .slots) (g .m) f x way (g .n)) (z : List ℕ) (h : Holds (g .slots) (g .m) z) (c : Tights (g .slots) (g .m) f z) where
+  above : (d k : ℕ) → k < g .n → rankOf way k < d → at x k + at z 0 ≤ at z k + at x 0
+  above zero k l u = absurd (omega arith)
+  above (suc d) k l u = by (ℕ-discrete k 0) (λ v a b. above d v b (omega arith))
+    where
+      by : Dec (k ≡ 0) → ((v : ℕ) → rankOf way v < rankOf way k → v < g .n → at x v + at z 0 ≤ at z v + at x 0) → at x k + at z 0 ≤ at z k + at x 0
+      by (yes e) ih = rw e (omega arith)
+      by (no o) ih =
+          let q = t .parent k (omega arith) l in
+          let p = parentOf way k in
+          let e = q .tight .eq in
+          ⊎-elim
+          (λ w. let i = ih (tails (g .slots) p) (w .1) (fine .tail .lt p (q .slot)) in let b = h .le p (q .slot) in let x1 : at x (heads (g .slots) p) ≡ at x k = ap (at x) (w .0) in let z1 : at z (heads (g .slots) p) ≡ at z k = ap (at z) (w .0) in omega arith)
+          (λ w. let i = ih (heads (g .slots) p) (w .1) (fine .head .lt p (q .slot)) in let b = c .eq p (q .slot) (w .2) in let x1 : at x (tails (g .slots) p) ≡ at x k = ap (at x) (w .0) in let z1 : at z (tails (g .slots) p) ≡ at z k = ap (at z) (w .0) in omega arith)
+          (q .tied .way)
+
+-- ---- the certificate
+
+module _ (g : Graph) (nets : List Span) (c : ℕ) (x f way : List ℕ) (fine : Fine g) (some : 0 < g .n) (ns : Nets g nets c) (kept : Kept g x) (tight : Tights (g .slots) (g .m) f x) (flow : Flow g nets c f) (tree : Rooted (g .slots) (g .m) f x way (g .n)) where
+  -- a slot from a node to itself that carries is tight, so it asks nothing
+  still : (s : ℕ) → tails (g .slots) s ≡ heads (g .slots) s → at f s ≡ 0
+  still s e = by (decLt s (g .m)) (ℕ-discrete (at f s) 0)
+    where
+      by : Dec (s < g .m) → Dec (at f s ≡ 0) → at f s ≡ 0
+      by d (yes z) = z
+      by (no n) (no o) = flow .idle .past s (omega arith)
+      by (yes l) (no o) =
+          let q = tight .eq s l (omega arith) in
+          let a : at x (tails (g .slots) s) ≡ at x (heads (g .slots) s) = ap (at x) e in
+          flow .idle .still s e (omega arith)
+
+  solved-by : Solved g nets c x f
+  solved-by =
+      let bal = flow .balance in
+      let e = strong-at g nets c fine ns f bal x tight in
+      record {
+        holds = kept .holds;
+        most = flow .most .most;
+        idle = still;
+        balance = bal;
+        reaches = e;
+        least = λ z h. let a = weak-at g nets c fine ns f bal z h in omega arith;
+        smallest = λ z h q k l. above g f x way fine tree z h (tight-at g nets c fine ns f bal z h (omega arith)) (suc (rankOf way k)) k (leads-in g fine some k l) (omega arith);
+      }
+
+pub certified-by : (g : Graph) (nets : List Span) (c : ℕ) (x f way : List ℕ) → Fine g → 0 < g .n → Nets g nets c → (a : Bool) → Shows a (Kept g x) → not a ≡ false → (b : Bool) → Shows b (Tights (g .slots) (g .m) f x) → not b ≡ false → (d : Bool) → Shows d (Flow g nets c f) → not d ≡ false → (r : Bool) → Shows r (Rooted (g .slots) (g .m) f x way (g .n)) → Shows r (Solved g nets c x f)
+certified-by g nets c x f way fine some ns a ka ea b tb eb d fd ed r tr = record { shown = λ o. solved-by g nets c x f way fine some ns (shown-by a ka ea) (shown-by b tb eb) (shown-by d fd ed) (tr .shown o) }

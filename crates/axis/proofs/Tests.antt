@@ -1,0 +1,184 @@
+-- The tests of values and amounts, slot by slot and node by node.
+use mathlib.Core.Path.{_≡_, sym, subst}
+use mathlib.Core.Bool.{Bool, true, false, not, false≢true}
+use mathlib.Core.List.{List}
+use mathlib.Core.Logic.{inl, inr}
+use Prim.Native.Nat.{ℕ, _+_, _*_, _≤_, _<_}
+use native.Mathlib.Decide.{decLt}
+use native.Mathlib.Omega.{arith}
+use borrow.Author.Count.{below-none, below-more}
+use borrow.Author.Tests.{not-false}
+use mir.Syntax.{w64}
+use mir.Val.{Fits}
+use lib.ListN.{length, List·getD-eq-default}
+use Rattle.bounds.specs.declared.Slot.{Slot}
+use Rattle.bounds.specs.Listed.{slotAt, tails, heads, pluses, minuses}
+use Rattle.axis.specs.declared.graph.Graph.{Graph}
+use Rattle.axis.specs.Limits.{nodeRoom, slotRoom, lowMost}
+use Rattle.axis.specs.Graph.{at, Fine, Small, Holds, Tights}
+use Rattle.axis.specs.Start.{Resting}
+use Rattle.axis.specs.Certify.{Shows, Kept, Within, Idle, Even, Tied, Parent, Rooted}
+
+pub shows-no : {P : Type 0} → Shows false P
+shows-no = record { shown = λ e. absurd (false≢true e) }
+
+shows-yes : {P : Type 0} → P → Shows true P
+shows-yes p = record { shown = λ e. p }
+
+-- what a test that was passed shows
+pub shown-by : {P : Type 0} (b : Bool) → Shows b P → not b ≡ false → P
+shown-by b s e = s .shown (not-false b e)
+
+-- ---- values within the limit
+
+pub record LowTo (x : List ℕ) (i : ℕ) : Type 0 where
+  pub most : (k : ℕ) → k < i → at x k ≤ lowMost
+
+module _ (x : List ℕ) where
+  pub low-none : LowTo x 0
+  low-none = record { most = below-none (λ k. at x k ≤ lowMost) }
+
+  pub low-more : (i : ℕ) → LowTo x i → at x i ≤ lowMost → LowTo x (i + 1)
+  low-more i h l = record { most = below-more (λ k. at x k ≤ lowMost) i (h .most) l }
+
+  pub low-all : (i : ℕ) → LowTo x i → nodeRoom ≤ i → length x ≡ nodeRoom → Shows true (Resting x)
+  low-all i h l e = shows-yes (record { most = λ k. by k (decLt k nodeRoom) })
+    where
+      by : (k : ℕ) → Dec (k < nodeRoom) → at x k ≤ lowMost
+      by k (yes m) = h .most k (omega arith)
+      by k (no n) = rw (List·getD-eq-default x 0 {n = k} (omega arith)) (omega arith)
+
+  pub low-small : (b : Bool) → Shows b (Resting x) → not b ≡ false → Small x
+  low-small b s e = record { most = λ k. let p = shown-by b s e .most k in omega arith }
+
+-- ---- bounds
+
+module _ (ss : List Slot) (x : List ℕ) where
+  pub holds-none : Holds ss 0 x
+  holds-none = record { le = λ s l. absurd (omega arith) }
+
+  pub holds-more : (i : ℕ) → Holds ss i x → at x (tails ss i) + pluses ss i ≤ at x (heads ss i) + minuses ss i → Holds ss (i + 1) x
+  holds-more i h l = record { le = below-more (λ s. at x (tails ss s) + pluses ss s ≤ at x (heads ss s) + minuses ss s) i (h .le) l }
+
+  pub holds-all : (i m : ℕ) → Holds ss i x → m ≤ i → Shows true (Holds ss m x)
+  holds-all i m h l = shows-yes (record { le = λ s k. h .le s (omega arith) })
+
+pub kept-by : (g : Graph) (x : List ℕ) (b : Bool) → Shows b (Resting x) → not b ≡ false → (r : Bool) → Shows r (Holds (g .slots) (g .m) x) → Shows r (Kept g x)
+kept-by g x b s e r h = record { shown = λ o. record { holds = h .shown o; low = shown-by b s e .most } }
+
+pub kept-small : (g : Graph) (x : List ℕ) (b : Bool) → Shows b (Kept g x) → not b ≡ false → Small x
+kept-small g x b s e = record { most = λ k. let p = shown-by b s e .low k in omega arith }
+
+module _ (ss : List Slot) (f x : List ℕ) where
+  pub tights-none : Tights ss 0 f x
+  tights-none = record { eq = λ s l. absurd (omega arith) }
+
+  module _ (i : ℕ) (h : Tights ss i f x) where
+    pub tights-idle : at f i ≤ 0 → Tights ss (i + 1) f x
+    tights-idle z = record { eq = below-more (λ s. 0 < at f s → at x (tails ss s) + pluses ss s ≡ at x (heads ss s) + minuses ss s) i (h .eq) (λ l. absurd (omega arith)) }
+
+    pub tights-more : at x (heads ss i) + minuses ss i ≡ at x (tails ss i) + pluses ss i → Tights ss (i + 1) f x
+    tights-more e = record { eq = below-more (λ s. 0 < at f s → at x (tails ss s) + pluses ss s ≡ at x (heads ss s) + minuses ss s) i (h .eq) (λ l. sym e) }
+
+    pub tights-all : (m : ℕ) → m ≤ i → Shows true (Tights ss m f x)
+    tights-all m l = shows-yes (record { eq = λ s k. h .eq s (omega arith) })
+
+-- ---- amounts
+
+pub record WithinTo (f : List ℕ) (q i : ℕ) : Type 0 where
+  pub most : (s : ℕ) → s < i → at f s ≤ q
+
+module _ (f : List ℕ) (q : ℕ) where
+  pub within-none : WithinTo f q 0
+  within-none = record { most = below-none (λ s. at f s ≤ q) }
+
+  pub within-more : (i : ℕ) → WithinTo f q i → at f i ≤ q → WithinTo f q (i + 1)
+  within-more i h l = record { most = below-more (λ s. at f s ≤ q) i (h .most) l }
+
+  pub within-all : (i : ℕ) → WithinTo f q i → slotRoom ≤ i → length f ≡ slotRoom → Shows true (Within f q)
+  within-all i h l e = shows-yes (record { most = λ s. by s (decLt s slotRoom) })
+    where
+      by : (s : ℕ) → Dec (s < slotRoom) → at f s ≤ q
+      by s (yes m) = h .most s (omega arith)
+      by s (no n) = rw (List·getD-eq-default f 0 {n = s} (omega arith)) (omega arith)
+
+pub record IdleTo (ss : List Slot) (m : ℕ) (f : List ℕ) (i : ℕ) : Type 0 where
+  pub past : (s : ℕ) → s < i → m ≤ s → at f s ≡ 0
+  pub still : (s : ℕ) → s < i → tails ss s ≡ heads ss s → pluses ss s ≡ minuses ss s → at f s ≡ 0
+
+module _ (ss : List Slot) (m : ℕ) (f : List ℕ) where
+  pub idle-none : IdleTo ss m f 0
+  idle-none = record { past = λ s l. absurd (omega arith); still = λ s l. absurd (omega arith) }
+
+  module _ (i : ℕ) (h : IdleTo ss m f i) where
+    idle-by : (m ≤ i → at f i ≡ 0) → (tails ss i ≡ heads ss i → pluses ss i ≡ minuses ss i → at f i ≡ 0) → IdleTo ss m f (i + 1)
+    idle-by p q = record { past = below-more (λ s. m ≤ s → at f s ≡ 0) i (h .past) p; still = below-more (λ s. tails ss s ≡ heads ss s → pluses ss s ≡ minuses ss s → at f s ≡ 0) i (h .still) q }
+
+    pub idle-zero : at f i ≤ 0 → IdleTo ss m f (i + 1)
+    idle-zero z = idle-by (λ l. omega arith) (λ e d. omega arith)
+
+    pub idle-apart : i < m → (tails ss i ≡ heads ss i → ⊥) → IdleTo ss m f (i + 1)
+    idle-apart l n = idle-by (λ k. absurd (omega arith)) (λ e d. absurd (n e))
+
+    pub idle-asks : i < m → (pluses ss i ≡ minuses ss i → ⊥) → IdleTo ss m f (i + 1)
+    idle-asks l n = idle-by (λ k. absurd (omega arith)) (λ e d. absurd (n d))
+
+pub idle-all : (g : Graph) (f : List ℕ) (i : ℕ) → IdleTo (g .slots) (g .m) f i → slotRoom ≤ i → length f ≡ slotRoom → Shows true (Idle g f)
+idle-all g f i h l e = shows-yes (record { past = λ s k. by s (decLt s slotRoom) (λ o. h .past s (omega arith) k); still = λ s p q. by s (decLt s slotRoom) (λ o. h .still s (omega arith) p q) })
+  where
+    by : (s : ℕ) → Dec (s < slotRoom) → (s < slotRoom → at f s ≡ 0) → at f s ≡ 0
+    by s (yes m) t = t m
+    by s (no n) t = List·getD-eq-default f 0 {n = s} (omega arith)
+
+-- ---- as much in as out
+
+module _ (into out : List ℕ) where
+  pub even-none : Even into out 0
+  even-none = record { eq = below-none (λ k. at into k ≡ at out k) }
+
+  pub even-more : (i : ℕ) → Even into out i → at into i ≡ at out i → Even into out (i + 1)
+  even-more i h e = record { eq = below-more (λ k. at into k ≡ at out k) i (h .eq) e }
+
+  pub even-all : (i n : ℕ) → Even into out i → n ≤ i → Shows true (Even into out n)
+  even-all i n h l = shows-yes (record { eq = λ k o. h .eq k (omega arith) })
+
+-- ---- parents
+
+module _ (s : Slot) (k a t h r : ℕ) where
+  pub tied-forward : s .head ≡ k → t < r → Shows true (Tied s k a t h r)
+  tied-forward e l = shows-yes (record { way = inl (e, l) })
+
+  pub tied-back : s .tail ≡ k → h < r → 0 < a → Shows true (Tied s k a t h r)
+  tied-back e l c = shows-yes (record { way = inr (e, l, c) })
+
+module _ (ss : List Slot) (m : ℕ) (f x way : List ℕ) where
+  pub rooted-none : Rooted ss m f x way 1
+  rooted-none = record { parent = λ k p l. absurd (omega arith) }
+
+  pub rooted-all : (i n : ℕ) → Rooted ss m f x way i → n ≤ i → Shows true (Rooted ss m f x way n)
+  rooted-all i n h l = shows-yes (record { parent = λ k p o. h .parent k p (omega arith) })
+
+  module _ (k : ℕ) (l : at way k < m) where
+    pub rooted-more : Rooted ss m f x way k → at x (heads ss (at way k)) + minuses ss (at way k) ≡ at x (tails ss (at way k)) + pluses ss (at way k) → (b : Bool) → Shows b (Tied (slotAt ss (at way k)) k (at f (at way k)) (at way (128 + tails ss (at way k))) (at way (128 + heads ss (at way k))) (at way (128 + k))) → not b ≡ false → Rooted ss m f x way (k + 1)
+    rooted-more h e b t o =
+        record { parent = λ j p i. below-more (λ u. 0 < u → Parent ss m f x way u) k (λ u v q. h .parent u q v) (λ q. record { slot = l; tight = record { eq = sym e }; tied = shown-by b t o }) j i p }
+
+-- the places of ranks
+module _ (g : Graph) (fine : Fine g) (p : ℕ) (l : p < g .m) where
+  pub tail-rank-fits : Fits w64 (128 + tails (g .slots) p)
+  tail-rank-fits = let a = fine .fine p l .tail in omega arith
+
+  pub tail-rank-far : Fits w64 ((128 + tails (g .slots) p) * 8)
+  tail-rank-far = let a = fine .fine p l .tail in omega arith
+
+  pub tail-rank-room : 128 + tails (g .slots) p < 256
+  tail-rank-room = let a = fine .fine p l .tail in omega arith
+
+  pub head-rank-fits : Fits w64 (128 + heads (g .slots) p)
+  head-rank-fits = let a = fine .fine p l .head in omega arith
+
+  pub head-rank-far : Fits w64 ((128 + heads (g .slots) p) * 8)
+  head-rank-far = let a = fine .fine p l .head in omega arith
+
+  pub head-rank-room : 128 + heads (g .slots) p < 256
+  head-rank-room = let a = fine .fine p l .head in omega arith

@@ -1,0 +1,53 @@
+use Rattle.axis.proofs.Tests.{shows-no}
+use Rattle.axis.proofs.Gathers.{chain-few, chain-within, refuted}
+use borrow.Author.Needs.{needs}
+use Rattle.axis.proofs.certify.is_chain.Statement.{statement}
+use Rattle.axis.proofs.certify.is_chain.Tie as tie
+use Rattle.axis.proofs.certify.is_chain.Reads as reads
+use Rattle.axis.proofs.certify.is_chain.Lts as lts
+use Rattle.axis.proofs.certify.idle_slots.Reads as idle-slots-reads
+use Rattle.axis.proofs.certify.is_even.Reads as is-even-reads
+use Rattle.axis.proofs.certify.outweighs.Reads as outweighs-reads
+use Rattle.axis.proofs.certify.slot_sums.Reads as slot-sums-reads
+use Rattle.axis.proofs.certify.within.Reads as within-reads
+
+within-requires : tie.Need-within-requires
+within-requires c κs = search needs
+
+returns : tie.Need-returns
+returns c = search shows-no
+
+idle-slots-requires : tie.Need-idle-slots-requires
+idle-slots-requires c κs = search needs
+
+returns-2 : tie.Need-returns-2
+returns-2 c = search shows-no
+
+slot-sums-requires : tie.Need-slot-sums-requires
+slot-sums-requires c κs = (search needs, search chain-few)
+
+is-even-requires : tie.Need-is-even-requires
+is-even-requires c κs = search needs
+
+returns-3 : tie.Need-returns-3
+returns-3 c = search shows-no
+
+outweighs-requires : tie.Need-outweighs-requires
+outweighs-requires c κs = (search needs, search chain-within)
+
+returns-4 : tie.Need-returns-4
+returns-4 c = search refuted
+
+pub is-chain-spec : {M : Type 1} → statement M
+is-chain-spec =
+    tie.close
+    (tie.spec
+    within-requires
+    returns
+    idle-slots-requires
+    returns-2
+    slot-sums-requires
+    is-even-requires
+    returns-3
+    outweighs-requires
+    returns-4)

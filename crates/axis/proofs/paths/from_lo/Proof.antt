@@ -1,0 +1,98 @@
+use Prim.Native.Nat.{_-_, _≤_}
+use borrow.Author.Needs.{needs}
+use Rattle.axis.proofs.paths.from_lo.Statement.{statement}
+use Rattle.axis.proofs.paths.from_lo.Tie as tie
+use Rattle.axis.proofs.paths.from_lo.Reads as reads
+use Rattle.axis.proofs.paths.from_lo.Lts as lts
+use Rattle.axis.proofs.arrays.amount.Reads as amount-reads
+use Rattle.axis.proofs.arrays.begin_of.Reads as begin-of-reads
+use Rattle.axis.proofs.arrays.end_of.Reads as end-of-reads
+use Rattle.axis.proofs.arrays.head_of.Reads as head-of-reads
+use Rattle.axis.proofs.arrays.lo_slot.Reads as lo-slot-reads
+use Rattle.axis.proofs.arrays.pin_slot.Reads as pin-slot-reads
+use Rattle.axis.proofs.arrays.plus.Reads as plus-reads
+use Rattle.axis.proofs.arrays.slack.Reads as slack-reads
+use Rattle.axis.proofs.arrays.value.Reads as value-reads
+use Rattle.axis.proofs.paths.relax.Reads as relax-reads
+
+-- nothing is kept
+abbrev Inv-loop : tie.InvT-loop
+Inv-loop ends links gap x lane hi d dist₀ way₀ to y i₀ dist way i = 0 ≤ i
+
+abbrev μ-loop : tie.MeasureT-loop
+μ-loop ends links gap x lane hi d dist₀ way₀ to y i₀ dist way i = to - i
+
+end-of-requires : tie.Need-end-of-requires Inv-loop μ-loop
+end-of-requires c κs = search needs
+
+add-value : tie.Need-add-value Inv-loop μ-loop
+add-value c = search needs
+
+value-requires : tie.Need-value-requires Inv-loop μ-loop
+value-requires c κs = search needs
+
+begin-of-requires : tie.Need-begin-of-requires Inv-loop μ-loop
+begin-of-requires c κs = search needs
+
+loop-holds : tie.Need-loop-holds Inv-loop μ-loop
+loop-holds c = search needs
+
+pin-slot-requires : tie.Need-pin-slot-requires Inv-loop μ-loop
+pin-slot-requires c κs = search needs
+
+lo-slot-requires : tie.Need-lo-slot-requires Inv-loop μ-loop
+lo-slot-requires c κs = search needs
+
+head-of-requires : tie.Need-head-of-requires Inv-loop μ-loop
+head-of-requires c κs = search needs
+
+amount-requires : tie.Need-amount-requires Inv-loop μ-loop
+amount-requires c κs = search needs
+
+value-requires-2 : tie.Need-value-requires-2 Inv-loop μ-loop
+value-requires-2 c κs = search needs
+
+slack-requires : tie.Need-slack-requires Inv-loop μ-loop
+slack-requires c κs = search needs
+
+plus-requires : tie.Need-plus-requires Inv-loop μ-loop
+plus-requires c κs = search needs
+
+relax-requires : tie.Need-relax-requires Inv-loop μ-loop
+relax-requires c κs = search needs
+
+add-i : tie.Need-add-i Inv-loop μ-loop
+add-i c = search needs
+
+loop-less : tie.Need-loop-less Inv-loop μ-loop
+loop-less c = search needs
+
+loop-again : tie.Need-loop-again Inv-loop μ-loop
+loop-again c = search needs
+
+returns : tie.Need-returns Inv-loop μ-loop
+returns c = search needs
+
+pub from-lo-spec : {M : Type 1} → statement M
+from-lo-spec =
+    tie.close
+    (tie.spec
+    Inv-loop
+    μ-loop
+    end-of-requires
+    add-value
+    value-requires
+    begin-of-requires
+    loop-holds
+    pin-slot-requires
+    lo-slot-requires
+    head-of-requires
+    amount-requires
+    value-requires-2
+    slack-requires
+    plus-requires
+    relax-requires
+    add-i
+    loop-less
+    loop-again
+    returns)

@@ -1,0 +1,59 @@
+use Prim.Native.Nat.{_-_, _≤_}
+use borrow.Author.Needs.{needs}
+use Rattle.axis.proofs.propose.mark_chain.Statement.{statement}
+use Rattle.axis.proofs.propose.mark_chain.Tie as tie
+use Rattle.axis.proofs.propose.mark_chain.Reads as reads
+use Rattle.axis.proofs.propose.mark_chain.Lts as lts
+use Rattle.axis.proofs.arrays.parent_of.Reads as parent-of-reads
+use Rattle.axis.proofs.arrays.set_amount.Reads as set-amount-reads
+use Rattle.axis.proofs.arrays.tail_of.Reads as tail-of-reads
+
+-- nothing is kept
+abbrev Inv-loop : tie.InvT-loop
+Inv-loop ends way v f₀ k₀ turn₀ f k turn = 0 ≤ turn
+
+abbrev μ-loop : tie.MeasureT-loop
+μ-loop ends way v f₀ k₀ turn₀ f k turn = 10 - turn
+
+loop-holds : tie.Need-loop-holds Inv-loop μ-loop
+loop-holds c = search needs
+
+parent-of-requires : tie.Need-parent-of-requires Inv-loop μ-loop
+parent-of-requires c κs = search needs
+
+set-amount-requires : tie.Need-set-amount-requires Inv-loop μ-loop
+set-amount-requires c κs = search needs
+
+tail-of-requires : tie.Need-tail-of-requires Inv-loop μ-loop
+tail-of-requires c κs = search needs
+
+returns : tie.Need-returns Inv-loop μ-loop
+returns c = search needs
+
+add-turn : tie.Need-add-turn Inv-loop μ-loop
+add-turn c = search needs
+
+loop-less : tie.Need-loop-less Inv-loop μ-loop
+loop-less c = search needs
+
+loop-again : tie.Need-loop-again Inv-loop μ-loop
+loop-again c = search needs
+
+returns-2 : tie.Need-returns-2 Inv-loop μ-loop
+returns-2 c = search needs
+
+pub mark-chain-spec : {M : Type 1} → statement M
+mark-chain-spec =
+    tie.close
+    (tie.spec
+    Inv-loop
+    μ-loop
+    loop-holds
+    parent-of-requires
+    set-amount-requires
+    tail-of-requires
+    returns
+    add-turn
+    loop-less
+    loop-again
+    returns-2)

@@ -1,0 +1,83 @@
+use borrow.Author.Needs.{needs}
+use Prim.Native.Nat.{_≤_, _-_}
+use Rattle.searches.proofs.every.half_around.Statement.{statement}
+use Rattle.searches.proofs.every.half_around.Tie as tie
+use Rattle.searches.proofs.every.half_around.Reads as reads
+use Rattle.searches.proofs.every.half_around.Lts as lts
+use Rattle.searches.proofs.every.above.Reads as above-reads
+use Rattle.searches.proofs.every.place_of.Reads as place-of-reads
+use Rattle.searches.proofs.every.sum.Reads as sum-reads
+use Rattle.searches.proofs.every.wider.Reads as wider-reads
+
+abbrev Inv-loop : tie.InvT-loop
+Inv-loop spots from count pins e₀ i₀ e i = i ≤ 128
+
+abbrev μ-loop : tie.MeasureT-loop
+μ-loop spots from count pins e₀ i₀ e i = 128 - i
+
+loop-holds : tie.Need-loop-holds Inv-loop μ-loop
+loop-holds c = search needs
+
+above-requires : tie.Need-above-requires Inv-loop μ-loop
+above-requires c κs = search needs
+
+above-requires-2 : tie.Need-above-requires-2 Inv-loop μ-loop
+above-requires-2 c κs = search needs
+
+sum-requires : tie.Need-sum-requires Inv-loop μ-loop
+sum-requires c κs = search needs
+
+returns : tie.Need-returns Inv-loop μ-loop
+returns c = search needs
+
+sub-if3 : tie.Need-sub-if3 Inv-loop μ-loop
+sub-if3 c = search needs
+
+add-place-of : tie.Need-add-place-of Inv-loop μ-loop
+add-place-of c = search needs
+
+mul-place-of : tie.Need-mul-place-of Inv-loop μ-loop
+mul-place-of c = search needs
+
+array-copy-out-place-of : tie.Need-array-copy-out-place-of Inv-loop μ-loop
+array-copy-out-place-of c = search needs
+
+place-of-requires : tie.Need-place-of-requires Inv-loop μ-loop
+place-of-requires c κs = search needs
+
+wider-requires : tie.Need-wider-requires Inv-loop μ-loop
+wider-requires c κs = search needs
+
+add-i : tie.Need-add-i Inv-loop μ-loop
+add-i c = search needs
+
+loop-less : tie.Need-loop-less Inv-loop μ-loop
+loop-less c = search needs
+
+loop-again : tie.Need-loop-again Inv-loop μ-loop
+loop-again c = search needs
+
+returns-2 : tie.Need-returns-2 Inv-loop μ-loop
+returns-2 c = search needs
+
+pub half-around-spec : {M : Type 1} → statement M
+half-around-spec =
+    tie.close
+    (tie.spec
+    Inv-loop
+    μ-loop
+    loop-holds
+    above-requires
+    above-requires-2
+    sum-requires
+    returns
+    sub-if3
+    add-place-of
+    mul-place-of
+    array-copy-out-place-of
+    place-of-requires
+    wider-requires
+    add-i
+    loop-less
+    loop-again
+    returns-2)

@@ -1,0 +1,21 @@
+use Rattle.searches.proofs.Products.{product-fits}
+use borrow.Author.Needs.{needs}
+use Rattle.searches.proofs.every.product.Statement.{statement}
+use Rattle.searches.proofs.every.product.Tie as tie
+use Rattle.searches.proofs.every.product.Reads as reads
+use Rattle.searches.proofs.every.product.Lts as lts
+
+mul-result : tie.Need-mul-result
+mul-result c = search (needs, product-fits)
+
+returns : tie.Need-returns
+returns c = search needs
+
+returns-2 : tie.Need-returns-2
+returns-2 c = search needs
+
+returns-3 : tie.Need-returns-3
+returns-3 c = search needs
+
+pub product-spec : {M : Type 1} → statement M
+product-spec = tie.close (tie.spec mul-result returns returns-2 returns-3)
