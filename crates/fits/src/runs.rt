@@ -6,7 +6,7 @@ ghost use Prim.Native.Nat.{_≤_};
 ghost use lib.ListN.{length};
 
 // A fit with a list longer than any chip needs.
-pub fn fitted(name: &[u8], c: Chip, letters: &[u8]) {
+pub(crate) fn fitted(name: &[u8], c: Chip, letters: &[u8]) {
     let mut flow = [FILL; 800];
     let answer = fit::fit_letters(c, letters, &mut flow);
     print_fit(name, c, letters, answer, &flow);
