@@ -234,6 +234,98 @@ fn sq5_5x12() {
     );
 }
 
+fn easy2() {
+    placed(
+        b"easy2",
+        b"die,w,60,h,40\nmac,w,21,h,9\nmac,w,19,h,13\nmac,w,12,h,21\nmac,w,18,h,12\nnet,w,7\npin,m,4,x,1,y,1\npin,m,2,x,7,y,8\nnet,w,13\npin,m,0,x,27,y,40\npin,m,3,x,11,y,16\npin,m,4,x,7,y,8\nnet,w,14\npin,m,2,x,17,y,5\npin,m,2,x,6,y,1\npin,m,3,x,9,y,9\nnet,w,423\npin,m,4,x,9,y,9\npin,m,0,x,3,y,14\npin,m,3,x,8,y,14\nnet,w,20\npin,m,1,x,14,y,4\npin,m,4,x,7,y,6\npin,m,0,x,22,y,35\nend\n",
+    );
+}
+
+fn easy3() {
+    placed(
+        b"easy3",
+        b"die,w,60,h,40\nfix,x,20,y,9,w,9,h,10\nfix,x,7,y,8,w,6,h,10\nmac,w,13,h,15\nmac,w,11,h,10\nmac,w,20,h,9\nmac,w,9,h,12\nnet,w,965\npin,m,4,x,1,y,2\npin,m,4,x,2,y,4\npin,m,0,x,20,y,14\nnet,w,625\npin,m,4,x,4,y,11\npin,m,4,x,6,y,5\nnet,w,15\npin,m,3,x,2,y,4\npin,m,2,x,2,y,7\nnet,w,264\npin,m,2,x,11,y,5\npin,m,4,x,6,y,4\npin,m,2,x,9,y,3\nnet,w,8\npin,m,3,x,15,y,7\npin,m,0,x,7,y,10\npin,m,0,x,35,y,34\npin,m,0,x,60,y,5\nend\n",
+    );
+}
+
+fn sq6_9x11() {
+    placed(
+        b"sq6_9x11",
+        b"die,w,9,h,11\nmac,w,1,h,1\nmac,w,2,h,2\nmac,w,3,h,3\nmac,w,4,h,4\nmac,w,5,h,5\nmac,w,6,h,6\nnet,w,1\npin,m,1,x,0,y,0\npin,m,2,x,0,y,0\nnet,w,1\npin,m,2,x,0,y,0\npin,m,3,x,0,y,0\nnet,w,1\npin,m,3,x,0,y,0\npin,m,4,x,0,y,0\nnet,w,1\npin,m,4,x,0,y,0\npin,m,5,x,0,y,0\nnet,w,1\npin,m,5,x,0,y,0\npin,m,6,x,0,y,0\nend\n",
+    );
+}
+
+fn sq7_7x22() {
+    placed(
+        b"sq7_7x22",
+        b"die,w,7,h,22\nmac,w,1,h,1\nmac,w,2,h,2\nmac,w,3,h,3\nmac,w,4,h,4\nmac,w,5,h,5\nmac,w,6,h,6\nmac,w,7,h,7\nnet,w,1\npin,m,1,x,0,y,0\npin,m,2,x,0,y,0\nnet,w,1\npin,m,2,x,0,y,0\npin,m,3,x,0,y,0\nnet,w,1\npin,m,3,x,0,y,0\npin,m,4,x,0,y,0\nnet,w,1\npin,m,4,x,0,y,0\npin,m,5,x,0,y,0\nnet,w,1\npin,m,5,x,0,y,0\npin,m,6,x,0,y,0\nnet,w,1\npin,m,6,x,0,y,0\npin,m,7,x,0,y,0\nend\n",
+    );
+}
+
+fn sq8_14x15() {
+    placed(
+        b"sq8_14x15",
+        b"die,w,14,h,15\nmac,w,1,h,1\nmac,w,2,h,2\nmac,w,3,h,3\nmac,w,4,h,4\nmac,w,5,h,5\nmac,w,6,h,6\nmac,w,7,h,7\nmac,w,8,h,8\nnet,w,1\npin,m,1,x,0,y,0\npin,m,2,x,0,y,0\nnet,w,1\npin,m,2,x,0,y,0\npin,m,3,x,0,y,0\nnet,w,1\npin,m,3,x,0,y,0\npin,m,4,x,0,y,0\nnet,w,1\npin,m,4,x,0,y,0\npin,m,5,x,0,y,0\nnet,w,1\npin,m,5,x,0,y,0\npin,m,6,x,0,y,0\nnet,w,1\npin,m,6,x,0,y,0\npin,m,7,x,0,y,0\nnet,w,1\npin,m,7,x,0,y,0\npin,m,8,x,0,y,0\nend\n",
+    );
+}
+
+fn sq8_20x20() {
+    placed(
+        b"sq8_20x20",
+        b"die,w,20,h,20\nmac,w,1,h,1\nmac,w,2,h,2\nmac,w,3,h,3\nmac,w,4,h,4\nmac,w,5,h,5\nmac,w,6,h,6\nmac,w,7,h,7\nmac,w,8,h,8\nnet,w,1\npin,m,1,x,0,y,0\npin,m,2,x,0,y,0\nnet,w,1\npin,m,2,x,0,y,0\npin,m,3,x,0,y,0\nnet,w,1\npin,m,3,x,0,y,0\npin,m,4,x,0,y,0\nnet,w,1\npin,m,4,x,0,y,0\npin,m,5,x,0,y,0\nnet,w,1\npin,m,5,x,0,y,0\npin,m,6,x,0,y,0\nnet,w,1\npin,m,6,x,0,y,0\npin,m,7,x,0,y,0\nnet,w,1\npin,m,7,x,0,y,0\npin,m,8,x,0,y,0\nend\n",
+    );
+}
+
+fn nofit_sq8_11x19() {
+    placed(
+        b"nofit_sq8_11x19",
+        b"die,w,11,h,19\nmac,w,1,h,1\nmac,w,2,h,2\nmac,w,3,h,3\nmac,w,4,h,4\nmac,w,5,h,5\nmac,w,6,h,6\nmac,w,7,h,7\nmac,w,8,h,8\nnet,w,1\npin,m,1,x,0,y,0\npin,m,2,x,0,y,0\nnet,w,1\npin,m,2,x,0,y,0\npin,m,3,x,0,y,0\nnet,w,1\npin,m,3,x,0,y,0\npin,m,4,x,0,y,0\nnet,w,1\npin,m,4,x,0,y,0\npin,m,5,x,0,y,0\nnet,w,1\npin,m,5,x,0,y,0\npin,m,6,x,0,y,0\nnet,w,1\npin,m,6,x,0,y,0\npin,m,7,x,0,y,0\nnet,w,1\npin,m,7,x,0,y,0\npin,m,8,x,0,y,0\nend\n",
+    );
+}
+
+fn nofit_sq8_12x17() {
+    placed(
+        b"nofit_sq8_12x17",
+        b"die,w,12,h,17\nmac,w,1,h,1\nmac,w,2,h,2\nmac,w,3,h,3\nmac,w,4,h,4\nmac,w,5,h,5\nmac,w,6,h,6\nmac,w,7,h,7\nmac,w,8,h,8\nnet,w,1\npin,m,1,x,0,y,0\npin,m,2,x,0,y,0\nnet,w,1\npin,m,2,x,0,y,0\npin,m,3,x,0,y,0\nnet,w,1\npin,m,3,x,0,y,0\npin,m,4,x,0,y,0\nnet,w,1\npin,m,4,x,0,y,0\npin,m,5,x,0,y,0\nnet,w,1\npin,m,5,x,0,y,0\npin,m,6,x,0,y,0\nnet,w,1\npin,m,6,x,0,y,0\npin,m,7,x,0,y,0\nnet,w,1\npin,m,7,x,0,y,0\npin,m,8,x,0,y,0\nend\n",
+    );
+}
+
+fn nofit_sq8_13x15() {
+    placed(
+        b"nofit_sq8_13x15",
+        b"die,w,13,h,15\nmac,w,1,h,1\nmac,w,2,h,2\nmac,w,3,h,3\nmac,w,4,h,4\nmac,w,5,h,5\nmac,w,6,h,6\nmac,w,7,h,7\nmac,w,8,h,8\nnet,w,1\npin,m,1,x,0,y,0\npin,m,2,x,0,y,0\nnet,w,1\npin,m,2,x,0,y,0\npin,m,3,x,0,y,0\nnet,w,1\npin,m,3,x,0,y,0\npin,m,4,x,0,y,0\nnet,w,1\npin,m,4,x,0,y,0\npin,m,5,x,0,y,0\nnet,w,1\npin,m,5,x,0,y,0\npin,m,6,x,0,y,0\nnet,w,1\npin,m,6,x,0,y,0\npin,m,7,x,0,y,0\nnet,w,1\npin,m,7,x,0,y,0\npin,m,8,x,0,y,0\nend\n",
+    );
+}
+
+fn nofit_sq8_14x14() {
+    placed(
+        b"nofit_sq8_14x14",
+        b"die,w,14,h,14\nmac,w,1,h,1\nmac,w,2,h,2\nmac,w,3,h,3\nmac,w,4,h,4\nmac,w,5,h,5\nmac,w,6,h,6\nmac,w,7,h,7\nmac,w,8,h,8\nnet,w,1\npin,m,1,x,0,y,0\npin,m,2,x,0,y,0\nnet,w,1\npin,m,2,x,0,y,0\npin,m,3,x,0,y,0\nnet,w,1\npin,m,3,x,0,y,0\npin,m,4,x,0,y,0\nnet,w,1\npin,m,4,x,0,y,0\npin,m,5,x,0,y,0\nnet,w,1\npin,m,5,x,0,y,0\npin,m,6,x,0,y,0\nnet,w,1\npin,m,6,x,0,y,0\npin,m,7,x,0,y,0\nnet,w,1\npin,m,7,x,0,y,0\npin,m,8,x,0,y,0\nend\n",
+    );
+}
+
+fn tie_pads_only() {
+    placed(
+        b"tie_pads_only",
+        b"die,w,1024,h,1024\nmac,w,314,h,296\nmac,w,193,h,321\nmac,w,303,h,155\nmac,w,267,h,159\nmac,w,330,h,231\nmac,w,261,h,198\nmac,w,317,h,332\nmac,w,261,h,155\nnet,w,5\npin,m,0,x,3,y,4\npin,m,0,x,900,y,-7\nnet,w,5\npin,m,0,x,3,y,4\npin,m,0,x,900,y,-7\nnet,w,5\npin,m,0,x,3,y,4\npin,m,0,x,900,y,-7\nnet,w,5\npin,m,0,x,3,y,4\npin,m,0,x,900,y,-7\nnet,w,5\npin,m,0,x,3,y,4\npin,m,0,x,900,y,-7\nnet,w,5\npin,m,0,x,3,y,4\npin,m,0,x,900,y,-7\nnet,w,5\npin,m,0,x,3,y,4\npin,m,0,x,900,y,-7\nnet,w,5\npin,m,0,x,3,y,4\npin,m,0,x,900,y,-7\nend\n",
+    );
+}
+
+// More chips of the benchmark.
+fn more() {
+    easy2();
+    easy3();
+    sq6_9x11();
+    sq7_7x22();
+    sq8_14x15();
+    sq8_20x20();
+    nofit_sq8_11x19();
+    nofit_sq8_12x17();
+    nofit_sq8_13x15();
+    nofit_sq8_14x14();
+    tie_pads_only();
+}
+
 pub fn run() {
     marked();
     slips();
@@ -244,4 +336,5 @@ pub fn run() {
     easy1();
     sq4_5x7();
     sq5_5x12();
+    more();
 }
