@@ -2,22 +2,20 @@
 --
 -- Amounts that balance and stand on tight slots make the values least, as those of the solver. By the order of the ranks every node
 -- stands as near to node 0 as in any other least values (`above`).
-use mathlib.Core.Path.{_≡_, refl, sym, ap, subst, _∙_}
-use mathlib.Core.Bool.{Bool, true, false, not}
+use mathlib.Core.Path.{_≡_, ap}
+use mathlib.Core.Bool.{Bool, false, not}
 use mathlib.Core.List.{List, []}
 use mathlib.Core.Logic.{⊎-elim}
-use Prim.Native.Nat.{ℕ, zero, suc, _+_, _*_, _≤_, _<_}
+use Prim.Native.Nat.{ℕ, zero, suc, _+_, _≤_, _<_}
 use native.Mathlib.Decide.{ℕ-discrete, decLt}
 use native.Mathlib.Omega.{arith}
-use lib.ListN.{length, getD, replicate, getD-replicate, length-replicate, List·getD-eq-default}
-use Rattle.bounds.specs.declared.Slot.{Slot}
-use Rattle.bounds.specs.Listed.{slotAt, tails, heads, pluses, minuses}
+use lib.ListN.{replicate, getD-replicate, length-replicate, List·getD-eq-default}
+use Rattle.bounds.specs.Listed.{tails, heads}
 use Rattle.axis.specs.declared.graph.Graph.{Graph}
 use Rattle.axis.specs.declared.solve.Span.{Span}
-use Rattle.axis.specs.Limits.{nodeRoom, slotRoom}
-use Rattle.axis.specs.Graph.{at, Fine, Holds, Tights, Closed, Leads, TightAt}
+use Rattle.axis.specs.Graph.{at, Fine, Holds, Tights, Closed, Leads}
 use Rattle.axis.specs.Solved.{Nets, Solved}
-use Rattle.axis.specs.Certify.{Shows, Kept, Flow, Tied, Parent, Rooted, parentOf, rankOf}
+use Rattle.axis.specs.Certify.{Shows, Kept, Flow, Rooted, parentOf, rankOf}
 use Rattle.axis.proofs.Optimum.{weak-at, strong-at, tight-at}
 use Rattle.axis.proofs.Tests.{shown-by}
 

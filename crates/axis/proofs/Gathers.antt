@@ -1,6 +1,6 @@
 -- Sums at the nodes, and of the chain: what the tests add up.
 use mathlib.Core.Path.{_≡_, refl, sym, ap, subst, _∙_}
-use mathlib.Core.Bool.{Bool, true, false, not}
+use mathlib.Core.Bool.{Bool, false, not}
 use mathlib.Core.List.{List}
 use Prim.Native.Nat.{ℕ, zero, suc, _+_, _*_, _≤_, _<_}
 use native.Mathlib.Decide.{ℕ-discrete}
@@ -11,17 +11,16 @@ use borrow.Author.Tests.{eq-eqb, ne-eqb, ltb-true}
 use mir.Syntax.{w64}
 use mir.Val.{Fits}
 use lib.Dec.{eqb, ltb}
-use lib.ListN.{length, getD, set, replicate, length-set, length-replicate}
+use lib.ListN.{length, set, replicate, length-set, length-replicate}
 use lib.Seq.{getD-set-same, getD-set-other}
 use Rattle.numbers.specs.Sum.{sum, when}
 use Rattle.numbers.proofs.Sums.{when-le, sum-le, sum-grows}
-use Rattle.flow.specs.Flow.{atNode, weigh, Balance}
+use Rattle.flow.specs.Flow.{atNode, weigh}
 use Rattle.bounds.specs.declared.Slot.{Slot}
-use Rattle.bounds.specs.Axis.{noSlot}
-use Rattle.bounds.specs.Listed.{slotAt, tails, heads, pluses, minuses}
+use Rattle.bounds.specs.Listed.{tails, heads, pluses, minuses}
 use Rattle.axis.specs.declared.graph.Graph.{Graph}
 use Rattle.axis.specs.declared.solve.Span.{Span}
-use Rattle.axis.specs.Limits.{nodeRoom, slotRoom, netRoom, sideMost, amountMost}
+use Rattle.axis.specs.Limits.{nodeRoom, slotRoom, sideMost, amountMost}
 use Rattle.axis.specs.Graph.{at, Fine}
 use Rattle.axis.specs.Admit.{Refuted}
 use Rattle.axis.specs.Solved.{los, his, weights, Nets}

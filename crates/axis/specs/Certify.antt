@@ -11,7 +11,7 @@ use Rattle.bounds.specs.declared.Slot.{Slot}
 use Rattle.bounds.specs.Listed.{slotAt, tails, heads, pluses, minuses}
 use Rattle.axis.specs.declared.graph.Graph.{Graph}
 use Rattle.axis.specs.declared.solve.Span.{Span}
-use Rattle.axis.specs.Limits.{nodeRoom, netRoom, slotRoom, lowMost, amountMost}
+use Rattle.axis.specs.Limits.{nodeRoom, slotRoom, lowMost, amountMost}
 use Rattle.axis.specs.Graph.{at, TightAt, Holds}
 use Rattle.axis.specs.Solved.{los, his, weights}
 

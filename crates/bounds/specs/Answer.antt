@@ -1,9 +1,8 @@
 -- What solving an axis promises: values that keep the bounds, least in length and of those the smallest, with a flow of that length; or a closed chain that no values keep.
-use Prim.Native.Nat.{ℕ, zero, suc, _+_, _*_, _≤_, _<_}
+use Prim.Native.Nat.{ℕ, _+_, _≤_, _<_}
 use mathlib.Core.Path.{_≡_}
-use mathlib.Core.List.{List, [], _∷_}
+use mathlib.Core.List.{List}
 use lib.ListN.{length, getD}
-use Rattle.numbers.specs.Sum.{sum}
 use Rattle.flow.specs.Flow.{atNode, weigh, Balance}
 use Rattle.bounds.specs.Axis.{Axis, Keeps, lengthOn, noSlot}
 use Rattle.bounds.specs.Listed.{listed, slotAt, tails, heads, pluses, minuses, amount, hiNode, loNode, nodeCount, weightOf}

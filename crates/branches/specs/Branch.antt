@@ -1,9 +1,8 @@
 -- A branch of the search: the earliest least legal placement among those that keep some letters, and the better of two results.
-use Prim.Native.Nat.{ℕ, zero, suc, _+_}
+use Prim.Native.Nat.{ℕ, suc}
 use mathlib.Core.List.{List, [], _∷_}
 use mathlib.Core.Bool.{Bool, true, false, _&&_, _||_}
 use lib.Dec.{ltb, eqb}
-use lib.ListN.{length, replicate}
 use Rattle.model.specs.declared.Spot.{Spot}
 use Rattle.model.specs.Meaning.{Chip}
 use Rattle.placement.specs.Legal.{legal}

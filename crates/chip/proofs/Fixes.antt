@@ -1,8 +1,8 @@
 -- The tests between fixes, in the form of the needs of their functions.
-use mathlib.Core.Path.{_≡_, refl, sym, ap, _∙_}
-use mathlib.Core.Bool.{Bool, true, false, not, _&&_, _||_, or-true, or-false, and-false}
-use mathlib.Core.List.{List, [], _∷_}
-use Prim.Native.Nat.{ℕ, zero, suc, _+_, _-_, _≤_, _<_}
+use mathlib.Core.Path.{_≡_, refl, sym, _∙_}
+use mathlib.Core.Bool.{Bool, true, false, not, _&&_, _||_}
+use mathlib.Core.List.{List}
+use Prim.Native.Nat.{ℕ, _+_, _-_, _≤_, _<_}
 use native.Mathlib.Decide.{decLe}
 use native.Mathlib.Numerals.{add-one}
 use native.Mathlib.Omega.{arith}
@@ -10,10 +10,9 @@ use lib.Dec.{leb}
 use lib.ListN.{length, getD, take, drop, length-take, drop-of-length-le}
 use lib.Seq.{drop-cons, getD-take}
 use borrow.Author.Tests.{le-leb, lt-leb, not-true, not-false}
-use Rattle.model.specs.declared.Die.{Die}
 use Rattle.model.specs.declared.Fix.{Fix}
 use Rattle.model.specs.Meaning.{blankFix}
-use Rattle.chip.specs.Kind.{fixInDie, fixesApart, clearOf}
+use Rattle.chip.specs.Kind.{fixesApart, clearOf}
 
 module _ (a size end : ℕ) where
   pub starts-past : end < a → false ≡ leb (a + size) end

@@ -12,3 +12,4 @@ pub mod Accepted
 pub mod HeldNets
 pub mod HeldMeaning
 pub mod HeldChip
+pub mod Passing

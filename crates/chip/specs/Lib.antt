@@ -1,3 +1,4 @@
 pub mod Kind
 pub mod Text
 pub mod Valid
+pub mod Passed

@@ -1,12 +1,11 @@
 -- Reading and writing of chips: `readChip` is what a text means, `chipText` the one text of a chip, `writeChip` what writing leaves in a lent buffer.
 use Prim.Native.Nat.{ℕ}
 use mathlib.Core.List.{List, [], _∷_, _++_, map}
-use lib.IntN.{ℤ, pos, negsuc}
+use lib.IntN.{pos}
 use Rattle.model.specs.declared.Die.{Die}
 use Rattle.model.specs.declared.Fix.{Fix}
 use Rattle.model.specs.declared.Mac.{Mac}
 use Rattle.model.specs.Meaning.{Pin, Net, Chip}
-use Rattle.model.specs.declared.Word.{Word}
 use Rattle.model.specs.declared.Word.the-variants as word
 use Rattle.grammar.specs.Words.{Item, itemsText}
 use Rattle.grammar.specs.Reading.{Reading, accepted, refused, readText}

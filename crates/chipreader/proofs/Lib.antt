@@ -7,3 +7,4 @@ pub mod PinAdded
 pub mod Item
 pub mod OneLine
 pub mod Lines
+pub mod Passing

@@ -1,21 +1,16 @@
 -- Corners made from coordinates, and the positions of a fit.
-use Prim.Native.Nat.{ℕ, zero, suc, _+_, _-_, _≤_, _<_}
-use mathlib.Core.Path.{_≡_, refl, sym, ap, subst, _∙_}
-use mathlib.Core.Bool.{Bool, true, _&&_}
-use mathlib.Core.List.{List, [], _∷_, _++_, map}
+use Prim.Native.Nat.{ℕ, zero, suc, _+_, _-_, _≤_}
+use mathlib.Core.Path.{_≡_, refl, ap, _∙_}
+use mathlib.Core.Bool.{true}
+use mathlib.Core.List.{List, [], _∷_, _++_}
 use native.Mathlib.Omega.{arith}
-use lib.IntN.{pos}
-use lib.Signed.{leZ}
 use lib.ListN.{length, getD, take, replicate}
 use borrow.Author.Tests.{le-leb}
 use Rattle.model.specs.declared.Spot.{Spot}
-use Rattle.model.specs.Meaning.{blankSpot, firstOf}
-use Rattle.model.specs.Limits.{isWithin, placedCorner}
-use Rattle.slots.specs.declared.Direction.{Direction}
+use Rattle.model.specs.Meaning.{blankSpot}
 use Rattle.slots.specs.declared.Direction.the-variants.{Horizontal as horizontal, Vertical as vertical}
-use Rattle.slots.specs.Axes.{cornerOn, cornersOn}
+use Rattle.slots.specs.Axes.{cornersOn}
 use Rattle.measure.specs.Measuring.{inRange}
-use Rattle.fit.specs.Answer.{padded}
 use Rattle.fit.specs.Lists.{spotsOf}
 
 pub spots-length : (xs ys : List ℕ) → length xs ≡ length ys → length (spotsOf xs ys) ≡ length xs

@@ -2,92 +2,29 @@
 use Prim.Native.Nat.{ℕ, _+_, _-_, _*_, _/_, _≤_, _<_}
 use mathlib.Core.Path.{_≡_, refl, sym, ap, subst, _∙_}
 use mathlib.Core.Bool.{Bool, true, false, not}
-use mathlib.Core.List.{List, [], _∷_, map}
+use mathlib.Core.List.{List, []}
 use native.Mathlib.Nat.{mul-le-mul}
 use native.Mathlib.Omega.{arith}
 use lib.Dec.{eqb}
-use lib.ListN.{length, drop, length-map, length-drop}
+use lib.ListN.{length}
 use mir.Syntax.{w64}
 use mir.Val.{Fits}
 use borrow.Author.Tests.{eq-eqb, ne-eqb, le-leb, lt-leb, not-true, not-false}
-use Rattle.model.specs.declared.Fix.{Fix}
-use Rattle.model.specs.declared.Mac.{Mac}
-use Rattle.model.specs.declared.Net.{Net as HeldNet}
-use Rattle.model.specs.declared.Pin.{Pin as HeldPin}
 use Rattle.model.specs.declared.Chip.{Chip as HeldChip}
 use Rattle.model.specs.declared.Refusal.{Refusal}
 use Rattle.model.specs.declared.Tested.{Tested}
 use Rattle.model.specs.declared.Tested.the-variants as tested
-use Rattle.model.specs.Meaning.{Chip, firstOf, blankNet, blankPin, netsOf, chipOf}
-use Rattle.model.proofs.FirstOf.{length-first}
-use Rattle.model.proofs.Nets.{length-pins}
+use Rattle.model.specs.Meaning.{Chip, chipOf}
 use Rattle.grammar.specs.Reading.{Reading, accepted, refused}
 use Rattle.grammar.specs.Writing.{testedAs}
-use Rattle.chip.specs.Kind.{pinCount}
 use Rattle.chip.specs.Text.{readChip, chipText}
-use Rattle.chip.specs.Valid.{pinsBefore, Fine}
-use Rattle.chip.proofs.Accepted.{accepted-valid}
-use Rattle.chip.proofs.HeldNets.{before-first}
-use Rattle.chip.proofs.HeldMeaning.{fixes-held, macs-held}
-use Rattle.chip.proofs.HeldChip.{tested-fine}
+use Rattle.chip.specs.Valid.{pinsBefore}
+use Rattle.chip.specs.Passed.{Passed}
 use Rattle.slots.specs.Fit.{Fit, refusedBy, areLetters, letterCount, slotCount, fitChip, fitLetters, Filled}
 use Rattle.fit.specs.declared.FitAnswer.{FitAnswer}
 use Rattle.fit.specs.declared.FitOutcome.the-variants as outcome
 use Rattle.fit.specs.Answer.{padded, answerFor}
-use Rattle.fit.specs.Results.{Passed, Asking, fitting, Answered}
-
--- ---- a chip whose test is passed
-
--- nets whose pins are in the list have as many as they say
-pins-all : (ts : List HeldNet) (ps : List HeldPin) → pinsBefore (length ts) ts ≤ length ps → pinCount (netsOf ts ps) ≡ pinsBefore (length ts) ts
-unfolding netsOf pinCount pinsBefore
-pins-all [] ps h = refl
-pins-all (t ∷ ts) ps h =
-    let p = length-pins (firstOf blankPin (t .pins) ps) in
-    let e = length-first blankPin (t .pins) ps (omega arith) in
-    let d = length-drop (t .pins) ps in
-    let i = pins-all ts (drop (t .pins) ps) (omega arith) in
-    omega arith
-
--- a chip whose arrays are as long as its type says
-pub record Whole (c : HeldChip) : Type 0 where
-  pub fixes : length (c .fixes) ≡ 8
-  pub macs : length (c .macs) ≡ 8
-  pub nets : length (c .nets) ≡ 32
-  pub pins : length (c .pins) ≡ 128
-
--- it is, since images of the arrays are that long
-pub whole : (c : HeldChip) (A B C D : Type 0) (f : Fix → A) (g : Mac → B) (h : HeldNet → C) (k : HeldPin → D) → length (map f (c .fixes)) ≡ 8 → length (map g (c .macs)) ≡ 8 → length (map h (c .nets)) ≡ 32 → length (map k (c .pins)) ≡ 128 → Whole c
-whole c A B C D f g h k p q r s =
-    record { fixes = sym (length-map (c .fixes) f) ∙ p; macs = sym (length-map (c .macs) g) ∙ q; nets = sym (length-map (c .nets) h) ∙ r; pins = sym (length-map (c .pins) k) ∙ s }
-
-module _ (c : HeldChip) (w : Whole c) where
-  pins-held : Fine c → pinCount (chipOf c .nets) ≡ pinsBefore (c .t) (c .nets)
-  unfolding chipOf
-  pins-held v =
-      let F : List HeldNet = firstOf blankNet (c .t) (c .nets) in
-      let a = v .netCount in
-      let b = v .pins in
-      let x = w .nets in
-      let y = w .pins in
-      let n : length F ≡ c .t = length-first blankNet (c .t) (c .nets) (omega arith) in
-      let s : pinsBefore (length F) F ≡ pinsBefore (c .t) (c .nets) = ap (λ (k : ℕ). pinsBefore k F) n ∙ before-first (c .t) (c .t) (c .nets) (omega arith) in
-      pins-all F (c .pins) (omega arith) ∙ s
-
-  passed-read : accepted (chipOf c) ≡ readChip (chipText (chipOf c)) → Passed c
-  passed-read e =
-      let v : Fine c = tested-fine c (w .fixes) (w .macs) (w .nets) (w .pins) e in
-      record {
-        read = e;
-        fine = v;
-        valid = accepted-valid (chipText (chipOf c)) (chipOf c) (sym e);
-        fixes = fixes-held c v (w .fixes);
-        macs = macs-held c v (w .macs);
-        pins = pins-held v;
-      }
-
-  pub test-passed : (t : Tested) → testedAs (chipOf c) t ≡ readChip (chipText (chipOf c)) → t ≡ tested.Passed → Passed c
-  test-passed t e q = passed-read (ap (testedAs (chipOf c)) (sym q) ∙ e)
+use Rattle.fit.specs.Results.{Asking, fitting, Answered}
 
 -- ---- a refusal: nothing is written
 

@@ -1,8 +1,8 @@
 -- From both directions solved, or one of them without a solution, to the answer and the lent list.
-use Prim.Native.Nat.{ℕ, zero, suc, _+_, _-_, _*_, _/_, _≤_, _<_}
+use Prim.Native.Nat.{ℕ, zero, suc, _+_, _-_, _≤_, _<_}
 use mathlib.Core.Path.{_≡_, refl, sym, ap, subst, _∙_}
 use mathlib.Core.Bool.{Bool, true, false, false≢true}
-use mathlib.Core.List.{List, [], _∷_, _++_, map}
+use mathlib.Core.List.{List, [], _++_, map}
 use native.Mathlib.Decide.{decLt}
 use native.Mathlib.Omega.{arith}
 use lib.ListN.{length, getD, take, drop, length-map, replicate}
@@ -12,23 +12,21 @@ use Rattle.model.specs.declared.Chip.{Chip as HeldChip}
 use Rattle.model.specs.declared.Spot.{Spot}
 use Rattle.model.specs.Meaning.{Chip, chipOf, blankSpot, firstOf}
 use Rattle.model.proofs.FirstOf.{first-take}
-use Rattle.grammar.specs.Reading.{accepted}
-use Rattle.chip.specs.Kind.{pinCount}
 use Rattle.chip.specs.Valid.{Valid}
 use Rattle.placement.specs.Legal.{legal}
 use Rattle.placement.specs.Length.{wirelength}
 use Rattle.placement.specs.Letters.{Letter}
-use Rattle.placement.specs.Least.{Best, nothing, found, fitOf}
-use Rattle.bounds.specs.Axis.{Axis, Keeps, lengthOn}
+use Rattle.placement.specs.Least.{found, fitOf}
+use Rattle.bounds.specs.Axis.{Keeps, lengthOn}
 use Rattle.bounds.specs.Listed.{listed}
-use Rattle.bounds.specs.Answer.{LeastOn, FlowOn, ChainOn, SolvedOn, UnsolvedOn}
+use Rattle.bounds.specs.Answer.{LeastOn, FlowOn}
 use Rattle.bounds.proofs.Limits.{listed-tails, listed-heads}
 use Rattle.slots.specs.declared.Direction.{Direction}
 use Rattle.slots.specs.declared.Direction.the-variants.{Horizontal as horizontal, Vertical as vertical}
-use Rattle.slots.specs.Slots.{macSide, dieSide, couples, slotsOn}
-use Rattle.slots.specs.Amounts.{Flow, Chain, amountsOn, slotsEach}
-use Rattle.slots.specs.Axes.{axisFor, cornerOn, cornersOn}
-use Rattle.slots.specs.Fit.{Fit, noFit, placed, lettersOf, letterCount, slotCount, bestFit, Kept, Fitted, Refuted, Filled}
+use Rattle.slots.specs.Slots.{macSide, couples, slotsOn}
+use Rattle.slots.specs.Amounts.{Flow, amountsOn}
+use Rattle.slots.specs.Axes.{axisFor, cornersOn}
+use Rattle.slots.specs.Fit.{Fit, noFit, placed, lettersOf, slotCount, bestFit, Kept, Filled}
 use Rattle.slots.proofs.Counting.{letters-count, listed-count, slots-count}
 use Rattle.slots.proofs.Fineness.{axis-fine, die-most}
 use Rattle.slots.proofs.Flowing.{Agrees}
@@ -43,7 +41,7 @@ use Rattle.fit.specs.declared.FitAnswer.{FitAnswer}
 use Rattle.fit.specs.declared.FitOutcome.the-variants as outcome
 use Rattle.fit.specs.Lists.{Below16, spotsOf, bothLists}
 use Rattle.fit.specs.Answer.{answerFor, padded}
-use Rattle.fit.specs.Results.{Passed, Asking, SolvedBy, UnsolvedBy, fitting, Answered}
+use Rattle.fit.specs.Results.{Asking, SolvedBy, UnsolvedBy, fitting, Answered}
 use Rattle.fit.proofs.Corners.{spots-length, take-spots, corners-x, corners-y, spots-in-range, spots-padded}
 use Rattle.fit.proofs.Listing.{past, both-kept, across-agrees, up-agrees}
 

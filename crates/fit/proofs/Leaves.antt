@@ -1,8 +1,8 @@
 -- Laws of the small functions of the fit, in the form of their needs.
 use Prim.Native.Nat.{ℕ, zero, suc, _+_, _-_, _*_, _/_, _≤_, _<_}
-use mathlib.Core.Path.{_≡_, refl, sym, ap, subst, _∙_}
-use mathlib.Core.Bool.{Bool, true, false, not, _&&_, _||_}
-use mathlib.Core.List.{List, [], _∷_, _++_}
+use mathlib.Core.Path.{_≡_, refl, sym, ap, _∙_}
+use mathlib.Core.Bool.{Bool, true, false, not, _&&_}
+use mathlib.Core.List.{List, [], _∷_}
 use native.Mathlib.Nat.{mul-le-mul, le-antisymm}
 use native.Mathlib.Numerals.{add-one}
 use native.Mathlib.Decide.{ℕ-discrete}
@@ -17,7 +17,7 @@ use Rattle.model.specs.declared.Spot.{Spot}
 use Rattle.model.specs.declared.Net.{Net as HeldNet}
 use Rattle.model.specs.Meaning.{blankNet, blankSpot}
 use Rattle.chip.specs.Valid.{pinsBefore}
-use Rattle.chip.proofs.HeldNets.{pins-before-more, pins-before-next, pins-before-up}
+use Rattle.chip.proofs.HeldNets.{pins-before-next, pins-before-up}
 use Rattle.numbers.proofs.Stores.{sets-more}
 use Rattle.slots.specs.Fit.{isLetter, areLetters}
 use Rattle.fit.specs.Lists.{Below16, spotsOf}

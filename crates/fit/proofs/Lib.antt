@@ -8,3 +8,4 @@ pub mod Corners
 pub mod Fits
 pub mod Directions
 pub mod Entering
+pub mod Outcomes

@@ -5,10 +5,7 @@ use mathlib.Core.List.{List}
 use lib.ListN.{length, getD, take}
 use Rattle.model.specs.declared.Chip.{Chip as HeldChip}
 use Rattle.model.specs.Meaning.{chipOf}
-use Rattle.grammar.specs.Reading.{accepted}
-use Rattle.chip.specs.Kind.{pinCount}
-use Rattle.chip.specs.Text.{readChip, chipText}
-use Rattle.chip.specs.Valid.{pinsBefore, Fine, Valid}
+use Rattle.chip.specs.Passed.{Passed}
 use Rattle.placement.specs.Least.{fitOf}
 use Rattle.bounds.specs.Answer.{SolvedOn, UnsolvedOn}
 use Rattle.axis.specs.declared.service.Verdict.{Verdict}
@@ -18,15 +15,6 @@ use Rattle.slots.specs.Axes.{axisFor}
 use Rattle.slots.specs.Fit.{lettersOf, letterCount, slotCount, Fit, bestFit, Filled}
 use Rattle.fit.specs.declared.FitAnswer.{FitAnswer}
 use Rattle.fit.specs.Answer.{answerFor}
-
--- a chip held as a value whose test is passed
-pub record Passed (c : HeldChip) : Type 0 where
-  pub read : accepted (chipOf c) ≡ readChip (chipText (chipOf c))
-  pub fine : Fine c
-  pub valid : Valid (chipOf c)
-  pub fixes : length (chipOf c .fixes) ≡ c .k
-  pub macs : length (chipOf c .macs) ≡ c .n
-  pub pins : pinCount (chipOf c .nets) ≡ pinsBefore (c .t) (c .nets)
 
 -- one letter for each pair, and m slots for each direction
 pub record Asking (c : HeldChip) (s : List ℕ) (m : ℕ) : Type 0 where

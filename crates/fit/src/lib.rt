@@ -19,11 +19,12 @@ ghost use lib.ListN.{length, take};
 ghost use lib.Seq.{sets};
 ghost use Rattle.model.specs.Meaning.{chipOf};
 ghost use Rattle.chip.specs.Valid.{pinsBefore};
+ghost use Rattle.chip.specs.Passed.{Passed};
 ghost use Rattle.slots.specs.Fit.{refusedBy, isLetter, areLetters, fitLetters, Filled};
 ghost use Rattle.fit.specs.Answer.{padded, answerFor};
 ghost use Rattle.fit.specs.Lists.{Below16, Idle, spotsOf, bothLists};
 ghost use Rattle.fit.specs.Axes.{Taken};
-ghost use Rattle.fit.specs.Results.{Passed, Asking, SolvedBy, UnsolvedBy, Directed, fitting, Answered};
+ghost use Rattle.fit.specs.Results.{Asking, SolvedBy, UnsolvedBy, Directed, fitting, Answered};
 
 // The wirelength of the placement, and the number of slots that its flow takes.
 pub struct Fitted {

@@ -1,5 +1,5 @@
 -- Lines and their fields. Document 01, "The chip file": lines end with LF; each line is a word, then each value after its field name, in fixed order, parted by commas.
-use Prim.Native.Nat.{ℕ, zero, suc}
+use Prim.Native.Nat.{ℕ}
 use mathlib.Core.List.{List, [], _∷_, _++_}
 use mathlib.Core.Bool.{Bool, true, false, _&&_}
 use lib.Dec.{eqb}

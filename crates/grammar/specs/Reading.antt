@@ -1,5 +1,5 @@
 -- Reading a text line by line. Document 01, "Refusal table": 1; then lines from the top, the first faulty line counting; in a line: missing LF 2, word 2, place 5, count 6, 7, then fields from the left, leftover bytes 2, then 8, 9, 10. A text over without its last line is 5, at the line number after the last.
-use Prim.Native.Nat.{ℕ, zero, suc}
+use Prim.Native.Nat.{ℕ, suc}
 use mathlib.Core.List.{List, [], _∷_}
 use mathlib.Core.Bool.{Bool, true, false, not}
 use lib.Dec.{leb}

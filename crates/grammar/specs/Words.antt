@@ -1,5 +1,5 @@
 -- The words of chip files and records, their spelling and their fields (document 01, "The chip file", "The search and its record").
-use Prim.Native.Nat.{ℕ, zero, suc}
+use Prim.Native.Nat.{ℕ}
 use mathlib.Core.List.{List, [], _∷_, _++_}
 use mathlib.Core.Bool.{Bool, true, false, _&&_, _||_}
 use lib.Dec.{eqb}

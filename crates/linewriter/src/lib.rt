@@ -4,7 +4,7 @@ ghost use mathlib.Core.List.{[], _∷_, _++_};
 ghost use lib.IntN.{pos, subℕ};
 ghost use Rattle.decimal.specs.Number.{numberText};
 ghost use Rattle.decimal.specs.Held.{Wrote};
-ghost use Rattle.grammar.specs.Line.{fieldsText, lineFeed};
+ghost use Rattle.grammar.specs.Line.{fieldsText};
 ghost use Rattle.grammar.specs.Words.{spell, rules, itemText};
 ghost use Rattle.line.specs.Held.{valuesOf};
 

@@ -17,6 +17,7 @@ use Rattle.model.specs.declared.Chip.{Chip as HeldChip}
 use Rattle.model.specs.Meaning.{chipOf, firstOf, blankSpot}
 use Rattle.model.proofs.FirstOf.{first-take, first-past, length-first}
 use Rattle.chip.specs.Text.{chipText}
+use Rattle.chip.specs.Passed.{Accepted}
 use Rattle.chip.specs.Valid.{Fine}
 use Rattle.chip.proofs.Accepted.{accepted-valid}
 use Rattle.chip.proofs.HeldMeaning.{macs-held}
@@ -25,12 +26,12 @@ use Rattle.placement.specs.Legal.{boxes, legal}
 use Rattle.placement.specs.Length.{Near, wirelength}
 use Rattle.placement.proofs.LengthBound.{wirelength-bound}
 use Rattle.measure.specs.Measuring.{refused, measured, inRange, measurePassed}
-use Rattle.measure.specs.Held.{legalAfter, lengthTo, Summable, Passed}
+use Rattle.measure.specs.Held.{legalAfter, lengthTo, Summable}
 use Rattle.measure.proofs.Ranges.{in-range-near}
 use Rattle.measure.proofs.IsLegal.{as-many, legal-told}
 use Rattle.measure.proofs.HeldNet.{pins-placed, length-whole}
 
-module _ (c : HeldChip) (p : Passed c) (fs : length (c .fixes) ≡ 8) (ms : length (c .macs) ≡ 8) (ts : length (c .nets) ≡ 32) (hs : length (c .pins) ≡ 128) where
+module _ (c : HeldChip) (p : Accepted c) (fs : length (c .fixes) ≡ 8) (ms : length (c .macs) ≡ 8) (ts : length (c .nets) ≡ 32) (hs : length (c .pins) ≡ 128) where
   fine : Fine c
   fine = tested-fine c fs ms ts hs p
 
@@ -81,7 +82,7 @@ module _ (die : Die) (k : ℕ) (fixes : List Fix) (n : ℕ) (macs : List Mac) (t
   abbrev whole-chip : HeldChip
   whole-chip = record { die = die; k = k; fixes = fixes; n = n; macs = macs; t = t; nets = nets; pins = pins }
 
-  module _ (p : Passed whole-chip) (fs : length fixes ≡ 8) (ms : length macs ≡ 8) (ts : length nets ≡ 32) (hs : length pins ≡ 128) where
+  module _ (p : Accepted whole-chip) (fs : length fixes ≡ 8) (ms : length macs ≡ 8) (ts : length nets ≡ 32) (hs : length pins ≡ 128) where
     pub few-macros : n ≤ 8
     few-macros = fine whole-chip p fs ms ts hs .macCount
 

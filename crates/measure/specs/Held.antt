@@ -1,6 +1,5 @@
 -- What the helpers of measuring compute and need, over the arrays of a chip.
 use Prim.Native.Nat.{ℕ, zero, suc, _+_, _*_, _≤_, _<_, min, max}
-use mathlib.Core.Path.{_≡_}
 use mathlib.Core.Bool.{Bool, true, _&&_}
 use mathlib.Core.List.{List, [], _∷_, _++_, map}
 use lib.ListN.{getD}
@@ -10,11 +9,8 @@ use Rattle.model.specs.declared.Fix.{Fix}
 use Rattle.model.specs.declared.Spot.{Spot}
 use Rattle.model.specs.declared.Net.{Net as HeldNet}
 use Rattle.model.specs.declared.Pin.{Pin as HeldPin}
-use Rattle.model.specs.declared.Chip.{Chip as HeldChip}
-use Rattle.model.specs.Meaning.{chipOf, blankNet, blankPin}
-use Rattle.grammar.specs.Reading.{accepted}
+use Rattle.model.specs.Meaning.{blankNet, blankPin}
 use Rattle.chip.specs.Kind.{fixInDie, clearOf}
-use Rattle.chip.specs.Text.{readChip, chipText}
 use Rattle.chip.specs.Valid.{pinsBefore}
 use Rattle.numbers.specs.Spread.{spread}
 use Rattle.placement.specs.Length.{origin}
@@ -61,7 +57,3 @@ pub record Summable (ps : List Spot) (ts : List HeldNet) (hs : List HeldPin) (t 
   pub some : (j : ℕ) → j < t → 0 < getD ts j blankNet .pins
   pub placed : PlacedTo ps hs (pinsBefore t ts)
   pub small : lengthTo ps ts hs t ≤ 589824000
-
--- a chip held as a value whose test is passed
-abbrev pub Passed : HeldChip → Type 0
-Passed c = accepted (chipOf c) ≡ readChip (chipText (chipOf c))

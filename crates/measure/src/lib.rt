@@ -18,7 +18,8 @@ ghost use Rattle.placement.specs.Legal.{boxes};
 ghost use Rattle.placement.specs.Length.{origin};
 ghost use Rattle.placement.proofs.Spans.{upX, upY};
 ghost use Rattle.measure.specs.Measuring.{measuredAs, inRange, measurePassed, measurePositions};
-ghost use Rattle.measure.specs.Held.{legalBox, legalAfter, withPin, halfAround, lengthTo, Placed, PlacedTo, Summable, Passed};
+ghost use Rattle.measure.specs.Held.{legalBox, legalAfter, withPin, halfAround, lengthTo, Placed, PlacedTo, Summable};
+ghost use Rattle.chip.specs.Passed.{Accepted};
 
 // What measuring answers: legal or not and the wirelength, or the refusal.
 pub enum MeasureAnswer {
@@ -216,7 +217,7 @@ fn measure_parts(
     count: usize,
     spots: [Spot; 8],
 ) -> MeasureAnswer
-    requires { ⌜ Passed (record { die = die; k = k; fixes = fixes; n = n; macs = macs; t = t; nets = nets; pins = pins }) ⌝ }
+    requires { ⌜ Accepted (record { die = die; k = k; fixes = fixes; n = n; macs = macs; t = t; nets = nets; pins = pins }) ⌝ }
     ensures { λ r. ⌜ measuredAs r ≡ measurePassed (chipOf (record { die = die; k = k; fixes = fixes; n = n; macs = macs; t = t; nets = nets; pins = pins })) (firstOf blankSpot count spots) ⌝ }
 {
     if count != n {
@@ -233,7 +234,7 @@ fn measure_parts(
 
 // A chip whose test is passed, as one value.
 fn measure_passed(c: Chip, count: usize, spots: [Spot; 8]) -> MeasureAnswer
-    requires { ⌜ Passed c ⌝ }
+    requires { ⌜ Accepted c ⌝ }
     ensures { λ r. ⌜ measuredAs r ≡ measurePassed (chipOf c) (firstOf blankSpot count spots) ⌝ }
 {
     let die = c.die;

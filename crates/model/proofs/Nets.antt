@@ -1,16 +1,14 @@
 -- Nets with their pins, as counts and one list of pins hold them.
-use mathlib.Core.Path.{_≡_, refl, sym, ap, _∙_}
+use mathlib.Core.Path.{_≡_, refl, ap}
 use mathlib.Core.List.{List, [], _∷_, _++_}
-use Prim.Native.Nat.{ℕ, zero, suc, _+_, _-_, _≤_, _<_}
-use native.Mathlib.Nat.{le-of-suc-le-suc}
-use native.Mathlib.Numerals.{add-one}
+use Prim.Native.Nat.{ℕ, suc, _+_, _-_, _≤_}
 use native.Mathlib.Omega.{arith}
-use lib.ListN.{length, getD, take, drop, set, length-drop}
+use lib.ListN.{length, drop, set}
 use lib.Seq.{drop-drop, drop-set-add}
 use Rattle.model.specs.declared.Net.{Net as HeldNet}
 use Rattle.model.specs.declared.Pin.{Pin as HeldPin}
-use Rattle.model.specs.Meaning.{Net, firstOf, blankPin, pinOf, pinsOf, netsOf}
-use Rattle.model.proofs.FirstOf.{first-kept, first-set}
+use Rattle.model.specs.Meaning.{firstOf, blankPin, pinsOf, netsOf}
+use Rattle.model.proofs.FirstOf.{first-kept}
 
 -- the number of pins that counts take
 unfoldable pub taken : List HeldNet → ℕ

@@ -1,11 +1,10 @@
 -- Differences of natural numbers, as integers: sums and multiples.
-use Prim.Native.Nat.{ℕ, zero, suc, _+_, _-_, _*_, _≤_, _<_}
+use Prim.Native.Nat.{ℕ, zero, suc, _+_, _-_, _*_, _≤_}
 use mathlib.Core.Path.{_≡_, refl, sym, ap, subst, _∙_}
 use native.Mathlib.Decide.{decLe}
 use native.Mathlib.Omega.{arith}
 use lib.IntN.{ℤ, pos, negsuc, negℤ, _+ℤ_, _-ℤ_, _*ℤ_, subℕ, +ℤ-assoc, +ℤ-comm, negℤ-+ℤ, negℤ-negℤ}
-use lib.Dec.{ltb}
-use borrow.Author.Tests.{lt-ltb, le-ltb}
+use borrow.Author.Tests.{le-ltb}
 
 pub sub-up : (a b : ℕ) → b ≤ a → subℕ a b ≡ pos (a - b)
 sub-up a b h = rw (le-ltb a b h)

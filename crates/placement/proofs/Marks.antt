@@ -1,6 +1,6 @@
 -- The marked cases hold: computed case by case, and one theorem over the table.
 use mathlib.Core.Path.{_≡_, refl}
-use mathlib.Core.List.{List, [], _∷_}
+use mathlib.Core.List.{[], _∷_}
 use Rattle.model.specs.Meaning.{none, least}
 use Rattle.decimal.specs.Number.{allOf, valueFrom, plain, numeralOf}
 use Rattle.grammar.specs.Line.{lines, upTo, from, strip, fields}

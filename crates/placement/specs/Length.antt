@@ -1,7 +1,7 @@
 -- How long the nets are. Document 01, "Legal, and how long": a net's length is its weight times (greatest x - least x + greatest y - least y) over its pins; the wirelength is the sum.
 use Prim.Native.Nat.{ℕ, zero, suc, _+_, _*_, _≤_, _<_}
 use mathlib.Core.List.{List, [], _∷_, map}
-use mathlib.Core.Bool.{Bool, true, false, cond}
+use mathlib.Core.Bool.{cond}
 use lib.ListN.{length, getD}
 use lib.IntN.{ℤ, pos, negℤ, _+ℤ_, natAbs}
 use lib.Signed.{leZ}

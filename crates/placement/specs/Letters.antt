@@ -1,9 +1,6 @@
 -- Letters on the pairs. Document 01, "The fit": one letter for each pair, macros 1-2, 1-3 .. 2-3 .., then macro 1 with fix 1, 2 .., macro 2 with fix 1 ..; the first of the pair stands L left, R right, B below, A above the second; `.` demands nothing.
-use Prim.Native.Nat.{ℕ}
 use mathlib.Core.List.{List, [], _∷_, _++_, map}
 use mathlib.Core.Bool.{Bool, true, false, _&&_}
-use lib.Dec.{eqb}
-use lib.ListN.{length}
 use Rattle.model.specs.declared.Spot.{Spot}
 use Rattle.model.specs.Meaning.{Chip}
 use Rattle.placement.specs.Legal.{Box, boxes, leftOf, rightOf, below, above, within}

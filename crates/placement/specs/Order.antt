@@ -1,7 +1,7 @@
 -- Order among placements. Document 01: by x1, then y1, x2, y2 and so on, the smaller first.
 use Prim.Native.Nat.{ℕ}
 use mathlib.Core.List.{List, [], _∷_}
-use mathlib.Core.Bool.{Bool, true, false, _&&_, _||_}
+use mathlib.Core.Bool.{Bool, false, _&&_, _||_}
 use lib.Dec.{ltb, eqb}
 use Rattle.model.specs.declared.Spot.{Spot}
 

@@ -14,6 +14,7 @@ use Rattle.model.specs.declared.Spot.{Spot}
 use Rattle.model.specs.Meaning.{Chip, chipOf, firstOf, blankSpot, outcomeOf, recordOf}
 use Rattle.model.proofs.FirstOf.{first-take}
 use Rattle.chip.proofs.HeldNets.{getD-first}
+use Rattle.chip.specs.Passed.{Passed}
 use Rattle.placement.specs.Letters.{Letter, dot, keepsLetters}
 use Rattle.placement.specs.Least.{found, fitOf}
 use Rattle.placement.proofs.Demand.{fit-found}
@@ -22,7 +23,7 @@ use Rattle.branches.proofs.Betters.{Sized}
 use Rattle.branches.proofs.Closing.{letters-inside, closes, legal-closes}
 use Rattle.search.specs.Best.{resultOf, bestOf, CountIs, Counted, Told, Alike, Better}
 use Rattle.search.specs.Choice.{SmallSpots, Chosen}
-use Rattle.search.specs.Search.{Passed, lettersIn, Lettered, FitHeld, Searched}
+use Rattle.search.specs.Search.{lettersIn, Lettered, FitHeld, Searched}
 use Rattle.search.proofs.Deciding.{chosen-undecided, chosen-legal}
 use Rattle.search.proofs.Lettering.{letters-long}
 use Rattle.search.proofs.Records.{counted-sized}

@@ -3,8 +3,8 @@ use Prim.Native.Nat.{ℕ, _-_, _≤_}
 use mathlib.Core.Path.{_≡_, refl, sym, ap, subst, _∙_}
 use mathlib.Core.List.{List}
 use native.Mathlib.Omega.{arith}
-use lib.ListN.{length, take, replicate, length-append, length-replicate}
-use lib.Seq.{length-take-le, take-at}
+use lib.ListN.{length, take}
+use lib.Seq.{length-take-le}
 use borrow.Author.Tests.{eq-eqb, le-leb}
 use Rattle.model.specs.declared.Chip.{Chip as HeldChip}
 use Rattle.model.specs.declared.Record.{Record as HeldRecord}
@@ -13,33 +13,34 @@ use Rattle.model.specs.declared.Refusal.{Refusal}
 use Rattle.model.specs.declared.Spot.{Spot}
 use Rattle.model.specs.Meaning.{Chip, chipOf, firstOf, blankSpot, recordOf}
 use Rattle.model.proofs.FirstOf.{first-take}
+use Rattle.chip.specs.Passed.{Passed}
 use Rattle.placement.specs.Letters.{Letter}
 use Rattle.placement.specs.Least.{Best, nothing, found, fitOf}
-use Rattle.slots.specs.Fit.{letterCount, slotCount, bestFit, fitLetters}
+use Rattle.slots.specs.Fit.{Fit, refusedBy, noFit, placed, letterCount, slotCount, bestFit, fitLetters}
 use Rattle.branches.proofs.Betters.{Sized}
 use Rattle.branches.proofs.Closing.{fit-sized}
 use Rattle.fit.specs.declared.Fitted.{Fitted}
-use Rattle.fit.specs.declared.FitOutcome.{FitOutcome}
 use Rattle.fit.specs.declared.FitOutcome.the-variants as fitted
 use Rattle.fit.specs.declared.FitAnswer.{FitAnswer}
-use Rattle.fit.specs.Answer.{padded, answerFor}
+use Rattle.fit.specs.Answer.{outcomeOf, positionsOf, padded, answerFor}
+use Rattle.fit.proofs.Outcomes.{padded-long, take-padded, is-placed, is-none, is-refused}
 use Rattle.search.specs.Best.{bestOf}
-use Rattle.search.specs.Search.{Passed, lettersIn, Lettered, noRecord, FitHeld}
+use Rattle.search.specs.Search.{lettersIn, Lettered, noRecord, FitHeld}
 use Rattle.search.proofs.Rests.{no-best}
 use Rattle.search.proofs.Records.{none-counted}
 
--- at most 8 positions, and 0,0 up to 8
-pub padded-long : (ps : List Spot) → length ps ≤ 8 → length (padded ps) ≡ 8
-padded-long ps h = let a = length-append ps (replicate (8 - length ps) blankSpot) in let b = length-replicate (8 - length ps) blankSpot in omega arith
-
 pub first-padded : (n : ℕ) (ps : List Spot) → length ps ≡ n → n ≤ 8 → firstOf blankSpot n (padded ps) ≡ ps
-first-padded n ps e h = let l = padded-long ps (omega arith) in first-take blankSpot n (padded ps) (omega arith) ∙ take-at ps (replicate (8 - length ps) blankSpot) n e
+first-padded n ps e h = let l = padded-long ps (omega arith) in first-take blankSpot n (padded ps) (omega arith) ∙ take-padded n ps e
 
--- the length in an answer
-abbrev lengthOf : FitOutcome → ℕ
-lengthOf (fitted.Placed f) = f .length
-lengthOf fitted.NoFit = 0
-lengthOf (fitted.Refused f) = 0
+-- the placement of a fit, or nothing
+abbrev back : Fit → Best
+back (placed wl slots ps) = found wl ps
+back noFit = nothing
+back (refusedBy number line) = nothing
+
+back-best : (slots : ℕ) (b : Best) → back (bestFit slots b) ≡ b
+back-best slots nothing = refl
+back-best slots (found wl ps) = refl
 
 pub prefix-long : (c : HeldChip) (letters : List ℕ) (p : ℕ) → Lettered c letters p → length letters ≡ 92 → p ≡ length (take p letters)
 prefix-long c letters p e l = let f = e .few in sym (length-take-le p letters (omega arith))
@@ -66,52 +67,38 @@ module _ (c : HeldChip) (letters : List ℕ) (p : ℕ) (ok : Passed c) (e : Lett
     is : a ≡ answerFor (bestFit (slotCount C) (fitOf C ls))
     is = q ∙ ap answerFor (ap (fitLetters C (take p letters)) m ∙ fits)
 
-    is-for : (b : Best) → fitOf C ls ≡ b → a ≡ answerFor (bestFit (slotCount C) b)
-    is-for b k = is ∙ ap (λ (t : Best). answerFor (bestFit (slotCount C) t)) k
+    abbrev F : Fit
+    F = bestFit (slotCount C) (fitOf C ls)
+
+    same : a .outcome ≡ outcomeOf F
+    same = ap (λ (t : FitAnswer). t .outcome) is
+
+    best-is : (f : Fit) → F ≡ f → fitOf C ls ≡ back f
+    best-is f k = sym (back-best (slotCount C) (fitOf C ls)) ∙ ap back k
 
     -- no placement: there is no fit
-    none-held : (b : Best) → fitOf C ls ≡ b → ((f : Fitted) → a .outcome ≡ fitted.Placed f → ⊥) → FitHeld c letters p noRecord
-    none-held nothing k n = record { is = no-best ∙ sym k; counted = none-counted (c .n) (ok .fine .macCount) }
-    none-held (found wl ps) k n = absurd (n (record { length = wl; slots = slotCount C }) (ap (λ (t : FitAnswer). t .outcome) (is-for (found wl ps) k)))
+    none-held : fitOf C ls ≡ nothing → FitHeld c letters p noRecord
+    none-held k = record { is = no-best ∙ sym k; counted = none-counted (c .n) (ok .fine .macCount) }
 
     pub fit-none : (r : HeldRecord) → r ≡ noRecord → a .outcome ≡ fitted.NoFit → FitHeld c letters p r
-    fit-none r o z = rw o (none-held (fitOf C ls) refl (λ f y. by f (sym z ∙ y)))
-      where
-        by : (f : Fitted) → fitted.NoFit ≡ fitted.Placed f → ⊥
-        by f y = let u : _≡_ {A = ℕ} 0 1 = cc in absurd (omega arith)
+    fit-none r o z = rw o (none-held (best-is noFit (is-none (a .outcome) F same z)))
 
     pub fit-refused : (r : HeldRecord) → r ≡ noRecord → (g : Refusal) → a .outcome ≡ fitted.Refused g → FitHeld c letters p r
-    fit-refused r o g z = rw o (none-held (fitOf C ls) refl (λ f y. by f (sym z ∙ y)))
-      where
-        by : (f : Fitted) → fitted.Refused g ≡ fitted.Placed f → ⊥
-        by f y = let u : _≡_ {A = ℕ} 0 1 = cc in absurd (omega arith)
+    fit-refused r o g z = rw o (none-held (best-is (refusedBy (g .no) (g .line)) (is-refused (a .outcome) F same g z)))
 
     -- the placement and its length
-    abbrev held : Fitted → HeldRecord
-    held f = record { outcome = outcome.Least (f .length) (c .n); spots = a .spots }
-
-    some-held : (f : Fitted) → a .outcome ≡ fitted.Placed f → (b : Best) → fitOf C ls ≡ b → FitHeld c letters p (held f)
+    pub fit-placed : (f : Fitted) → a .outcome ≡ fitted.Placed f → FitHeld c letters p (record { outcome = outcome.Least (f .length) (c .n); spots = a .spots })
     unfolding bestOf recordOf
-    some-held f z nothing k = absurd (by (sym (ap (λ (t : FitAnswer). t .outcome) (is-for nothing k)) ∙ z))
-      where
-        by : fitted.NoFit ≡ fitted.Placed f → ⊥
-        by y = let u : _≡_ {A = ℕ} 0 1 = cc in absurd (omega arith)
-    some-held f z (found wl ps) k = record {
-      is = rw (lengths, spots, first-padded (c .n) ps sized (ok .fine .macCount)) (sym k);
-      counted = record { few = ok .fine .macCount; whole = ap (λ (s : List Spot). length s) spots ∙ padded-long ps (let q = ok .fine .macCount in let s = sized in omega arith); count = refl };
+    fit-placed f z = record {
+      is = rw (spots, first-padded (c .n) (positionsOf F) sized (ok .fine .macCount)) (sym here);
+      counted = record { few = ok .fine .macCount; whole = ap (λ (s : List Spot). length s) spots ∙ padded-long (positionsOf F) (let q = ok .fine .macCount in let s = sized in omega arith); count = refl };
     }
       where
-        placed : fitted.Placed (record { length = wl; slots = slotCount C }) ≡ fitted.Placed f
-        placed = sym (ap (λ (t : FitAnswer). t .outcome) (is-for (found wl ps) k)) ∙ z
+        here : fitOf C ls ≡ found (f .length) (positionsOf F)
+        here = best-is (placed (f .length) (f .slots) (positionsOf F)) (is-placed (a .outcome) F same f z)
 
-        lengths : f .length ≡ wl
-        lengths = sym (ap lengthOf placed)
+        spots : a .spots ≡ padded (positionsOf F)
+        spots = ap (λ (t : FitAnswer). t .spots) is
 
-        spots : a .spots ≡ padded ps
-        spots = ap (λ (t : FitAnswer). t .spots) (is-for (found wl ps) k)
-
-        sized : length ps ≡ c .n
-        sized = subst (Sized (length (C .macs))) k (fit-sized C ls) ∙ ok .macs
-
-    pub fit-placed : (f : Fitted) → a .outcome ≡ fitted.Placed f → FitHeld c letters p (held f)
-    fit-placed f z = some-held f z (fitOf C ls) refl
+        sized : length (positionsOf F) ≡ c .n
+        sized = subst (Sized (length (C .macs))) here (fit-sized C ls) ∙ ok .macs

@@ -1,16 +1,12 @@
 -- From the test or the reading of a chip to its record, and to what is written: in the form of the needs of the services.
 use Prim.Native.Nat.{ℕ, _+_, _-_, _*_, _/_, _≤_}
-use mathlib.Core.Path.{_≡_, refl, sym, ap, subst, _∙_}
-use mathlib.Core.List.{List, map}
+use mathlib.Core.Path.{_≡_, refl, sym, ap, _∙_}
+use mathlib.Core.List.{List}
 use native.Mathlib.Nat.{mul-le-mul}
 use native.Mathlib.Omega.{arith}
 use lib.ListN.{length, replicate, length-map}
 use mir.Syntax.{w64}
 use mir.Val.{Fits}
-use Rattle.model.specs.declared.Fix.{Fix}
-use Rattle.model.specs.declared.Mac.{Mac}
-use Rattle.model.specs.declared.Net.{Net}
-use Rattle.model.specs.declared.Pin.{Pin}
 use Rattle.model.specs.declared.Spot.{Spot}
 use Rattle.model.specs.declared.Chip.{Chip as HeldChip}
 use Rattle.model.specs.declared.Record.{Record as HeldRecord}
@@ -21,11 +17,7 @@ use Rattle.model.specs.Meaning.{Chip, Record, none, least, chipOf, recordOf}
 use Rattle.grammar.specs.Reading.{Reading, accepted}
 use Rattle.grammar.specs.Writing.{Written, testedAs, refuse, writeText}
 use Rattle.chip.specs.Text.{readChip, chipText}
-use Rattle.chip.specs.Valid.{Fine}
-use Rattle.chip.proofs.Accepted.{accepted-valid}
-use Rattle.chip.proofs.HeldChip.{tested-fine}
-use Rattle.chip.proofs.HeldMeaning.{fixes-held, macs-held}
-use Rattle.chip.proofs.ReadText.{read-text}
+use Rattle.chip.specs.Passed.{Passed}
 use Rattle.chipreader.specs.declared.ChipAnswer.{ChipAnswer}
 use Rattle.chipreader.specs.declared.ChipAnswer.the-variants as answer
 use Rattle.chipreader.specs.Answer.{meant}
@@ -40,7 +32,7 @@ use Rattle.branches.specs.Branch.{better, underLetters}
 use Rattle.branches.proofs.Betters.{nothing-better}
 use Rattle.branches.proofs.Branching.{all-dots}
 use Rattle.search.specs.Best.{resultOf, bestOf, Counted}
-use Rattle.search.specs.Search.{Passed, lettersIn, Lettered, noRecord, Searched}
+use Rattle.search.specs.Search.{lettersIn, Lettered, noRecord, Searched}
 use Rattle.search.specs.Place.{searchChip, placeText, placeRead}
 use Rattle.search.proofs.Lettering.{dots-are, dots-in}
 use Rattle.search.proofs.Rests.{no-best}
@@ -104,40 +96,6 @@ module _ (c : HeldChip) (p : ℕ) (ok : Passed c) (e : p ≡ c .n * (c .n - 1) /
 
 pub start-counted : (c : HeldChip) (o : HeldRecord) → Passed c → o ≡ noRecord → Counted (c .n) o
 start-counted c o ok q = rw q (none-counted (c .n) (ok .fine .macCount))
-
--- ---- a chip whose arrays are as long as its type says
-
-pub record Whole (c : HeldChip) : Type 0 where
-  pub fixes : length (c .fixes) ≡ 8
-  pub macs : length (c .macs) ≡ 8
-  pub nets : length (c .nets) ≡ 32
-  pub pins : length (c .pins) ≡ 128
-
--- it is, since images of the arrays are that long
-pub whole : (c : HeldChip) (A B C D : Type 0) (f : Fix → A) (g : Mac → B) (h : Net → C) (k : Pin → D) → length (map f (c .fixes)) ≡ 8 → length (map g (c .macs)) ≡ 8 → length (map h (c .nets)) ≡ 32 → length (map k (c .pins)) ≡ 128 → Whole c
-whole c A B C D f g h k p q r s =
-    record { fixes = sym (length-map (c .fixes) f) ∙ p; macs = sym (length-map (c .macs) g) ∙ q; nets = sym (length-map (c .nets) h) ∙ r; pins = sym (length-map (c .pins) k) ∙ s }
-
-module _ (c : HeldChip) (w : Whole c) where
-  passed-by : accepted (chipOf c) ≡ readChip (chipText (chipOf c)) → Passed c
-  passed-by e =
-      let v : Fine c = tested-fine c (w .fixes) (w .macs) (w .nets) (w .pins) e in
-      record {
-        read = e;
-        fine = v;
-        valid = accepted-valid (chipText (chipOf c)) (chipOf c) (sym e);
-        fixes = fixes-held c v (w .fixes);
-        macs = macs-held c v (w .macs);
-      }
-
-  pub test-passed : (t : Tested) → testedAs (chipOf c) t ≡ readChip (chipText (chipOf c)) → t ≡ tested.Passed → Passed c
-  test-passed t e q = passed-by (ap (testedAs (chipOf c)) (sym q) ∙ e)
-
-  pub read-passed : (text : List ℕ) (a : ChipAnswer) → meant a c ≡ readChip text → a ≡ answer.Accepted → Passed c
-  read-passed text a e q = passed-by (sym (subst (λ (t : List ℕ). readChip t ≡ accepted (chipOf c)) (read-text text (chipOf c) read) read))
-    where
-      read : readChip text ≡ accepted (chipOf c)
-      read = sym e ∙ ap (λ (t : ChipAnswer). meant t c) q
 
 -- ---- what is written
 

@@ -29,7 +29,8 @@ use Rattle.placement.proofs.LengthBound.{wirelength-bound}
 use Rattle.branches.proofs.Closing.{legal-inside}
 use Rattle.fit.specs.Answer.{padded}
 use Rattle.search.specs.Search.{noRecord}
-use Rattle.search.proofs.FitRecords.{padded-long, first-padded}
+use Rattle.fit.proofs.Outcomes.{padded-long}
+use Rattle.search.proofs.FitRecords.{first-padded}
 use Rattle.search.proofs.Nearby.{within-long, within-near}
 
 -- ---- the lines

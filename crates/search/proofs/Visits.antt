@@ -10,6 +10,7 @@ use lib.Seq.{getD-set-same, getD-set-other}
 use Rattle.model.specs.declared.Chip.{Chip as HeldChip}
 use Rattle.model.specs.declared.Record.{Record as HeldRecord}
 use Rattle.model.specs.Meaning.{Chip, chipOf}
+use Rattle.chip.specs.Passed.{Passed}
 use Rattle.placement.specs.Letters.{Letter, left, right, low, high, dot}
 use Rattle.placement.specs.Least.{Best, nothing, fitOf}
 use Rattle.slots.specs.Fit.{letterOf}
@@ -20,7 +21,7 @@ use Rattle.branches.proofs.Branching.{branches-on}
 use Rattle.branches.proofs.Undecided.{undecided-less}
 use Rattle.search.specs.declared.branch.Kids.{Kids}
 use Rattle.search.specs.Best.{bestOf, Counted}
-use Rattle.search.specs.Search.{Passed, byteOf, lettersIn, Lettered, noRecord, FitHeld, kidList, kidAt, KidsFit, KidsCounted, NextKid, Searched}
+use Rattle.search.specs.Search.{byteOf, lettersIn, Lettered, noRecord, FitHeld, kidList, kidAt, KidsFit, KidsCounted, NextKid, Searched}
 use Rattle.search.proofs.Lettering.{letters-set, letters-long, no-dot, lettered-set}
 use Rattle.search.proofs.Rests.{bestIn, AllSized, best-sized, sized-set, take-out, rest, rests, rest-there, rest-gone, rest-fit, rest-none, none-in, no-best, rests-at, rests-set, rests-sized, heldIn, held-fewer}
 use Rattle.search.proofs.Records.{counted-sized, none-counted}

@@ -3,28 +3,17 @@ use Prim.Native.Nat.{ℕ, _≤_, _<_}
 use mathlib.Core.Path.{_≡_}
 use mathlib.Core.Bool.{true}
 use mathlib.Core.List.{List, [], _∷_}
-use lib.ListN.{length, getD, take, set, replicate}
+use lib.ListN.{getD, take, set, replicate}
 use Rattle.model.specs.declared.Chip.{Chip as HeldChip}
 use Rattle.model.specs.declared.Record.{Record as HeldRecord}
 use Rattle.model.specs.declared.Outcome.the-variants as outcome
 use Rattle.model.specs.Meaning.{chipOf, blankSpot}
-use Rattle.grammar.specs.Reading.{accepted}
-use Rattle.chip.specs.Text.{readChip, chipText}
-use Rattle.chip.specs.Valid.{Fine, Valid}
 use Rattle.placement.specs.Letters.{Letter}
 use Rattle.placement.specs.Least.{nothing, fitOf}
 use Rattle.slots.specs.Fit.{areLetters, lettersOf, letterCount}
 use Rattle.branches.specs.Branch.{better, underLetters}
 use Rattle.search.specs.Best.{bestOf, Counted}
 use Rattle.search.specs.declared.branch.Kids.{Kids}
-
--- a chip held as a value whose test is passed
-pub record Passed (c : HeldChip) : Type 0 where
-  pub read : accepted (chipOf c) ≡ readChip (chipText (chipOf c))
-  pub fine : Fine c
-  pub valid : Valid (chipOf c)
-  pub fixes : length (chipOf c .fixes) ≡ c .k
-  pub macs : length (chipOf c .macs) ≡ c .n
 
 -- ---- letters
 

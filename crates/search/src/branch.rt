@@ -11,7 +11,8 @@ ghost use mathlib.Core.Path.{_≡_};
 ghost use Prim.Native.Nat.{_<_};
 ghost use lib.ListN.{getD, set};
 ghost use Rattle.search.specs.Weights.{SmallWeights};
-ghost use Rattle.search.specs.Search.{Passed, byteOf, Lettered, noRecord, FitHeld, kidList, KidsCounted, KidsFit, NextKid, Searched};
+ghost use Rattle.chip.specs.Passed.{Passed};
+ghost use Rattle.search.specs.Search.{byteOf, Lettered, noRecord, FitHeld, kidList, KidsCounted, KidsFit, NextKid, Searched};
 ghost use Rattle.search.specs.Best.{Counted};
 
 // The fits of the four letters of a pair, in the order L, R, B, A; none where there is no fit, or it was visited.

@@ -12,8 +12,8 @@ ghost use mathlib.Core.Path.{_≡_};
 ghost use Prim.Native.Nat.{_+_, _-_, _*_, _/_, _≤_};
 ghost use Rattle.model.specs.Meaning.{chipOf, recordOf};
 ghost use Rattle.grammar.specs.Writing.{answerOf};
+ghost use Rattle.chip.specs.Passed.{Passed};
 ghost use Rattle.placement.specs.Least.{chipRecord};
-ghost use Rattle.search.specs.Search.{Passed};
 ghost use Rattle.search.specs.Place.{searchChip, placeText};
 
 // With n macros, k fixes there are n(n-1)/2 + n·k letters.

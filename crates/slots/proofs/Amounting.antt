@@ -1,8 +1,7 @@
 -- Inflow, outflow and the sum of a × amount over the slots of document 01 are those over the solver's slots.
-use Prim.{Unit, tt}
-use Prim.Native.Nat.{ℕ, zero, suc, _+_, _*_, _<_}
+use Prim.Native.Nat.{ℕ, zero, suc, _+_, _*_}
 use mathlib.Core.Path.{_≡_, refl, sym, ap, _∙_}
-use mathlib.Core.Bool.{Bool, true, false}
+use mathlib.Core.Bool.{Bool}
 use mathlib.Core.List.{List, [], _∷_}
 use native.Mathlib.Omega.{arith}
 use lib.Dec.{eqb}
@@ -14,7 +13,7 @@ use Rattle.numbers.proofs.Differences.{add-sub, times-sub}
 use Rattle.flow.specs.Flow.{atNode, weigh}
 use Rattle.bounds.specs.declared.Slot.{Slot as HeldSlot}
 use Rattle.bounds.specs.Axis.{noSlot}
-use Rattle.bounds.specs.Listed.{slotAt, tails, heads, pluses, minuses, amount}
+use Rattle.bounds.specs.Listed.{tails, heads, pluses, minuses, amount}
 use Rattle.slots.specs.Slots.{Slot, free, bound}
 use Rattle.slots.specs.Amounts.{amountsWhere, into, outOf, inflow, outflow, worth}
 use Rattle.slots.proofs.Matches.{Same, AllSame}

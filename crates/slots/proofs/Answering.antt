@@ -1,29 +1,24 @@
 -- From the solver's flow and chain of each direction to those that document 01 asks for.
-use Prim.Native.Nat.{ℕ, zero, suc, _+_, _-_, _*_, _≤_, _<_}
-use mathlib.Core.Path.{_≡_, refl, sym, ap, subst, _∙_, fun-ext}
-use mathlib.Core.Bool.{Bool, true, false}
-use mathlib.Core.List.{List, [], _∷_, map}
+use Prim.Native.Nat.{ℕ, _-_, _≤_}
+use mathlib.Core.Path.{_≡_, refl, sym, ap, _∙_, fun-ext}
+use mathlib.Core.List.{List}
 use native.Mathlib.Omega.{arith}
-use lib.IntN.{ℤ, pos, _+ℤ_, subℕ}
-use lib.Signed.{leZ}
-use lib.ListN.{length, getD}
-use borrow.Author.Tests.{le-leb}
+use lib.IntN.{pos, subℕ}
+use lib.ListN.{length}
 use Rattle.model.specs.Meaning.{Chip}
 use Rattle.chip.specs.Valid.{Valid}
 use Rattle.numbers.proofs.Differences.{sub-up}
-use Rattle.numbers.proofs.Sums.{sum-eq, sum-zero, when-zero}
-use Rattle.numbers.specs.Sum.{sum, when}
-use Rattle.flow.specs.Flow.{atNode, weigh, Ends, Balance}
+use Rattle.flow.specs.Flow.{atNode, weigh, Ends}
 use Rattle.placement.specs.Letters.{Letter}
 use Rattle.bounds.specs.declared.Slot.{Slot as HeldSlot}
-use Rattle.bounds.specs.Axis.{Axis, noSlot, Fine}
-use Rattle.bounds.specs.Listed.{listed, slotAt, tails, heads, pluses, minuses, amount, nodeCount}
+use Rattle.bounds.specs.Axis.{Axis}
+use Rattle.bounds.specs.Listed.{listed, tails, heads, pluses, minuses, amount, nodeCount}
 use Rattle.bounds.specs.Answer.{supply, demand, OnSlots, FlowOn, ChainOn}
 use Rattle.slots.specs.declared.Direction.{Direction}
-use Rattle.slots.specs.Slots.{Slot, free, slotsOn}
+use Rattle.slots.specs.Slots.{Slot, slotsOn}
 use Rattle.slots.specs.Amounts.{inflow, outflow, worth, Amounts, Balanced, Closed}
 use Rattle.slots.specs.Axes.{axisFor}
-use Rattle.slots.proofs.Matches.{AllSame, same-slots, same-length}
+use Rattle.slots.proofs.Matches.{AllSame, same-slots}
 use Rattle.slots.proofs.Amounting.{Placed, same-free, inflow-is, outflow-is, worth-is}
 use Rattle.slots.proofs.Flowing.{Agrees, everywhere, no-supply, no-demand, supply-is, demand-is}
 

@@ -1,7 +1,7 @@
 -- How many letters and slots a chip has.
 use Prim.Native.Nat.{ℕ, zero, suc, _+_, _-_, _*_, _/_}
-use mathlib.Core.Path.{_≡_, refl, sym, ap, _∙_}
-use mathlib.Core.List.{List, [], _∷_, _++_, map}
+use mathlib.Core.Path.{_≡_, refl, _∙_}
+use mathlib.Core.List.{List, [], _∷_, map}
 use native.Mathlib.Omega.{arith}
 use lib.ListN.{length, length-map, length-append}
 use Rattle.model.specs.declared.Fix.{Fix}
@@ -15,7 +15,7 @@ use Rattle.bounds.specs.Listed.{listed}
 use Rattle.bounds.proofs.Counts.{length-listed}
 use Rattle.slots.specs.declared.Direction.{Direction}
 use Rattle.slots.specs.Slots.{macSide, Couple, macFix, couplesWith, macCouples, fixCouples, couplesOf, couples, slotsOn}
-use Rattle.slots.specs.Fit.{letterCount, slotCount}
+use Rattle.slots.specs.Fit.{letterCount}
 use Rattle.slots.specs.Axes.{axisPin, axisNet, heldSlots, axisFor}
 use Rattle.slots.proofs.Matches.{same-slots, same-length}
 

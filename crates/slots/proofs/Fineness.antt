@@ -1,25 +1,23 @@
 -- The axes of a valid chip are within the solver's limits.
-use Prim.{Unit, tt}
+use Prim.{tt}
 use Prim.Native.Nat.{ℕ, zero, suc, _+_, _-_, _*_, _/_, _≤_, _<_}
-use mathlib.Core.Path.{_≡_, refl, sym, ap, subst, _∙_}
+use mathlib.Core.Path.{_≡_, sym, subst}
 use mathlib.Core.Bool.{true}
-use mathlib.Core.List.{List, [], _∷_, _++_, map}
+use mathlib.Core.List.{List, [], _∷_, map}
 use native.Mathlib.Nat.{mul-le-mul}
 use native.Mathlib.Omega.{arith}
-use lib.IntN.{ℤ, pos, negsuc, _+ℤ_, natAbs}
+use lib.IntN.{ℤ, pos, negsuc}
 use lib.Signed.{leZ}
-use lib.ListN.{length, getD, length-map, List·getD-map}
+use lib.ListN.{length, getD, length-map}
 use borrow.Author.Tests.{leb-true}
 use Rattle.model.specs.declared.Fix.{Fix}
 use Rattle.model.specs.declared.Mac.{Mac}
 use Rattle.model.specs.Meaning.{Pin, Net, Chip, blankFix, blankMac}
 use Rattle.grammar.proofs.Every.{Every, every-append}
 use Rattle.grammar.proofs.Lacks.{and-left, and-right}
-use Rattle.chip.specs.Kind.{pinCount}
-use Rattle.chip.specs.Valid.{Between, ValidFix, ValidMac, ValidPin, ValidNet, Valid, noPin, noNet}
+use Rattle.chip.specs.Valid.{ValidFix, ValidMac, ValidPin, ValidNet, Valid, noPin, noNet}
 use Rattle.chip.proofs.NetsRead.{every-at}
 use Rattle.placement.specs.Letters.{Letter}
-use Rattle.bounds.specs.declared.Slot.{Slot as HeldSlot}
 use Rattle.bounds.specs.Axis as bounds
 use Rattle.bounds.specs.Axis.{noSlot, FinePair, FinePin, FineNet, Fine, bareNet}
 use Rattle.slots.specs.declared.Direction.{Direction}

@@ -1,22 +1,22 @@
 -- The two directions solved give the fit of the letters; one of them without a solution gives no fit.
-use Prim.Native.Nat.{ℕ, zero, suc, _+_, _≤_, _<_}
-use mathlib.Core.Path.{_≡_, refl, sym, ap, subst, _∙_}
+use Prim.Native.Nat.{ℕ, _+_, _≤_}
+use mathlib.Core.Path.{_≡_, ap, _∙_}
 use mathlib.Core.Bool.{true}
-use mathlib.Core.List.{List, [], _∷_, map}
+use mathlib.Core.List.{List}
 use native.Mathlib.Omega.{arith}
-use lib.ListN.{length, getD, length-map, List·getD-map}
+use lib.ListN.{length, List·getD-map}
 use Rattle.model.specs.declared.Spot.{Spot}
 use Rattle.model.specs.Meaning.{Chip, blankSpot}
 use Rattle.chip.specs.Valid.{Valid}
 use Rattle.placement.specs.Length.{wirelength}
 use Rattle.placement.specs.Letters.{Letter, keepsLetters}
-use Rattle.placement.specs.Least.{Best, nothing, found, fitOf}
-use Rattle.placement.proofs.FitIs.{NowhereLarger, fit-is, no-fit-is, letters-long}
+use Rattle.placement.specs.Least.{nothing, found, fitOf}
+use Rattle.placement.proofs.FitIs.{NowhereLarger, fit-is, no-fit-is}
 use Rattle.bounds.specs.Axis.{Axis, Keeps, lengthOn}
 use Rattle.bounds.specs.Answer.{LeastOn}
 use Rattle.slots.specs.declared.Direction.{Direction}
 use Rattle.slots.specs.declared.Direction.the-variants.{Horizontal as horizontal, Vertical as vertical}
-use Rattle.slots.specs.Slots.{macSide, couples}
+use Rattle.slots.specs.Slots.{couples}
 use Rattle.slots.specs.Axes.{axisFor, cornerOn, cornersOn}
 use Rattle.slots.proofs.Keeping.{keeps-splits, keeps-joins}
 use Rattle.slots.proofs.Lengths.{lengths-split}

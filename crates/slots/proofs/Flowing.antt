@@ -1,32 +1,24 @@
 -- A flow on the solver's axis is a flow on the slots of document 01, and so for a closed chain.
-use Prim.Native.Nat.{ℕ, zero, suc, _+_, _-_, _*_, _≤_, _<_}
-use mathlib.Core.Path.{_≡_, refl, sym, ap, subst, _∙_}
-use mathlib.Core.Bool.{Bool, true, false}
+use Prim.Native.Nat.{ℕ, suc, _+_, _-_, _*_, _≤_, _<_}
+use mathlib.Core.Path.{_≡_, refl, ap, _∙_}
 use mathlib.Core.List.{List, [], _∷_, map}
 use native.Mathlib.Decide.{decLt}
 use native.Mathlib.Omega.{arith}
 use lib.Dec.{eqb}
-use lib.IntN.{ℤ, pos, _+ℤ_, subℕ}
-use lib.Signed.{leZ}
 use lib.ListN.{length, getD, length-map}
-use borrow.Author.Tests.{le-leb, ne-eqb}
+use borrow.Author.Tests.{ne-eqb}
 use Rattle.model.specs.Meaning.{Net, Chip}
-use Rattle.chip.specs.Valid.{Valid}
 use Rattle.numbers.specs.Sum.{sum, when}
 use Rattle.numbers.proofs.Sums.{sum-eq, sum-first, sum-zero}
-use Rattle.numbers.proofs.Differences.{sub-up}
-use Rattle.flow.specs.Flow.{atNode, weigh, Ends, Balance}
+use Rattle.flow.specs.Flow.{atNode, Ends, Balance}
 use Rattle.placement.specs.Letters.{Letter}
-use Rattle.bounds.specs.Axis.{Axis, noSlot, bareNet, Fine}
-use Rattle.bounds.specs.Listed.{listed, slotAt, tails, heads, pluses, minuses, amount, hiNode, loNode, nodeCount, weightOf}
-use Rattle.bounds.specs.Answer.{supply, demand, OnSlots, FlowOn, ChainOn}
+use Rattle.bounds.specs.Axis.{Axis, bareNet}
+use Rattle.bounds.specs.Listed.{listed, tails, heads, hiNode, loNode, nodeCount, weightOf}
+use Rattle.bounds.specs.Answer.{supply, demand}
 use Rattle.slots.specs.declared.Direction.{Direction}
-use Rattle.slots.specs.declared.Direction.the-variants.{Horizontal as horizontal, Vertical as vertical}
-use Rattle.slots.specs.Slots.{Slot, free, macSide, firstHi, slotsOn}
-use Rattle.slots.specs.Amounts.{inflow, outflow, worth, weightAt, hiWeight, loWeight, Amounts, Balanced, Closed}
+use Rattle.slots.specs.Slots.{Slot, macSide, firstHi}
+use Rattle.slots.specs.Amounts.{weightAt, hiWeight, loWeight}
 use Rattle.slots.specs.Axes.{axisNet, axisFor}
-use Rattle.slots.proofs.Matches.{AllSame, same-slots, same-length}
-use Rattle.slots.proofs.Amounting.{Placed, same-free, inflow-is, outflow-is, worth-is}
 
 -- the weights at the nets' ends
 weights-at : (d : Direction) (e : ℕ) (ts : List Net) (k : ℕ) → weightAt e ts k ≡ sum (λ j. when (eqb (e + 2 * j) k) (getD (map (axisNet d) ts) j bareNet .weight)) (length ts)

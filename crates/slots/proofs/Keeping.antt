@@ -1,16 +1,16 @@
 -- A placement keeps the letters exactly when both directions keep the die and the pairs' bounds.
 use Prim.Native.Nat.{ℕ, zero, suc, _+_, _≤_, _<_}
 use mathlib.Core.Path.{_≡_, refl, sym, ap, subst, _∙_}
-use mathlib.Core.Bool.{Bool, true, false, _&&_, false≢true}
-use mathlib.Core.List.{List, [], _∷_, _++_, map}
+use mathlib.Core.Bool.{Bool, true, _&&_}
+use mathlib.Core.List.{List, [], _∷_, map}
 use native.Mathlib.Nat.{le-of-suc-le-suc}
 use native.Mathlib.Omega.{arith}
-use lib.Dec.{leb, eqb}
+use lib.Dec.{leb}
 use lib.ListN.{length, getD, length-map}
-use borrow.Author.Tests.{leb-true, le-leb, eqb-true, eq-eqb}
+use borrow.Author.Tests.{leb-true, le-leb, eq-eqb}
 use Rattle.model.specs.declared.Mac.{Mac}
 use Rattle.model.specs.declared.Spot.{Spot}
-use Rattle.model.specs.Meaning.{Chip, blankSpot}
+use Rattle.model.specs.Meaning.{Chip}
 use Rattle.grammar.proofs.Lacks.{and-left, and-right}
 use Rattle.placement.specs.Legal.{boxAt, boxes, inDie, allInDie, placesAll, within}
 use Rattle.placement.specs.Letters.{Letter, keeps, pairs, keepsAll, keepsLetters}

@@ -1,17 +1,15 @@
 -- The wirelength of a placement is the sum of the lengths on the two axes.
-use Prim.Native.Nat.{ℕ, zero, suc, _+_, _-_, _*_, _≤_, _<_}
-use mathlib.Core.Path.{_≡_, refl, sym, ap, subst, _∙_}
-use mathlib.Core.Bool.{true, _&&_}
+use Prim.Native.Nat.{ℕ, suc, _+_, _-_, _*_, _≤_, _<_}
+use mathlib.Core.Path.{_≡_, refl, sym, ap, _∙_}
+use mathlib.Core.Bool.{true}
 use mathlib.Core.List.{List, [], _∷_, map}
 use native.Mathlib.Omega.{arith}
-use lib.Dec.{leb}
-use lib.IntN.{ℤ, pos, negsuc, _+ℤ_, subℕ, natAbs, pos-+ℤ-pos}
+use lib.IntN.{ℤ, pos, negsuc, _+ℤ_, subℕ, natAbs}
 use lib.Signed.{leZ}
 use lib.ListN.{length, getD}
 use borrow.Author.Tests.{leb-true}
 use Rattle.model.specs.declared.Spot.{Spot}
 use Rattle.model.specs.Meaning.{Pin, Net, Chip}
-use Rattle.model.specs.Limits as limits
 use Rattle.grammar.proofs.Lacks.{and-left}
 use Rattle.chip.specs.Valid.{ValidPin, ValidNet, Valid, noPin, noNet}
 use Rattle.numbers.specs.Spread.{spread}

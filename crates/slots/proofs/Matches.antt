@@ -1,10 +1,10 @@
 -- Slot by slot, the axis that the solver is given has the bounds of document 01.
 use Prim.{Unit, tt}
-use Prim.Native.Nat.{ℕ, zero, suc, _+_, _<_}
+use Prim.Native.Nat.{ℕ, suc, _+_, _<_}
 use mathlib.Core.Path.{_≡_, refl, sym, ap, _∙_}
 use mathlib.Core.List.{List, [], _∷_, _++_, map}
 use native.Mathlib.Omega.{arith}
-use lib.IntN.{ℤ, pos, negℤ, _-ℤ_, subℕ}
+use lib.IntN.{pos, negℤ, subℕ}
 use lib.ListN.{length, getD, length-map}
 use Rattle.model.specs.declared.Die.{Die}
 use Rattle.model.specs.declared.Mac.{Mac}
@@ -15,7 +15,7 @@ use Rattle.placement.specs.Letters.{Letter}
 use Rattle.bounds.specs.declared.Slot.{Slot as HeldSlot}
 use Rattle.bounds.specs.Axis.{noSlot}
 use Rattle.bounds.specs.Listed as axis
-use Rattle.bounds.specs.Listed.{slot, dieSlots, listed}
+use Rattle.bounds.specs.Listed.{dieSlots, listed}
 use Rattle.slots.specs.declared.Direction.{Direction}
 use Rattle.slots.specs.declared.Asked.{Asked}
 use Rattle.slots.specs.declared.Asked.the-variants.{Before as before, After as after, Nothing as nothing}

@@ -1,17 +1,16 @@
 -- The pairs of boxes of a placement are the couples of the chip at their corners; a letter is kept exactly when both directions keep its slot.
-use Prim.Native.Nat.{ℕ, zero, suc, _+_, _≤_, _<_}
-use mathlib.Core.Path.{_≡_, refl, sym, ap, subst, _∙_}
-use mathlib.Core.Bool.{Bool, true, false, _&&_}
+use Prim.Native.Nat.{ℕ, zero, suc, _+_, _≤_}
+use mathlib.Core.Path.{_≡_, refl, ap, _∙_}
+use mathlib.Core.Bool.{true}
 use mathlib.Core.List.{List, [], _∷_, _++_, map}
 use native.Mathlib.Omega.{arith}
-use lib.Dec.{leb}
 use lib.ListN.{length, getD, List·getD-map}
 use borrow.Author.Tests.{leb-true, le-leb}
 use Rattle.model.specs.declared.Fix.{Fix}
 use Rattle.model.specs.declared.Mac.{Mac}
 use Rattle.model.specs.declared.Spot.{Spot}
 use Rattle.model.specs.Meaning.{Chip, blankSpot}
-use Rattle.placement.specs.Legal.{Box, boxAt, boxes}
+use Rattle.placement.specs.Legal.{boxAt, boxes}
 use Rattle.placement.specs.Length.{origin}
 use Rattle.placement.specs.Letters.{Letter, keeps, Pair, with, pairsOf, withEach, pairs}
 use Rattle.placement.specs.Letters as letter
@@ -19,7 +18,6 @@ use Rattle.bounds.specs.Axis.{valueAt, KeepsSlot, noSlot}
 use Rattle.bounds.specs.Listed.{slot}
 use Rattle.slots.specs.declared.Direction.{Direction}
 use Rattle.slots.specs.declared.Direction.the-variants.{Horizontal as horizontal, Vertical as vertical}
-use Rattle.slots.specs.declared.Asked.{Asked}
 use Rattle.slots.specs.Slots.{asked, Couple, twoMacs, macFix, couplesWith, macCouples, fixCouples, couplesOf, couples}
 use Rattle.slots.specs.Axes.{heldSlot, cornerOn, cornersOn}
 

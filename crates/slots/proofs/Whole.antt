@@ -1,6 +1,6 @@
 -- The flow and the chain over both directions.
-use Prim.Native.Nat.{ℕ, zero, suc, _+_, _-_, _*_, _≤_, _<_}
-use mathlib.Core.Path.{_≡_, refl, sym, ap, subst, _∙_}
+use Prim.Native.Nat.{ℕ, zero, suc, _+_, _-_, _*_}
+use mathlib.Core.Path.{_≡_, refl, sym, ap, _∙_}
 use mathlib.Core.Bool.{Bool, true}
 use mathlib.Core.List.{List, [], _∷_}
 use native.Mathlib.Omega.{arith}
@@ -10,7 +10,6 @@ use lib.ListN.{length, getD}
 use borrow.Author.Tests.{le-leb}
 use Rattle.model.specs.Meaning.{Chip}
 use Rattle.chip.specs.Valid.{Valid}
-use Rattle.numbers.specs.Sum.{sum, when}
 use Rattle.numbers.proofs.Sums.{when-zero}
 use Rattle.placement.specs.Letters.{Letter}
 use Rattle.flow.specs.Flow.{Ends}
@@ -20,7 +19,7 @@ use Rattle.bounds.specs.Answer.{FlowOn, ChainOn}
 use Rattle.slots.specs.declared.Direction.{Direction}
 use Rattle.slots.specs.declared.Direction.the-variants.{Horizontal as horizontal, Vertical as vertical}
 use Rattle.slots.specs.Slots.{Slot, free, bound, slotsOn}
-use Rattle.slots.specs.Amounts.{amountsWhere, into, outOf, worth, Amounts, Balanced, Closed, amountsOn, wholeWorth, Flow, Chain}
+use Rattle.slots.specs.Amounts.{amountsWhere, into, outOf, worth, Amounts, Closed, amountsOn, wholeWorth, Flow, Chain}
 use Rattle.slots.specs.Axes.{axisFor}
 use Rattle.slots.proofs.Flowing.{Agrees}
 use Rattle.slots.proofs.Answering.{flow-amounts, flow-balanced, flow-worth, chain-amounts, chain-closed, chain-gain, chain-worth, chain-some}

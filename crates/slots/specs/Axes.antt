@@ -1,9 +1,8 @@
 -- The axis that the solver is given for a direction of a chip: the same bounds as its slots, over natural numbers. Pins are held 4,096 higher.
-use Prim.Native.Nat.{ℕ, zero, suc, _+_}
+use Prim.Native.Nat.{ℕ, _+_}
 use mathlib.Core.List.{List, [], _∷_, map}
 use lib.IntN.{ℤ, pos, _+ℤ_, natAbs}
 use Rattle.model.specs.declared.Spot.{Spot}
-use Rattle.model.specs.declared.Mac.{Mac}
 use Rattle.model.specs.Meaning.{Pin, Net, Chip}
 use Rattle.placement.specs.Letters.{Letter}
 use Rattle.bounds.specs.declared.Slot.{Slot as HeldSlot}

@@ -1,5 +1,5 @@
 -- What a fit answers. Document 01, "The fit" and "Refusal table": the refusal of the chip, tested as its text would be; then 11 where there is not one letter for each pair, 12 where a byte is no letter, 15 where the lent list is shorter than the slots; else a placement with its length, or no fit.
-use Prim.Native.Nat.{ℕ, zero, suc, _+_, _*_, _/_, _-_}
+use Prim.Native.Nat.{ℕ, _+_, _*_, _/_, _-_}
 use mathlib.Core.Path.{_≡_}
 use mathlib.Core.List.{List, [], _∷_, map}
 use mathlib.Core.Bool.{Bool, true, false, _&&_, _||_}

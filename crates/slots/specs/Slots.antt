@@ -1,5 +1,5 @@
 -- The slots of a fit. Document 01, "The fit": horizontal slots, then vertical; two for each macro, one for each pair, two for each pin, all in file order. Each slot is a bound "v - u ≥ a".
-use Prim.Native.Nat.{ℕ, zero, suc, _+_}
+use Prim.Native.Nat.{ℕ, suc, _+_}
 use mathlib.Core.List.{List, [], _∷_, _++_, map}
 use lib.ListN.{length}
 use lib.IntN.{ℤ, pos, negℤ, _-ℤ_}

@@ -1,13 +1,8 @@
-use mathlib.Core.Path.{_≡_}
-use Prim.Native.Nat.{ℕ, _-_, _≤_}
-use lib.ListN.{length, take, drop}
+use Prim.Native.Nat.{_-_, _≤_}
 use borrow.Author.Needs.{needs}
 use Rattle.chip.proofs.Fixes.{Left, none-tested, all-tested, past-last, overlap-found, one-clear}
 use Rattle.chip.proofs.clear_of_fixes.Statement.{statement}
 use Rattle.chip.proofs.clear_of_fixes.Tie as tie
-use Rattle.chip.proofs.clear_of_fixes.Reads as reads
-use Rattle.chip.proofs.clear_of_fixes.Lts as lts
-use Rattle.chip.proofs.fixes_apart.Reads as fixes-apart-reads
 
 abbrev Inv-loop : tie.InvT-loop
 Inv-loop f k fixes i₀ i = (i ≤ 8) × Left f fixes k i

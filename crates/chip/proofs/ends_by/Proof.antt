@@ -1,8 +1,6 @@
 use Rattle.chip.proofs.Fixes.{starts-past, rest-of}
 use Rattle.chip.proofs.ends_by.Statement.{statement}
 use Rattle.chip.proofs.ends_by.Tie as tie
-use Rattle.chip.proofs.ends_by.Reads as reads
-use Rattle.chip.proofs.ends_by.Lts as lts
 
 -- src/lib.rt:14:9
 returns : tie.Need-returns

@@ -2,9 +2,6 @@ use Rattle.chip.proofs.Fixes.{and-fails, and-rest}
 use borrow.Author.Needs.{needs}
 use Rattle.chip.proofs.fix_in_die.Statement.{statement}
 use Rattle.chip.proofs.fix_in_die.Tie as tie
-use Rattle.chip.proofs.fix_in_die.Reads as reads
-use Rattle.chip.proofs.fix_in_die.Lts as lts
-use Rattle.chip.proofs.ends_by.Reads as ends-by-reads
 
 -- src/lib.rt:23:9
 ends-by-requires : tie.Need-ends-by-requires

@@ -2,9 +2,6 @@ use Rattle.chip.proofs.Fixes.{or-holds, or-rest}
 use borrow.Author.Needs.{needs}
 use Rattle.chip.proofs.fixes_apart.Statement.{statement}
 use Rattle.chip.proofs.fixes_apart.Tie as tie
-use Rattle.chip.proofs.fixes_apart.Reads as reads
-use Rattle.chip.proofs.fixes_apart.Lts as lts
-use Rattle.chip.proofs.ends_by.Reads as ends-by-reads
 
 -- src/lib.rt:33:8
 ends-by-requires : tie.Need-ends-by-requires

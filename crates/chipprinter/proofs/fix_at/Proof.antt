@@ -2,8 +2,6 @@ use Rattle.chipprinter.proofs.Counted.{blank-past}
 use borrow.Author.Needs.{needs}
 use Rattle.chipprinter.proofs.fix_at.Statement.{statement}
 use Rattle.chipprinter.proofs.fix_at.Tie as tie
-use Rattle.chipprinter.proofs.fix_at.Reads as reads
-use Rattle.chipprinter.proofs.fix_at.Lts as lts
 
 -- src/lib.rt:30:16
 mul-result : tie.Need-mul-result

@@ -3,11 +3,6 @@ use Rattle.chipprinter.proofs.Parts.{blocks-written}
 use borrow.Author.Needs.{needs}
 use Rattle.chipprinter.proofs.put_blocks.Statement.{statement}
 use Rattle.chipprinter.proofs.put_blocks.Tie as tie
-use Rattle.chipprinter.proofs.put_blocks.Reads as reads
-use Rattle.chipprinter.proofs.put_blocks.Lts as lts
-use Rattle.chipprinter.proofs.put_fixes.Reads as put-fixes-reads
-use Rattle.chipprinter.proofs.put_macs.Reads as put-macs-reads
-use Rattle.linewriter.proofs.put_line.Reads as put-line-reads
 
 -- src/lib.rt:153:9
 put-line-requires : tie.Need-put-line-requires

@@ -3,11 +3,6 @@ use Rattle.chipprinter.proofs.Parts.{chip-written}
 use borrow.Author.Needs.{needs}
 use Rattle.chipprinter.proofs.put_chip.Statement.{statement}
 use Rattle.chipprinter.proofs.put_chip.Tie as tie
-use Rattle.chipprinter.proofs.put_chip.Reads as reads
-use Rattle.chipprinter.proofs.put_chip.Lts as lts
-use Rattle.chipprinter.proofs.put_blocks.Reads as put-blocks-reads
-use Rattle.chipprinter.proofs.put_nets.Reads as put-nets-reads
-use Rattle.linewriter.proofs.put_line.Reads as put-line-reads
 
 -- src/lib.rt:164:9
 put-blocks-requires : tie.Need-put-blocks-requires

@@ -12,11 +12,6 @@ use Rattle.chip.specs.Text.{fixItem}
 use Rattle.chipprinter.proofs.Printed.{items-none, line-more, lines-all}
 use Rattle.chipprinter.proofs.put_fixes.Statement.{statement}
 use Rattle.chipprinter.proofs.put_fixes.Tie as tie
-use Rattle.chipprinter.proofs.put_fixes.Reads as reads
-use Rattle.chipprinter.proofs.put_fixes.Lts as lts
-use Rattle.chipprinter.proofs.fix_at.Reads as fix-at-reads
-use Rattle.chipprinter.proofs.shown.Reads as shown-reads
-use Rattle.linewriter.proofs.put_line.Reads as put-line-reads
 
 abbrev Inv-loop : tie.InvT-loop
 Inv-loop out₀ at fixes k n a₀ i₀ out a i = (i ≤ n) × Wrote out₀ out (itemsText (map fixItem (take i (firstOf blankFix k fixes)))) at a

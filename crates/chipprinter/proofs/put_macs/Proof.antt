@@ -12,11 +12,6 @@ use Rattle.chip.specs.Text.{macItem}
 use Rattle.chipprinter.proofs.Printed.{items-none, line-more, lines-all}
 use Rattle.chipprinter.proofs.put_macs.Statement.{statement}
 use Rattle.chipprinter.proofs.put_macs.Tie as tie
-use Rattle.chipprinter.proofs.put_macs.Reads as reads
-use Rattle.chipprinter.proofs.put_macs.Lts as lts
-use Rattle.chipprinter.proofs.mac_at.Reads as mac-at-reads
-use Rattle.chipprinter.proofs.shown.Reads as shown-reads
-use Rattle.linewriter.proofs.put_line.Reads as put-line-reads
 
 abbrev Inv-loop : tie.InvT-loop
 Inv-loop out₀ at macs k n a₀ i₀ out a i = (i ≤ n) × Wrote out₀ out (itemsText (map macItem (take i (firstOf blankMac k macs)))) at a

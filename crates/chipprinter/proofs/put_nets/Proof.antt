@@ -8,13 +8,6 @@ use Rattle.line.specs.Held.{loweredAll}
 use Rattle.chipprinter.proofs.Nets.{netsTo, pinsTo, netLines, pins-none, nets-none, pins-more, net-more, nets-all}
 use Rattle.chipprinter.proofs.put_nets.Statement.{statement}
 use Rattle.chipprinter.proofs.put_nets.Tie as tie
-use Rattle.chipprinter.proofs.put_nets.Reads as reads
-use Rattle.chipprinter.proofs.put_nets.Lts as lts
-use Rattle.chipprinter.proofs.net_at.Reads as net-at-reads
-use Rattle.chipprinter.proofs.past.Reads as past-reads
-use Rattle.chipprinter.proofs.put_pins.Reads as put-pins-reads
-use Rattle.chipprinter.proofs.shown.Reads as shown-reads
-use Rattle.linewriter.proofs.put_line.Reads as put-line-reads
 
 abbrev Inv-loop : tie.InvT-loop
 Inv-loop out₀ at nets t pins n a₀ q₀ j₀ out a q j = (j ≤ n) × (q ≡ pinsTo j t nets) × Wrote out₀ out (netLines (netsTo j t nets) pins) at a

@@ -12,11 +12,6 @@ use Rattle.chipprinter.proofs.Pins.{heldItem, pin-more, pins-all}
 use Rattle.chipprinter.proofs.Printed.{items-none}
 use Rattle.chipprinter.proofs.put_pins.Statement.{statement}
 use Rattle.chipprinter.proofs.put_pins.Tie as tie
-use Rattle.chipprinter.proofs.put_pins.Reads as reads
-use Rattle.chipprinter.proofs.put_pins.Lts as lts
-use Rattle.chipprinter.proofs.pin_at.Reads as pin-at-reads
-use Rattle.chipprinter.proofs.shown.Reads as shown-reads
-use Rattle.linewriter.proofs.put_line.Reads as put-line-reads
 
 abbrev Inv-loop : tie.InvT-loop
 Inv-loop out₀ at pins q count n a₀ i₀ out a i = (i ≤ n) × Wrote out₀ out (itemsText (map heldItem (take i (firstOf blankPin count (drop q pins))))) at a

@@ -2,9 +2,6 @@ use Rattle.chipreader.proofs.Added.{die-added}
 use borrow.Author.Needs.{needs}
 use Rattle.chipreader.proofs.add_die.Statement.{statement}
 use Rattle.chipreader.proofs.add_die.Tie as tie
-use Rattle.chipreader.proofs.add_die.Reads as reads
-use Rattle.chipreader.proofs.add_die.Lts as lts
-use Rattle.chipreader.proofs.with_chip.Reads as with-chip-reads
 
 -- src/lib.rt:180:24
 array-read-t8 : tie.Need-array-read-t8

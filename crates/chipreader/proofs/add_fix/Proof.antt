@@ -3,12 +3,6 @@ use Rattle.chipreader.proofs.Entry.{fix-fits}
 use borrow.Author.Needs.{needs}
 use Rattle.chipreader.proofs.add_fix.Statement.{statement}
 use Rattle.chipreader.proofs.add_fix.Tie as tie
-use Rattle.chipreader.proofs.add_fix.Reads as reads
-use Rattle.chipreader.proofs.add_fix.Lts as lts
-use Rattle.chip.proofs.clear_of_fixes.Reads as clear-of-fixes-reads
-use Rattle.chip.proofs.fix_in_die.Reads as fix-in-die-reads
-use Rattle.chipreader.proofs.with_chip.Reads as with-chip-reads
-use Rattle.chipreader.proofs.with_fault.Reads as with-fault-reads
 
 -- src/lib.rt:192:12
 array-read-t10 : tie.Need-array-read-t10

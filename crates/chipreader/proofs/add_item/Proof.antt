@@ -3,15 +3,6 @@ use Rattle.chipreader.proofs.Item.{taken-as, not-taken, end-taken}
 use borrow.Author.Needs.{needs}
 use Rattle.chipreader.proofs.add_item.Statement.{statement}
 use Rattle.chipreader.proofs.add_item.Tie as tie
-use Rattle.chipreader.proofs.add_item.Reads as reads
-use Rattle.chipreader.proofs.add_item.Lts as lts
-use Rattle.chipreader.proofs.add_die.Reads as add-die-reads
-use Rattle.chipreader.proofs.add_fix.Reads as add-fix-reads
-use Rattle.chipreader.proofs.add_mac.Reads as add-mac-reads
-use Rattle.chipreader.proofs.add_net.Reads as add-net-reads
-use Rattle.chipreader.proofs.add_pin.Reads as add-pin-reads
-use Rattle.chipreader.proofs.with_chip.Reads as with-chip-reads
-use Rattle.chipreader.proofs.with_fault.Reads as with-fault-reads
 
 -- src/lib.rt:278:22
 enum-told : tie.Need-enum-told

@@ -3,9 +3,6 @@ use Rattle.chipreader.proofs.Entry.{mac-fits}
 use borrow.Author.Needs.{needs}
 use Rattle.chipreader.proofs.add_mac.Statement.{statement}
 use Rattle.chipreader.proofs.add_mac.Tie as tie
-use Rattle.chipreader.proofs.add_mac.Reads as reads
-use Rattle.chipreader.proofs.add_mac.Lts as lts
-use Rattle.chipreader.proofs.with_chip.Reads as with-chip-reads
 
 -- src/lib.rt:218:29
 array-read-t8 : tie.Need-array-read-t8

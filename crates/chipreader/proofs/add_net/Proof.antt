@@ -3,9 +3,6 @@ use Rattle.chipreader.proofs.Entry.{net-fits}
 use borrow.Author.Needs.{needs}
 use Rattle.chipreader.proofs.add_net.Statement.{statement}
 use Rattle.chipreader.proofs.add_net.Tie as tie
-use Rattle.chipreader.proofs.add_net.Reads as reads
-use Rattle.chipreader.proofs.add_net.Lts as lts
-use Rattle.chipreader.proofs.with_chip.Reads as with-chip-reads
 
 -- src/lib.rt:231:17
 array-read-t8 : tie.Need-array-read-t8

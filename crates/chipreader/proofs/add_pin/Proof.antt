@@ -3,9 +3,6 @@ use Rattle.chipreader.proofs.Entry.{pin-fits, net-open}
 use borrow.Author.Needs.{needs}
 use Rattle.chipreader.proofs.add_pin.Statement.{statement}
 use Rattle.chipreader.proofs.add_pin.Tie as tie
-use Rattle.chipreader.proofs.add_pin.Reads as reads
-use Rattle.chipreader.proofs.add_pin.Lts as lts
-use Rattle.chipreader.proofs.with_fault.Reads as with-fault-reads
 
 -- src/lib.rt:244:13
 array-read-m : tie.Need-array-read-m

@@ -2,11 +2,6 @@ use Rattle.chipreader.proofs.Entry.{rank-fits, no-word, no-place, no-sp
 use borrow.Author.Needs.{needs}
 use Rattle.chipreader.proofs.entry_fault.Statement.{statement}
 use Rattle.chipreader.proofs.entry_fault.Tie as tie
-use Rattle.chipreader.proofs.entry_fault.Reads as reads
-use Rattle.chipreader.proofs.entry_fault.Lts as lts
-use Rattle.chipreader.proofs.has_room.Reads as has-room-reads
-use Rattle.chipreader.proofs.may_follow.Reads as may-follow-reads
-use Rattle.grammar.proofs.rank_of.Reads as rank-of-reads
 
 -- src/lib.rt:119:9
 rank-of-requires : tie.Need-rank-of-requires

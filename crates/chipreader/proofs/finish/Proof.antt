@@ -2,10 +2,6 @@ use Rattle.chipreader.proofs.Lines.{refuses, complete, not-complete}
 use borrow.Author.Needs.{needs}
 use Rattle.chipreader.proofs.finish.Statement.{statement}
 use Rattle.chipreader.proofs.finish.Tie as tie
-use Rattle.chipreader.proofs.finish.Reads as reads
-use Rattle.chipreader.proofs.finish.Lts as lts
-use Rattle.chipreader.proofs.refused.Reads as refused-reads
-use Rattle.grammar.proofs.rank_of.Reads as rank-of-reads
 
 -- src/lib.rt:343:8
 rank-of-requires : tie.Need-rank-of-requires

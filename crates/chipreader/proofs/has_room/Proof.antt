@@ -2,8 +2,6 @@ use Rattle.chipreader.proofs.Room.{room-fix, room-mac, room-net, room-p
 use borrow.Author.Needs.{needs}
 use Rattle.chipreader.proofs.has_room.Statement.{statement}
 use Rattle.chipreader.proofs.has_room.Tie as tie
-use Rattle.chipreader.proofs.has_room.Reads as reads
-use Rattle.chipreader.proofs.has_room.Lts as lts
 
 -- src/lib.rt:113:22
 enum-told : tie.Need-enum-told

@@ -2,9 +2,6 @@ use Rattle.grammar.proofs.LineAt.{ends, end-fits}
 use borrow.Author.Needs.{needs}
 use Rattle.chipreader.proofs.line_end.Statement.{statement}
 use Rattle.chipreader.proofs.line_end.Tie as tie
-use Rattle.chipreader.proofs.line_end.Reads as reads
-use Rattle.chipreader.proofs.line_end.Lts as lts
-use Rattle.line.proofs.bytes_before.Reads as bytes-before-reads
 
 -- src/lib.rt:339:28
 sub-bytes-before : tie.Need-sub-bytes-before

@@ -2,8 +2,6 @@ use Rattle.chipreader.proofs.Follow.{too-early, by-most}
 use borrow.Author.Needs.{needs}
 use Rattle.chipreader.proofs.may_follow.Statement.{statement}
 use Rattle.chipreader.proofs.may_follow.Tie as tie
-use Rattle.chipreader.proofs.may_follow.Reads as reads
-use Rattle.chipreader.proofs.may_follow.Lts as lts
 
 -- src/lib.rt:87:12
 mul-if1 : tie.Need-mul-if1

@@ -2,10 +2,6 @@ use Rattle.chipreader.proofs.Lines.{refuses, too-long}
 use borrow.Author.Needs.{needs}
 use Rattle.chipreader.proofs.read_chip.Statement.{statement}
 use Rattle.chipreader.proofs.read_chip.Tie as tie
-use Rattle.chipreader.proofs.read_chip.Reads as reads
-use Rattle.chipreader.proofs.read_chip.Lts as lts
-use Rattle.chipreader.proofs.read_lines.Reads as read-lines-reads
-use Rattle.chipreader.proofs.refused.Reads as refused-reads
 
 -- src/lib.rt:388:9
 refused-requires : tie.Need-refused-requires

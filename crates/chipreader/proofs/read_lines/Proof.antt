@@ -1,5 +1,5 @@
 use borrow.Author.Needs.{needs}
-use Prim.Native.Nat.{ℕ, _+_, _-_, _≤_}
+use Prim.Native.Nat.{_+_, _-_, _≤_}
 use lib.ListN.{length}
 use Rattle.grammar.proofs.Left.{Left}
 use Rattle.chip.specs.Kind.{start, chipKind}
@@ -7,13 +7,6 @@ use Rattle.chipreader.specs.State.{Sound, partOf}
 use Rattle.chipreader.proofs.Lines.{refuses, all-left, empty-sound, line-fails, line-read, all-read}
 use Rattle.chipreader.proofs.read_lines.Statement.{statement}
 use Rattle.chipreader.proofs.read_lines.Tie as tie
-use Rattle.chipreader.proofs.read_lines.Reads as reads
-use Rattle.chipreader.proofs.read_lines.Lts as lts
-use Rattle.chipreader.proofs.blank_chip.Reads as blank-chip-reads
-use Rattle.chipreader.proofs.finish.Reads as finish-reads
-use Rattle.chipreader.proofs.line_end.Reads as line-end-reads
-use Rattle.chipreader.proofs.next_line.Reads as next-line-reads
-use Rattle.chipreader.proofs.refused.Reads as refused-reads
 
 abbrev Inv-loop : tie.InvT-loop
 Inv-loop text s₀ a₀ line₀ s a line = (a ≤ length text + 1) × (line ≤ a + 1) × Sound s × Left chipKind start text (partOf s) a line

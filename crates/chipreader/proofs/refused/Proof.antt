@@ -1,9 +1,6 @@
 use borrow.Author.Needs.{needs}
 use Rattle.chipreader.proofs.refused.Statement.{statement}
 use Rattle.chipreader.proofs.refused.Tie as tie
-use Rattle.chipreader.proofs.refused.Reads as reads
-use Rattle.chipreader.proofs.refused.Lts as lts
-use Rattle.chipreader.proofs.blank_chip.Reads as blank-chip-reads
 
 -- src/lib.rt:327:15
 blank-chip-requires : tie.Need-blank-chip-requires

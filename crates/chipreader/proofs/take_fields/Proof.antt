@@ -2,11 +2,6 @@ use Rattle.chipreader.proofs.OneLine.{fields-fail, line-adds}
 use borrow.Author.Needs.{needs}
 use Rattle.chipreader.proofs.take_fields.Statement.{statement}
 use Rattle.chipreader.proofs.take_fields.Tie as tie
-use Rattle.chipreader.proofs.take_fields.Reads as reads
-use Rattle.chipreader.proofs.take_fields.Lts as lts
-use Rattle.chipreader.proofs.add_item.Reads as add-item-reads
-use Rattle.chipreader.proofs.with_fault.Reads as with-fault-reads
-use Rattle.line.proofs.read_fields.Reads as read-fields-reads
 
 -- src/lib.rt:311:9
 read-fields-requires : tie.Need-read-fields-requires

@@ -3,13 +3,6 @@ use Rattle.chipreader.proofs.OneLine.{entry-fails, entry-passed}
 use borrow.Author.Needs.{needs}
 use Rattle.chipreader.proofs.take_line.Statement.{statement}
 use Rattle.chipreader.proofs.take_line.Tie as tie
-use Rattle.chipreader.proofs.take_line.Reads as reads
-use Rattle.chipreader.proofs.take_line.Lts as lts
-use Rattle.chipreader.proofs.entry_fault.Reads as entry-fault-reads
-use Rattle.chipreader.proofs.take_fields.Reads as take-fields-reads
-use Rattle.chipreader.proofs.with_fault.Reads as with-fault-reads
-use Rattle.line.proofs.bytes_before.Reads as bytes-before-reads
-use Rattle.line.proofs.chip_word.Reads as chip-word-reads
 
 -- src/lib.rt:325:9
 bytes-before-requires : tie.Need-bytes-before-requires

@@ -2,8 +2,6 @@ use Rattle.chipwriter.proofs.Needs.{net-before}
 use borrow.Author.Needs.{needs}
 use Rattle.chipwriter.proofs.bare_before.Statement.{statement}
 use Rattle.chipwriter.proofs.bare_before.Tie as tie
-use Rattle.chipwriter.proofs.bare_before.Reads as reads
-use Rattle.chipwriter.proofs.bare_before.Lts as lts
 
 -- src/lib.rt:170:9
 returns : tie.Need-returns

@@ -2,9 +2,6 @@ use Rattle.chipwriter.proofs.Needs.{need-fails, need-rest}
 use borrow.Author.Needs.{needs}
 use Rattle.chipwriter.proofs.die_fault.Statement.{statement}
 use Rattle.chipwriter.proofs.die_fault.Tie as tie
-use Rattle.chipwriter.proofs.die_fault.Reads as reads
-use Rattle.chipwriter.proofs.die_fault.Lts as lts
-use Rattle.chipwriter.proofs.sides_within.Reads as sides-within-reads
 
 -- src/lib.rt:37:9
 sides-within-requires : tie.Need-sides-within-requires

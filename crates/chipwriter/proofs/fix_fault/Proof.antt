@@ -2,11 +2,6 @@ use Rattle.chipwriter.proofs.Needs.{no-room, room-rest, need-fails, nee
 use borrow.Author.Needs.{needs}
 use Rattle.chipwriter.proofs.fix_fault.Statement.{statement}
 use Rattle.chipwriter.proofs.fix_fault.Tie as tie
-use Rattle.chipwriter.proofs.fix_fault.Reads as reads
-use Rattle.chipwriter.proofs.fix_fault.Lts as lts
-use Rattle.chip.proofs.clear_of_fixes.Reads as clear-of-fixes-reads
-use Rattle.chip.proofs.fix_in_die.Reads as fix-in-die-reads
-use Rattle.chipwriter.proofs.fix_in_range.Reads as fix-in-range-reads
 
 -- src/lib.rt:55:9
 returns : tie.Need-returns

@@ -2,9 +2,6 @@ use Rattle.chipwriter.proofs.Needs.{too-high, not-high}
 use borrow.Author.Needs.{needs}
 use Rattle.chipwriter.proofs.fix_in_range.Statement.{statement}
 use Rattle.chipwriter.proofs.fix_in_range.Tie as tie
-use Rattle.chipwriter.proofs.fix_in_range.Reads as reads
-use Rattle.chipwriter.proofs.fix_in_range.Lts as lts
-use Rattle.chipwriter.proofs.sides_within.Reads as sides-within-reads
 
 -- src/lib.rt:48:9
 returns : tie.Need-returns

@@ -2,9 +2,6 @@ use Rattle.chipwriter.proofs.Needs.{no-room, room-rest, need-fails, nee
 use borrow.Author.Needs.{needs}
 use Rattle.chipwriter.proofs.mac_fault.Statement.{statement}
 use Rattle.chipwriter.proofs.mac_fault.Tie as tie
-use Rattle.chipwriter.proofs.mac_fault.Reads as reads
-use Rattle.chipwriter.proofs.mac_fault.Lts as lts
-use Rattle.chipwriter.proofs.sides_within.Reads as sides-within-reads
 
 -- src/lib.rt:96:9
 returns : tie.Need-returns

@@ -2,10 +2,6 @@ use Rattle.chipwriter.proofs.Needs.{no-room, room-rest, bare-fails, bar
 use borrow.Author.Needs.{needs}
 use Rattle.chipwriter.proofs.net_fault.Statement.{statement}
 use Rattle.chipwriter.proofs.net_fault.Tie as tie
-use Rattle.chipwriter.proofs.net_fault.Reads as reads
-use Rattle.chipwriter.proofs.net_fault.Lts as lts
-use Rattle.chipwriter.proofs.bare_before.Reads as bare-before-reads
-use Rattle.chipwriter.proofs.within.Reads as within-reads
 
 -- src/lib.rt:181:9
 returns : tie.Need-returns

@@ -2,9 +2,6 @@ use Rattle.chipwriter.proofs.Needs.{no-room, room-rest, no-such, such-r
 use borrow.Author.Needs.{needs}
 use Rattle.chipwriter.proofs.pin_fault.Statement.{statement}
 use Rattle.chipwriter.proofs.pin_fault.Tie as tie
-use Rattle.chipwriter.proofs.pin_fault.Reads as reads
-use Rattle.chipwriter.proofs.pin_fault.Lts as lts
-use Rattle.chipwriter.proofs.pin_in_range.Reads as pin-in-range-reads
 
 -- src/lib.rt:136:9
 returns : tie.Need-returns

@@ -3,9 +3,6 @@ use Rattle.chipwriter.proofs.Needs.{too-high, not-high, held-place, las
 use borrow.Author.Needs.{needs}
 use Rattle.chipwriter.proofs.pin_in_range.Statement.{statement}
 use Rattle.chipwriter.proofs.pin_in_range.Tie as tie
-use Rattle.chipwriter.proofs.pin_in_range.Reads as reads
-use Rattle.chipwriter.proofs.pin_in_range.Lts as lts
-use Rattle.chipwriter.proofs.within.Reads as within-reads
 
 -- src/lib.rt:123:9
 returns : tie.Need-returns

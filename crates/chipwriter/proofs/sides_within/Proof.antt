@@ -3,9 +3,6 @@ use Rattle.chipwriter.proofs.Needs.{last-test}
 use borrow.Author.Needs.{needs}
 use Rattle.chipwriter.proofs.sides_within.Statement.{statement}
 use Rattle.chipwriter.proofs.sides_within.Tie as tie
-use Rattle.chipwriter.proofs.sides_within.Reads as reads
-use Rattle.chipwriter.proofs.sides_within.Lts as lts
-use Rattle.chipwriter.proofs.within.Reads as within-reads
 
 -- src/lib.rt:27:9
 within-requires : tie.Need-within-requires

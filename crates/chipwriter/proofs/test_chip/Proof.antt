@@ -2,10 +2,6 @@ use Rattle.chipwriter.proofs.Answers.{passed-read, long-read, refused-r
 use borrow.Author.Needs.{needs}
 use Rattle.chipwriter.proofs.test_chip.Statement.{statement}
 use Rattle.chipwriter.proofs.test_chip.Tie as tie
-use Rattle.chipwriter.proofs.test_chip.Reads as reads
-use Rattle.chipwriter.proofs.test_chip.Lts as lts
-use Rattle.chipprinter.proofs.put_chip.Reads as put-chip-reads
-use Rattle.chipwriter.proofs.test_items.Reads as test-items-reads
 
 -- src/lib.rt:266:9
 test-items-requires : tie.Need-test-items-requires

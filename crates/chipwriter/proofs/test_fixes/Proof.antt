@@ -4,9 +4,6 @@ use borrow.Author.Needs.{needs}
 use Rattle.chipwriter.proofs.Tests.{LeftFrom, none-tested, item-refused, one-more, item-passed, all-tested}
 use Rattle.chipwriter.proofs.test_fixes.Statement.{statement}
 use Rattle.chipwriter.proofs.test_fixes.Tie as tie
-use Rattle.chipwriter.proofs.test_fixes.Reads as reads
-use Rattle.chipwriter.proofs.test_fixes.Lts as lts
-use Rattle.chipwriter.proofs.fix_fault.Reads as fix-fault-reads
 
 abbrev Inv-loop : tie.InvT-loop
 Inv-loop d fixes k i₀ i = (i ≤ 8) × LeftFrom (fixFault d fixes) 2 k i

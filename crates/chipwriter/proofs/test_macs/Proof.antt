@@ -4,9 +4,6 @@ use borrow.Author.Needs.{needs}
 use Rattle.chipwriter.proofs.Tests.{LeftFrom, none-tested, item-refused, one-more, item-passed, all-tested}
 use Rattle.chipwriter.proofs.test_macs.Statement.{statement}
 use Rattle.chipwriter.proofs.test_macs.Tie as tie
-use Rattle.chipwriter.proofs.test_macs.Reads as reads
-use Rattle.chipwriter.proofs.test_macs.Lts as lts
-use Rattle.chipwriter.proofs.mac_fault.Reads as mac-fault-reads
 
 abbrev Inv-loop : tie.InvT-loop
 Inv-loop macs n line i₀ i = (i ≤ 8) × LeftFrom (macFault macs) line n i

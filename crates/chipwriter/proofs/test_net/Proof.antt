@@ -5,10 +5,6 @@ use Rattle.chipwriter.proofs.Tests.{in-count}
 use borrow.Author.Needs.{needs}
 use Rattle.chipwriter.proofs.test_net.Statement.{statement}
 use Rattle.chipwriter.proofs.test_net.Tie as tie
-use Rattle.chipwriter.proofs.test_net.Reads as reads
-use Rattle.chipwriter.proofs.test_net.Lts as lts
-use Rattle.chipwriter.proofs.net_fault.Reads as net-fault-reads
-use Rattle.chipwriter.proofs.test_pins.Reads as test-pins-reads
 
 -- src/lib.rt:201:9
 net-fault-requires : tie.Need-net-fault-requires

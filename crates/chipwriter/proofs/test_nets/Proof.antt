@@ -3,10 +3,6 @@ use borrow.Author.Needs.{needs}
 use Rattle.chipwriter.proofs.NetTests.{NetsLeft, no-net-tested, net-refuses, net-in-count, one-net-more, few-pins, pins-fit, net-passes, end-refused, end-passed}
 use Rattle.chipwriter.proofs.test_nets.Statement.{statement}
 use Rattle.chipwriter.proofs.test_nets.Tie as tie
-use Rattle.chipwriter.proofs.test_nets.Reads as reads
-use Rattle.chipwriter.proofs.test_nets.Lts as lts
-use Rattle.chipwriter.proofs.bare_before.Reads as bare-before-reads
-use Rattle.chipwriter.proofs.test_net.Reads as test-net-reads
 
 abbrev Inv-loop : tie.InvT-loop
 Inv-loop t pins n first nets q₀ j₀ q j = (j ≤ 32) × (q ≤ 128) × NetsLeft nets pins n first t q j

@@ -3,12 +3,6 @@ use Rattle.chipwriter.proofs.ItemsTests.{die-refused, fixes-refused, ma
 use borrow.Author.Needs.{needs}
 use Rattle.chipwriter.proofs.test_parts.Statement.{statement}
 use Rattle.chipwriter.proofs.test_parts.Tie as tie
-use Rattle.chipwriter.proofs.test_parts.Reads as reads
-use Rattle.chipwriter.proofs.test_parts.Lts as lts
-use Rattle.chipwriter.proofs.die_fault.Reads as die-fault-reads
-use Rattle.chipwriter.proofs.test_fixes.Reads as test-fixes-reads
-use Rattle.chipwriter.proofs.test_macs.Reads as test-macs-reads
-use Rattle.chipwriter.proofs.test_nets.Reads as test-nets-reads
 
 -- src/lib.rt:235:9
 die-fault-requires : tie.Need-die-fault-requires

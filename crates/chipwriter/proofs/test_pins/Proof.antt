@@ -4,9 +4,6 @@ use borrow.Author.Needs.{needs}
 use Rattle.chipwriter.proofs.Tests.{LeftFrom, none-tested, item-refused, one-pin-more, item-passed, all-tested}
 use Rattle.chipwriter.proofs.test_pins.Statement.{statement}
 use Rattle.chipwriter.proofs.test_pins.Tie as tie
-use Rattle.chipwriter.proofs.test_pins.Reads as reads
-use Rattle.chipwriter.proofs.test_pins.Lts as lts
-use Rattle.chipwriter.proofs.pin_fault.Reads as pin-fault-reads
 
 abbrev Inv-loop : tie.InvT-loop
 Inv-loop pins q count n line i₀ i = (q + i ≤ 128) × LeftFrom (λ j. pinFault pins n (q + j)) line count i

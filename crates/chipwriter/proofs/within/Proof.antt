@@ -1,8 +1,6 @@
 use Rattle.chipwriter.proofs.Needs.{too-low, not-low}
 use Rattle.chipwriter.proofs.within.Statement.{statement}
 use Rattle.chipwriter.proofs.within.Tie as tie
-use Rattle.chipwriter.proofs.within.Reads as reads
-use Rattle.chipwriter.proofs.within.Lts as lts
 
 -- src/lib.rt:16:9
 returns : tie.Need-returns

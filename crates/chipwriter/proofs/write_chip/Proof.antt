@@ -2,10 +2,6 @@ use Rattle.chipwriter.proofs.Writing.{test-refused, no-space, all-writt
 use borrow.Author.Needs.{needs}
 use Rattle.chipwriter.proofs.write_chip.Statement.{statement}
 use Rattle.chipwriter.proofs.write_chip.Tie as tie
-use Rattle.chipwriter.proofs.write_chip.Reads as reads
-use Rattle.chipwriter.proofs.write_chip.Lts as lts
-use Rattle.chipprinter.proofs.put_chip.Reads as put-chip-reads
-use Rattle.chipwriter.proofs.test_chip.Reads as test-chip-reads
 
 -- src/lib.rt:281:9
 test-chip-requires : tie.Need-test-chip-requires

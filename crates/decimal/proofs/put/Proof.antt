@@ -3,8 +3,6 @@ use Rattle.decimal.proofs.Writing.{past}
 use borrow.Author.Needs.{needs}
 use Rattle.decimal.proofs.put.Statement.{statement}
 use Rattle.decimal.proofs.put.Tie as tie
-use Rattle.decimal.proofs.put.Reads as reads
-use Rattle.decimal.proofs.put.Lts as lts
 
 -- src/lib.rt:79:9
 slice-write-out : tie.Need-slice-write-out

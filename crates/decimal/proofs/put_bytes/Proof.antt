@@ -7,9 +7,6 @@ use Rattle.decimal.proofs.Wrote.{wrote-none, wrote-length}
 use Rattle.decimal.proofs.Writing.{byte-more, all-written}
 use Rattle.decimal.proofs.put_bytes.Statement.{statement}
 use Rattle.decimal.proofs.put_bytes.Tie as tie
-use Rattle.decimal.proofs.put_bytes.Reads as reads
-use Rattle.decimal.proofs.put_bytes.Lts as lts
-use Rattle.decimal.proofs.put.Reads as put-reads
 
 abbrev Inv-loop : tie.InvT-loop
 Inv-loop out₀ at s k₀ i₀ out k i = (i ≤ length s) × Wrote out₀ out (take i s) at k

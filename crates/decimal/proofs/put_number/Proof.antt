@@ -3,10 +3,6 @@ use Rattle.decimal.proofs.Writing.{below-written, above-written}
 use borrow.Author.Needs.{needs}
 use Rattle.decimal.proofs.put_number.Statement.{statement}
 use Rattle.decimal.proofs.put_number.Tie as tie
-use Rattle.decimal.proofs.put_number.Reads as reads
-use Rattle.decimal.proofs.put_number.Lts as lts
-use Rattle.decimal.proofs.put.Reads as put-reads
-use Rattle.decimal.proofs.put_natural.Reads as put-natural-reads
 
 -- src/lib.rt:117:13
 put-requires : tie.Need-put-requires

@@ -8,9 +8,6 @@ use Rattle.decimal.specs.Steps.{heldNatural}
 use Rattle.decimal.proofs.Reading.{heldFrom, empty, only-zero, zero-first, begins, low-ends, high-ends, digit-more, all-read}
 use Rattle.decimal.proofs.read_natural.Statement.{statement}
 use Rattle.decimal.proofs.read_natural.Tie as tie
-use Rattle.decimal.proofs.read_natural.Reads as reads
-use Rattle.decimal.proofs.read_natural.Lts as lts
-use Rattle.decimal.proofs.with_digit.Reads as with-digit-reads
 
 abbrev Inv-loop : tie.InvT-loop
 Inv-loop s v₀ i₀ v i = (i ≤ length s) × (v ≤ cap) × (heldNatural s ≡ heldFrom (drop i s) v)

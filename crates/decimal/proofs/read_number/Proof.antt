@@ -3,9 +3,6 @@ use Rattle.decimal.proofs.Sign.{no-text, minus-bad, minus-zero, minus-v
 use borrow.Author.Needs.{needs}
 use Rattle.decimal.proofs.read_number.Statement.{statement}
 use Rattle.decimal.proofs.read_number.Tie as tie
-use Rattle.decimal.proofs.read_number.Reads as reads
-use Rattle.decimal.proofs.read_number.Lts as lts
-use Rattle.decimal.proofs.read_natural.Reads as read-natural-reads
 
 -- src/lib.rt:60:9
 returns : tie.Need-returns

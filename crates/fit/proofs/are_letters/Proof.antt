@@ -2,13 +2,10 @@ use borrow.Author.Needs.{needs}
 use Rattle.slots.specs.Fit.{areLetters}
 use lib.ListN.{length, drop}
 use mathlib.Core.Path.{_≡_}
-use Prim.Native.Nat.{ℕ, _+_, _-_, _≤_}
+use Prim.Native.Nat.{_-_, _≤_}
 use Rattle.fit.proofs.Leaves.{letters-fail, letters-more, letters-all}
 use Rattle.fit.proofs.are_letters.Statement.{statement}
 use Rattle.fit.proofs.are_letters.Tie as tie
-use Rattle.fit.proofs.are_letters.Reads as reads
-use Rattle.fit.proofs.are_letters.Lts as lts
-use Rattle.fit.proofs.is_letter.Reads as is-letter-reads
 
 abbrev Inv-loop : tie.InvT-loop
 Inv-loop letters i₀ i = (i ≤ length letters) × (areLetters letters ≡ areLetters (drop i letters))

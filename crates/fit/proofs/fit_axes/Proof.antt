@@ -2,12 +2,6 @@ use Rattle.fit.proofs.Directions.{is-solved, is-unsolved, is-formed}
 use borrow.Author.Needs.{needs}
 use Rattle.fit.proofs.fit_axes.Statement.{statement}
 use Rattle.fit.proofs.fit_axes.Tie as tie
-use Rattle.fit.proofs.fit_axes.Reads as reads
-use Rattle.fit.proofs.fit_axes.Lts as lts
-use Rattle.fit.proofs.bare.Reads as bare-reads
-use Rattle.fit.proofs.fit_up.Reads as fit-up-reads
-use Rattle.fit.proofs.none_across.Reads as none-across-reads
-use Rattle.fit.proofs.solve_on.Reads as solve-on-reads
 
 -- src/lib.rt:271:9
 solve-on-requires : tie.Need-solve-on-requires

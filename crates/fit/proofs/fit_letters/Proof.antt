@@ -1,4 +1,5 @@
-use Rattle.fit.proofs.Entering.{Whole, whole, test-passed, test-refused}
+use Rattle.chip.proofs.Passing.{Whole, whole, test-passed}
+use Rattle.fit.proofs.Entering.{test-refused}
 use borrow.Author.Needs.{needs}
 use Rattle.fit.proofs.fit_letters.Statement.{statement}
 use Rattle.fit.proofs.fit_letters.Tie as tie

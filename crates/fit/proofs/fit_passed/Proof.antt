@@ -2,13 +2,6 @@ use Rattle.fit.proofs.Entering.{fit-both, wrong-count, wrong-letter, sh
 use borrow.Author.Needs.{needs}
 use Rattle.fit.proofs.fit_passed.Statement.{statement}
 use Rattle.fit.proofs.fit_passed.Tie as tie
-use Rattle.fit.proofs.fit_passed.Reads as reads
-use Rattle.fit.proofs.fit_passed.Lts as lts
-use Rattle.fit.proofs.are_letters.Reads as are-letters-reads
-use Rattle.fit.proofs.fit_axes.Reads as fit-axes-reads
-use Rattle.fit.proofs.letter_count.Reads as letter-count-reads
-use Rattle.fit.proofs.pin_total.Reads as pin-total-reads
-use Rattle.fit.proofs.refused.Reads as refused-reads
 
 -- src/lib.rt:288:9
 letter-count-requires : tie.Need-letter-count-requires

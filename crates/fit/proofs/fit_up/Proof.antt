@@ -2,12 +2,6 @@ use Rattle.fit.proofs.Directions.{is-solved, is-unsolved, is-formed}
 use borrow.Author.Needs.{needs}
 use Rattle.fit.proofs.fit_up.Statement.{statement}
 use Rattle.fit.proofs.fit_up.Tie as tie
-use Rattle.fit.proofs.fit_up.Reads as reads
-use Rattle.fit.proofs.fit_up.Lts as lts
-use Rattle.fit.proofs.bare.Reads as bare-reads
-use Rattle.fit.proofs.none_up.Reads as none-up-reads
-use Rattle.fit.proofs.placed.Reads as placed-reads
-use Rattle.fit.proofs.solve_on.Reads as solve-on-reads
 
 -- src/lib.rt:254:9
 solve-on-requires : tie.Need-solve-on-requires

@@ -1,9 +1,6 @@
-use borrow.Author.Needs.{needs}
 use Rattle.fit.proofs.Leaves.{letter-l, letter-r, letter-b, letter-a, letter-dot}
 use Rattle.fit.proofs.is_letter.Statement.{statement}
 use Rattle.fit.proofs.is_letter.Tie as tie
-use Rattle.fit.proofs.is_letter.Reads as reads
-use Rattle.fit.proofs.is_letter.Lts as lts
 
 -- src/lib.rt:68:9
 returns : tie.Need-returns

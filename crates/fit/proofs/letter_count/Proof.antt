@@ -1,10 +1,7 @@
-use native.Mathlib.Omega.{arith}
 use Rattle.fit.proofs.Leaves.{no-letters, pairs-fit, fixed-fit, letters-fit}
 use borrow.Author.Needs.{needs}
 use Rattle.fit.proofs.letter_count.Statement.{statement}
 use Rattle.fit.proofs.letter_count.Tie as tie
-use Rattle.fit.proofs.letter_count.Reads as reads
-use Rattle.fit.proofs.letter_count.Lts as lts
 
 -- src/lib.rt:58:9
 returns : tie.Need-returns

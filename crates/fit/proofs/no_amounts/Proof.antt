@@ -1,8 +1,6 @@
 use Rattle.fit.proofs.Directions.{no-amounts}
 use Rattle.fit.proofs.no_amounts.Statement.{statement}
 use Rattle.fit.proofs.no_amounts.Tie as tie
-use Rattle.fit.proofs.no_amounts.Reads as reads
-use Rattle.fit.proofs.no_amounts.Lts as lts
 
 -- src/lib.rt:196:1
 returns : tie.Need-returns

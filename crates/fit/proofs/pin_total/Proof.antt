@@ -1,12 +1,10 @@
 use borrow.Author.Needs.{needs}
 use Rattle.chip.specs.Valid.{pinsBefore}
 use mathlib.Core.Path.{_≡_}
-use Prim.Native.Nat.{ℕ, _+_, _-_, _≤_}
+use Prim.Native.Nat.{_-_, _≤_}
 use Rattle.fit.proofs.Leaves.{pins-none, pins-more, pins-fit, pins-all}
 use Rattle.fit.proofs.pin_total.Statement.{statement}
 use Rattle.fit.proofs.pin_total.Tie as tie
-use Rattle.fit.proofs.pin_total.Reads as reads
-use Rattle.fit.proofs.pin_total.Lts as lts
 
 abbrev Inv-loop : tie.InvT-loop
 Inv-loop t nets q₀ j₀ q j = (j ≤ t) × (q ≡ pinsBefore j nets)

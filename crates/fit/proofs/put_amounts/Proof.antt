@@ -1,13 +1,11 @@
 use borrow.Author.Needs.{needs}
 use mathlib.Core.Path.{_≡_}
-use Prim.Native.Nat.{ℕ, _+_, _-_, _≤_}
+use Prim.Native.Nat.{_-_, _≤_}
 use lib.ListN.{take}
 use lib.Seq.{sets}
 use Rattle.fit.proofs.Leaves.{amount-fits, puts-more, puts-long, puts-in, puts-all}
 use Rattle.fit.proofs.put_amounts.Statement.{statement}
 use Rattle.fit.proofs.put_amounts.Tie as tie
-use Rattle.fit.proofs.put_amounts.Reads as reads
-use Rattle.fit.proofs.put_amounts.Lts as lts
 
 abbrev Inv-loop : tie.InvT-loop
 Inv-loop flow₀ at m amounts i₀ flow i = (i ≤ m) × (flow ≡ sets flow₀ at (take i amounts))

@@ -2,9 +2,6 @@ use Rattle.fit.proofs.Listing.{both-put}
 use borrow.Author.Needs.{needs}
 use Rattle.fit.proofs.put_both.Statement.{statement}
 use Rattle.fit.proofs.put_both.Tie as tie
-use Rattle.fit.proofs.put_both.Reads as reads
-use Rattle.fit.proofs.put_both.Lts as lts
-use Rattle.fit.proofs.put_amounts.Reads as put-amounts-reads
 
 -- src/lib.rt:133:5
 put-amounts-requires : tie.Need-put-amounts-requires

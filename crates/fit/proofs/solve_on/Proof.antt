@@ -2,10 +2,6 @@ use Rattle.fit.proofs.Directions.{directed}
 use borrow.Author.Needs.{needs}
 use Rattle.fit.proofs.solve_on.Statement.{statement}
 use Rattle.fit.proofs.solve_on.Tie as tie
-use Rattle.fit.proofs.solve_on.Reads as reads
-use Rattle.fit.proofs.solve_on.Lts as lts
-use Rattle.axis.proofs.service.solve.Reads as solve-reads
-use Rattle.fit.proofs.axes.axis_of.Reads as axis-of-reads
 
 -- src/lib.rt:237:26
 axis-of-requires : tie.Need-axis-of-requires

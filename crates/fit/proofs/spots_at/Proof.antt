@@ -1,10 +1,8 @@
 use borrow.Author.Needs.{needs}
-use Prim.Native.Nat.{ℕ, _+_, _-_, _≤_}
+use Prim.Native.Nat.{_-_, _≤_}
 use Rattle.fit.proofs.Leaves.{SpotsTo, spots-more, spots-all, spots-none}
 use Rattle.fit.proofs.spots_at.Statement.{statement}
 use Rattle.fit.proofs.spots_at.Tie as tie
-use Rattle.fit.proofs.spots_at.Reads as reads
-use Rattle.fit.proofs.spots_at.Lts as lts
 
 abbrev Inv-loop : tie.InvT-loop
 Inv-loop xs ys spots₀ i₀ spots i = (i ≤ 8) × SpotsTo xs ys spots i

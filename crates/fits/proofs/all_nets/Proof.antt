@@ -2,8 +2,6 @@ use Prim.Native.Nat.{_≤_, _-_}
 use borrow.Author.Needs.{needs}
 use Rattle.fits.proofs.all_nets.Statement.{statement}
 use Rattle.fits.proofs.all_nets.Tie as tie
-use Rattle.fits.proofs.all_nets.Reads as reads
-use Rattle.fits.proofs.all_nets.Lts as lts
 
 abbrev Inv-loop : tie.InvT-loop
 Inv-loop c net pad pins₀ i₀ pins i = i ≤ 65

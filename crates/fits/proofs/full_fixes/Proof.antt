@@ -2,8 +2,6 @@ use Prim.Native.Nat.{_≤_, _-_}
 use borrow.Author.Needs.{needs}
 use Rattle.fits.proofs.full_fixes.Statement.{statement}
 use Rattle.fits.proofs.full_fixes.Tie as tie
-use Rattle.fits.proofs.full_fixes.Reads as reads
-use Rattle.fits.proofs.full_fixes.Lts as lts
 
 abbrev Inv-loop : tie.InvT-loop
 Inv-loop fixes₀ i₀ fixes i = i ≤ 8

@@ -2,8 +2,6 @@ use Prim.Native.Nat.{_≤_, _-_}
 use borrow.Author.Needs.{needs}
 use Rattle.fits.proofs.full_nets.Statement.{statement}
 use Rattle.fits.proofs.full_nets.Tie as tie
-use Rattle.fits.proofs.full_nets.Reads as reads
-use Rattle.fits.proofs.full_nets.Lts as lts
 
 abbrev Inv-loop : tie.InvT-loop
 Inv-loop nets₀ j₀ nets j = j ≤ 32

@@ -2,8 +2,6 @@ use Prim.Native.Nat.{_≤_, _-_}
 use borrow.Author.Needs.{needs}
 use Rattle.fits.proofs.full_pins.Statement.{statement}
 use Rattle.fits.proofs.full_pins.Tie as tie
-use Rattle.fits.proofs.full_pins.Reads as reads
-use Rattle.fits.proofs.full_pins.Lts as lts
 
 abbrev Inv-loop : tie.InvT-loop
 Inv-loop pins₀ i₀ pins i = i ≤ 128

@@ -7,8 +7,6 @@ use Rattle.grammar.specs.Line.{upTo}
 use Rattle.line.proofs.Found.{found, not-here, nowhere}
 use Rattle.line.proofs.bytes_before.Statement.{statement}
 use Rattle.line.proofs.bytes_before.Tie as tie
-use Rattle.line.proofs.bytes_before.Reads as reads
-use Rattle.line.proofs.bytes_before.Lts as lts
 
 abbrev Inv-loop : tie.InvT-loop
 Inv-loop s d i₀ i = (i ≤ length s) × (length (upTo d s) ≡ i + length (upTo d (drop i s)))

@@ -2,8 +2,6 @@
 use Rattle.line.proofs.Range.{too-low, too-high, in-range}
 use Rattle.line.proofs.in_range.Statement.{statement}
 use Rattle.line.proofs.in_range.Tie as tie
-use Rattle.line.proofs.in_range.Reads as reads
-use Rattle.line.proofs.in_range.Lts as lts
 
 -- src/lib.rt:248:9
 returns : tie.Need-returns

@@ -3,9 +3,6 @@ use Rattle.line.proofs.Laid.{laid, laid-one}
 use borrow.Author.Needs.{needs}
 use Rattle.line.proofs.layout_of.Statement.{statement}
 use Rattle.line.proofs.layout_of.Tie as tie
-use Rattle.line.proofs.layout_of.Reads as reads
-use Rattle.line.proofs.layout_of.Lts as lts
-use Rattle.line.proofs.short_rule.Reads as short-rule-reads
 
 -- src/lib.rt:143:9
 short-rule-requires : tie.Need-short-rule-requires

@@ -3,12 +3,6 @@ use Rattle.line.proofs.OneField.{no-mark, name-end, name-end-fits, fiel
 use borrow.Author.Needs.{needs}
 use Rattle.line.proofs.read_field.Statement.{statement}
 use Rattle.line.proofs.read_field.Tie as tie
-use Rattle.line.proofs.read_field.Reads as reads
-use Rattle.line.proofs.read_field.Lts as lts
-use Rattle.decimal.proofs.read_number.Reads as read-number-reads
-use Rattle.line.proofs.bytes_before.Reads as bytes-before-reads
-use Rattle.line.proofs.in_range.Reads as in-range-reads
-use Rattle.line.proofs.starts_at.Reads as starts-at-reads
 
 -- src/lib.rt:263:9
 starts-at-requires : tie.Need-starts-at-requires

@@ -6,10 +6,6 @@ use Rattle.line.proofs.Laid.{rule-sane}
 use Rattle.line.proofs.AllFields.{ReadTo, read-none, read-more, read-place, read-refused, bytes-left, all-read}
 use Rattle.line.proofs.read_fields.Statement.{statement}
 use Rattle.line.proofs.read_fields.Tie as tie
-use Rattle.line.proofs.read_fields.Reads as reads
-use Rattle.line.proofs.read_fields.Lts as lts
-use Rattle.line.proofs.layout_of.Reads as layout-of-reads
-use Rattle.line.proofs.read_field.Reads as read-field-reads
 
 abbrev Inv-loop : tie.InvT-loop
 Inv-loop text line rules count values₀ a₀ j₀ values a j = (j ≤ count) × (a ≤ length text) × ReadTo count rules text values a j

@@ -7,8 +7,6 @@ use Rattle.grammar.specs.Words.{same}
 use Rattle.line.proofs.Same.{other-length, other-byte, same-byte, all-same}
 use Rattle.line.proofs.same_bytes.Statement.{statement}
 use Rattle.line.proofs.same_bytes.Tie as tie
-use Rattle.line.proofs.same_bytes.Reads as reads
-use Rattle.line.proofs.same_bytes.Lts as lts
 
 abbrev Inv-loop : tie.InvT-loop
 Inv-loop s t i₀ i = (i ≤ length s) × (same s t ≡ same (drop i s) (drop i t))

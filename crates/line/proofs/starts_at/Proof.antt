@@ -7,8 +7,6 @@ use Rattle.grammar.specs.Line.{strip}
 use Rattle.line.proofs.Mark.{too-short, at-start, other-byte, same-byte, present}
 use Rattle.line.proofs.starts_at.Statement.{statement}
 use Rattle.line.proofs.starts_at.Tie as tie
-use Rattle.line.proofs.starts_at.Reads as reads
-use Rattle.line.proofs.starts_at.Lts as lts
 
 abbrev Inv-loop : tie.InvT-loop
 Inv-loop text a size mark i₀ i = (i ≤ size) × (strip (take size mark) (drop a text) ≡ strip (drop i (take size mark)) (drop (a + i) text))

@@ -2,9 +2,6 @@ use Rattle.linewriter.proofs.Joined.{two-fields, last-field}
 use borrow.Author.Needs.{needs}
 use Rattle.linewriter.proofs.put_at.Statement.{statement}
 use Rattle.linewriter.proofs.put_at.Tie as tie
-use Rattle.linewriter.proofs.put_at.Reads as reads
-use Rattle.linewriter.proofs.put_at.Lts as lts
-use Rattle.linewriter.proofs.put_field.Reads as put-field-reads
 
 -- src/lib.rt:72:32
 slice-aggregate-put-field : tie.Need-slice-aggregate-put-field

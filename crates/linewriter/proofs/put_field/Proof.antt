@@ -2,10 +2,6 @@ use Rattle.decimal.proofs.Wrote.{wrote-then}
 use borrow.Author.Needs.{needs}
 use Rattle.linewriter.proofs.put_field.Statement.{statement}
 use Rattle.linewriter.proofs.put_field.Tie as tie
-use Rattle.linewriter.proofs.put_field.Reads as reads
-use Rattle.linewriter.proofs.put_field.Lts as lts
-use Rattle.decimal.proofs.put_bytes.Reads as put-bytes-reads
-use Rattle.decimal.proofs.put_natural.Reads as put-natural-reads
 
 -- src/lib.rt:33:9
 put-bytes-requires : tie.Need-put-bytes-requires

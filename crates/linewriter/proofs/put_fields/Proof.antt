@@ -4,14 +4,6 @@ use Rattle.line.specs.Held.{loweredAll}
 use borrow.Author.Needs.{needs}
 use Rattle.linewriter.proofs.put_fields.Statement.{statement}
 use Rattle.linewriter.proofs.put_fields.Tie as tie
-use Rattle.linewriter.proofs.put_fields.Reads as reads
-use Rattle.linewriter.proofs.put_fields.Lts as lts
-use Rattle.decimal.proofs.put_bytes.Reads as put-bytes-reads
-use Rattle.linewriter.proofs.put_at.Reads as put-at-reads
-use Rattle.linewriter.proofs.put_field.Reads as put-field-reads
-use Rattle.linewriter.proofs.put_fix.Reads as put-fix-reads
-use Rattle.linewriter.proofs.put_pin.Reads as put-pin-reads
-use Rattle.linewriter.proofs.put_size.Reads as put-size-reads
 
 -- src/lib.rt:81:31
 enum-told : tie.Need-enum-told

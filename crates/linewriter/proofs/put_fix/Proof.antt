@@ -2,10 +2,6 @@ use Rattle.linewriter.proofs.Joined.{two-fields}
 use borrow.Author.Needs.{needs}
 use Rattle.linewriter.proofs.put_fix.Statement.{statement}
 use Rattle.linewriter.proofs.put_fix.Tie as tie
-use Rattle.linewriter.proofs.put_fix.Reads as reads
-use Rattle.linewriter.proofs.put_fix.Lts as lts
-use Rattle.linewriter.proofs.put_field.Reads as put-field-reads
-use Rattle.linewriter.proofs.put_size.Reads as put-size-reads
 
 -- src/lib.rt:56:32
 slice-aggregate-put-field : tie.Need-slice-aggregate-put-field

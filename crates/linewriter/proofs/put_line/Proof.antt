@@ -2,11 +2,6 @@ use Rattle.linewriter.proofs.Joined.{line-text}
 use borrow.Author.Needs.{needs}
 use Rattle.linewriter.proofs.put_line.Statement.{statement}
 use Rattle.linewriter.proofs.put_line.Tie as tie
-use Rattle.linewriter.proofs.put_line.Reads as reads
-use Rattle.linewriter.proofs.put_line.Lts as lts
-use Rattle.decimal.proofs.put_bytes.Reads as put-bytes-reads
-use Rattle.linewriter.proofs.put_fields.Reads as put-fields-reads
-use Rattle.linewriter.proofs.put_word.Reads as put-word-reads
 
 -- src/lib.rt:99:9
 put-word-requires : tie.Need-put-word-requires

@@ -2,10 +2,6 @@ use Rattle.linewriter.proofs.Joined.{two-fields, last-field}
 use borrow.Author.Needs.{needs}
 use Rattle.linewriter.proofs.put_pin.Statement.{statement}
 use Rattle.linewriter.proofs.put_pin.Tie as tie
-use Rattle.linewriter.proofs.put_pin.Reads as reads
-use Rattle.linewriter.proofs.put_pin.Lts as lts
-use Rattle.linewriter.proofs.put_field.Reads as put-field-reads
-use Rattle.linewriter.proofs.put_raised.Reads as put-raised-reads
 
 -- src/lib.rt:64:32
 slice-aggregate-put-field : tie.Need-slice-aggregate-put-field

@@ -2,10 +2,6 @@ use Rattle.decimal.proofs.Wrote.{wrote-then}
 use borrow.Author.Needs.{needs}
 use Rattle.linewriter.proofs.put_raised.Statement.{statement}
 use Rattle.linewriter.proofs.put_raised.Tie as tie
-use Rattle.linewriter.proofs.put_raised.Reads as reads
-use Rattle.linewriter.proofs.put_raised.Lts as lts
-use Rattle.decimal.proofs.put_bytes.Reads as put-bytes-reads
-use Rattle.decimal.proofs.put_number.Reads as put-number-reads
 
 -- src/lib.rt:41:9
 put-bytes-requires : tie.Need-put-bytes-requires

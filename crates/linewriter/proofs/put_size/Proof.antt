@@ -2,9 +2,6 @@ use Rattle.linewriter.proofs.Joined.{first-field, last-field}
 use borrow.Author.Needs.{needs}
 use Rattle.linewriter.proofs.put_size.Statement.{statement}
 use Rattle.linewriter.proofs.put_size.Tie as tie
-use Rattle.linewriter.proofs.put_size.Reads as reads
-use Rattle.linewriter.proofs.put_size.Lts as lts
-use Rattle.linewriter.proofs.put_field.Reads as put-field-reads
 
 -- src/lib.rt:49:32
 slice-aggregate-put-field : tie.Need-slice-aggregate-put-field

@@ -3,9 +3,6 @@ use Rattle.grammar.specs.Words.{spell}
 use borrow.Author.Needs.{needs}
 use Rattle.linewriter.proofs.put_word.Statement.{statement}
 use Rattle.linewriter.proofs.put_word.Tie as tie
-use Rattle.linewriter.proofs.put_word.Reads as reads
-use Rattle.linewriter.proofs.put_word.Lts as lts
-use Rattle.decimal.proofs.put_bytes.Reads as put-bytes-reads
 
 -- src/lib.rt:15:45
 enum-told : tie.Need-enum-told

@@ -1,13 +1,11 @@
 use mathlib.Core.Path.{_≡_}
-use Prim.Native.Nat.{ℕ, _-_, _≤_}
+use Prim.Native.Nat.{_-_, _≤_}
 use lib.ListN.{length, take}
 use Rattle.placement.specs.Legal.{boxes}
 use Rattle.measure.proofs.Boxes.{one-stored, all-stored}
 use borrow.Author.Needs.{needs}
 use Rattle.measure.proofs.boxes_at.Statement.{statement}
 use Rattle.measure.proofs.boxes_at.Tie as tie
-use Rattle.measure.proofs.boxes_at.Reads as reads
-use Rattle.measure.proofs.boxes_at.Lts as lts
 
 abbrev Inv-loop : tie.InvT-loop
 Inv-loop macs spots bs₀ i₀ bs i = (i ≤ 8) × (length bs ≡ 8) × (take i bs ≡ take i (boxes macs spots))

@@ -1,12 +1,8 @@
-use Prim.Native.Nat.{ℕ, _-_, _≤_}
+use Prim.Native.Nat.{_-_, _≤_}
 use Rattle.measure.proofs.Around.{Around, pin-placed, first-around, next-around, all-around, left-first, low-first, half-fits}
 use borrow.Author.Needs.{needs}
 use Rattle.measure.proofs.half_around.Statement.{statement}
 use Rattle.measure.proofs.half_around.Tie as tie
-use Rattle.measure.proofs.half_around.Reads as reads
-use Rattle.measure.proofs.half_around.Lts as lts
-use Rattle.measure.proofs.place_of.Reads as place-of-reads
-use Rattle.measure.proofs.with_pin.Reads as with-pin-reads
 
 abbrev Inv-loop : tie.InvT-loop
 Inv-loop spots from to pins e₀ i₀ e i = (i ≤ to) × Around spots pins from to i e

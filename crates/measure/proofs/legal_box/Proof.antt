@@ -2,10 +2,6 @@ use Rattle.measure.proofs.InTurn.{test-fails, second-fails, third-left}
 use borrow.Author.Needs.{needs}
 use Rattle.measure.proofs.legal_box.Statement.{statement}
 use Rattle.measure.proofs.legal_box.Tie as tie
-use Rattle.measure.proofs.legal_box.Reads as reads
-use Rattle.measure.proofs.legal_box.Lts as lts
-use Rattle.chip.proofs.clear_of_fixes.Reads as clear-of-fixes-reads
-use Rattle.chip.proofs.fix_in_die.Reads as fix-in-die-reads
 
 -- src/lib.rt:77:13
 mul-b : tie.Need-mul-b

@@ -1,12 +1,9 @@
-use Prim.Native.Nat.{ℕ, _-_, _≤_}
+use Prim.Native.Nat.{_-_, _≤_}
 use lib.ListN.{take}
 use Rattle.measure.proofs.InTurn.{Left, one-illegal, one-legal, all-tested}
 use borrow.Author.Needs.{needs}
 use Rattle.measure.proofs.legal_boxes.Statement.{statement}
 use Rattle.measure.proofs.legal_boxes.Tie as tie
-use Rattle.measure.proofs.legal_boxes.Reads as reads
-use Rattle.measure.proofs.legal_boxes.Lts as lts
-use Rattle.measure.proofs.legal_box.Reads as legal-box-reads
 
 abbrev Inv-loop : tie.InvT-loop
 Inv-loop die fixes k bs n i₀ i = (i ≤ n) × Left die (take k fixes) bs n i

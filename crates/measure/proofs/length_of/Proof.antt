@@ -1,11 +1,8 @@
-use Prim.Native.Nat.{ℕ, _-_, _≤_}
+use Prim.Native.Nat.{_-_, _≤_}
 use Rattle.measure.proofs.Lengths.{Summed, none-summed, one-summed, all-summed, few-nets, pins-fit, pins-placed, some-pins, few-pins, product-fits, sum-fits}
 use borrow.Author.Needs.{needs}
 use Rattle.measure.proofs.length_of.Statement.{statement}
 use Rattle.measure.proofs.length_of.Tie as tie
-use Rattle.measure.proofs.length_of.Reads as reads
-use Rattle.measure.proofs.length_of.Lts as lts
-use Rattle.measure.proofs.half_around.Reads as half-around-reads
 
 abbrev Inv-loop : tie.InvT-loop
 Inv-loop t pins spots nets total₀ from₀ j₀ total from j = (j ≤ t) × Summed spots nets pins total from j

@@ -2,10 +2,6 @@ use Rattle.measure.proofs.Measured.{test-refused, test-passed, passed-m
 use borrow.Author.Needs.{needs}
 use Rattle.measure.proofs.measure_array.Statement.{statement}
 use Rattle.measure.proofs.measure_array.Tie as tie
-use Rattle.measure.proofs.measure_array.Reads as reads
-use Rattle.measure.proofs.measure_array.Lts as lts
-use Rattle.chipwriter.proofs.test_chip.Reads as test-chip-reads
-use Rattle.measure.proofs.measure_passed.Reads as measure-passed-reads
 
 -- src/lib.rt:252:9
 test-chip-requires : tie.Need-test-chip-requires

@@ -2,12 +2,6 @@ use Rattle.measure.proofs.Answers.{few-macros, wrong-count, out-of-rang
 use borrow.Author.Needs.{needs}
 use Rattle.measure.proofs.measure_parts.Statement.{statement}
 use Rattle.measure.proofs.measure_parts.Tie as tie
-use Rattle.measure.proofs.measure_parts.Reads as reads
-use Rattle.measure.proofs.measure_parts.Lts as lts
-use Rattle.measure.proofs.boxes_at.Reads as boxes-at-reads
-use Rattle.measure.proofs.in_range.Reads as in-range-reads
-use Rattle.measure.proofs.legal_boxes.Reads as legal-boxes-reads
-use Rattle.measure.proofs.length_of.Reads as length-of-reads
 
 -- src/lib.rt:224:9
 returns : tie.Need-returns

@@ -2,8 +2,6 @@ use Rattle.measure.proofs.Places.{pad-origin, macro-origin}
 use borrow.Author.Needs.{needs}
 use Rattle.measure.proofs.origin_of.Statement.{statement}
 use Rattle.measure.proofs.origin_of.Tie as tie
-use Rattle.measure.proofs.origin_of.Reads as reads
-use Rattle.measure.proofs.origin_of.Lts as lts
 
 -- src/lib.rt:112:9
 returns : tie.Need-returns

@@ -2,9 +2,6 @@ use Rattle.measure.proofs.Places.{place-x-fits, place-y-fits, place-tol
 use borrow.Author.Needs.{needs}
 use Rattle.measure.proofs.place_of.Statement.{statement}
 use Rattle.measure.proofs.place_of.Tie as tie
-use Rattle.measure.proofs.place_of.Reads as reads
-use Rattle.measure.proofs.place_of.Lts as lts
-use Rattle.measure.proofs.origin_of.Reads as origin-of-reads
 
 -- src/lib.rt:122:9
 origin-of-requires : tie.Need-origin-of-requires

@@ -2,10 +2,6 @@ use Rattle.measure.proofs.Around.{pin-added}
 use borrow.Author.Needs.{needs}
 use Rattle.measure.proofs.with_pin.Statement.{statement}
 use Rattle.measure.proofs.with_pin.Tie as tie
-use Rattle.measure.proofs.with_pin.Reads as reads
-use Rattle.measure.proofs.with_pin.Lts as lts
-use Rattle.measure.proofs.greater.Reads as greater-reads
-use Rattle.measure.proofs.lesser.Reads as lesser-reads
 
 -- src/lib.rt:167:9
 lesser-requires : tie.Need-lesser-requires

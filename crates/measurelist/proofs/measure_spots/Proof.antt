@@ -2,10 +2,6 @@ use Rattle.measurelist.proofs.Lists.{first-measured}
 use borrow.Author.Needs.{needs}
 use Rattle.measurelist.proofs.measure_spots.Statement.{statement}
 use Rattle.measurelist.proofs.measure_spots.Tie as tie
-use Rattle.measurelist.proofs.measure_spots.Reads as reads
-use Rattle.measurelist.proofs.measure_spots.Lts as lts
-use Rattle.measure.proofs.measure_array.Reads as measure-array-reads
-use Rattle.measurelist.proofs.measure_first.Reads as measure-first-reads
 
 -- src/lib.rt:72:9
 measure-array-requires : tie.Need-measure-array-requires

@@ -2,8 +2,6 @@ use Rattle.model.proofs.Places.{below-outside, above-outside, sum-fits,
 use borrow.Author.Needs.{needs}
 use Rattle.model.proofs.raised.Statement.{statement}
 use Rattle.model.proofs.raised.Tie as tie
-use Rattle.model.proofs.raised.Reads as reads
-use Rattle.model.proofs.raised.Lts as lts
 
 -- src/lib.rt:201:14
 cast-up : tie.Need-cast-up

@@ -1,8 +1,6 @@
 use Rattle.model.proofs.Tests.{below-least, above-least}
 use Rattle.model.proofs.within.Statement.{statement}
 use Rattle.model.proofs.within.Tie as tie
-use Rattle.model.proofs.within.Reads as reads
-use Rattle.model.proofs.within.Lts as lts
 
 -- src/lib.rt:45:9
 returns : tie.Need-returns

@@ -1,8 +1,6 @@
 use Rattle.pairs.proofs.Cursors.{first-macs, first-fixes}
 use Rattle.pairs.proofs.first_pair.Statement.{statement}
 use Rattle.pairs.proofs.first_pair.Tie as tie
-use Rattle.pairs.proofs.first_pair.Reads as reads
-use Rattle.pairs.proofs.first_pair.Lts as lts
 
 -- src/lib.rt:16:9
 returns : tie.Need-returns

@@ -2,9 +2,6 @@ use Rattle.pairs.proofs.Stepping.{stays-off, fix-column-fits, mac-colum
 use borrow.Author.Needs.{needs}
 use Rattle.pairs.proofs.next_pair.Statement.{statement}
 use Rattle.pairs.proofs.next_pair.Tie as tie
-use Rattle.pairs.proofs.next_pair.Reads as reads
-use Rattle.pairs.proofs.next_pair.Lts as lts
-use Rattle.pairs.proofs.on_pair.Reads as on-pair-reads
 
 -- src/lib.rt:52:9
 on-pair-requires : tie.Need-on-pair-requires

@@ -1,8 +1,6 @@
 use Rattle.pairs.proofs.Stepping.{fix-inside, fix-outside, mac-inside, mac-outside}
 use Rattle.pairs.proofs.on_pair.Statement.{statement}
 use Rattle.pairs.proofs.on_pair.Tie as tie
-use Rattle.pairs.proofs.on_pair.Reads as reads
-use Rattle.pairs.proofs.on_pair.Lts as lts
 
 -- src/lib.rt:38:13
 returns : tie.Need-returns

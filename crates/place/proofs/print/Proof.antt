@@ -3,9 +3,6 @@ use lib.Seq.{length-take-le}
 use borrow.Author.Needs.{needs}
 use Rattle.place.proofs.print.Statement.{statement}
 use Rattle.place.proofs.print.Tie as tie
-use Rattle.place.proofs.print.Reads as reads
-use Rattle.place.proofs.print.Lts as lts
-use Rattle.io.proofs.write_all.Reads as write-all-reads
 
 -- src/main.rt:8:26
 slice-aggregate-write-all : tie.Need-slice-aggregate-write-all

@@ -3,9 +3,6 @@ use Rattle.recordreader.proofs.Entry.{at-fits}
 use borrow.Author.Needs.{needs}
 use Rattle.recordreader.proofs.add_at.Statement.{statement}
 use Rattle.recordreader.proofs.add_at.Tie as tie
-use Rattle.recordreader.proofs.add_at.Reads as reads
-use Rattle.recordreader.proofs.add_at.Lts as lts
-use Rattle.recordreader.proofs.with_fault.Reads as with-fault-reads
 
 -- src/lib.rt:150:13
 array-read-m : tie.Need-array-read-m

@@ -1,8 +1,6 @@
 use Rattle.recordreader.proofs.Added.{done-added}
 use Rattle.recordreader.proofs.add_done.Statement.{statement}
 use Rattle.recordreader.proofs.add_done.Tie as tie
-use Rattle.recordreader.proofs.add_done.Reads as reads
-use Rattle.recordreader.proofs.add_done.Lts as lts
 
 -- src/lib.rt:170:1
 returns : tie.Need-returns

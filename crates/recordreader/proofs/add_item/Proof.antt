@@ -3,13 +3,6 @@ use Rattle.recordreader.proofs.Item.{taken-as, not-taken}
 use borrow.Author.Needs.{needs}
 use Rattle.recordreader.proofs.add_item.Statement.{statement}
 use Rattle.recordreader.proofs.add_item.Tie as tie
-use Rattle.recordreader.proofs.add_item.Reads as reads
-use Rattle.recordreader.proofs.add_item.Lts as lts
-use Rattle.recordreader.proofs.add_at.Reads as add-at-reads
-use Rattle.recordreader.proofs.add_done.Reads as add-done-reads
-use Rattle.recordreader.proofs.add_least.Reads as add-least-reads
-use Rattle.recordreader.proofs.add_none.Reads as add-none-reads
-use Rattle.recordreader.proofs.with_fault.Reads as with-fault-reads
 
 -- src/lib.rt:194:24
 enum-told : tie.Need-enum-told

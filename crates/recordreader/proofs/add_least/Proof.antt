@@ -2,8 +2,6 @@ use Rattle.recordreader.proofs.Added.{least-added}
 use borrow.Author.Needs.{needs}
 use Rattle.recordreader.proofs.add_least.Statement.{statement}
 use Rattle.recordreader.proofs.add_least.Tie as tie
-use Rattle.recordreader.proofs.add_least.Reads as reads
-use Rattle.recordreader.proofs.add_least.Lts as lts
 
 -- src/lib.rt:119:17
 array-read-t9 : tie.Need-array-read-t9

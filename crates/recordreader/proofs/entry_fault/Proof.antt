@@ -2,10 +2,6 @@ use Rattle.recordreader.proofs.Entry.{rank-fits, no-word, no-place, no-
 use borrow.Author.Needs.{needs}
 use Rattle.recordreader.proofs.entry_fault.Statement.{statement}
 use Rattle.recordreader.proofs.entry_fault.Tie as tie
-use Rattle.recordreader.proofs.entry_fault.Reads as reads
-use Rattle.recordreader.proofs.entry_fault.Lts as lts
-use Rattle.grammar.proofs.rank_of.Reads as rank-of-reads
-use Rattle.recordreader.proofs.may_follow.Reads as may-follow-reads
 
 -- src/lib.rt:82:9
 rank-of-requires : tie.Need-rank-of-requires

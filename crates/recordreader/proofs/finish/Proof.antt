@@ -2,11 +2,6 @@ use Rattle.recordreader.proofs.Lines.{refuses, complete, not-complete}
 use borrow.Author.Needs.{needs}
 use Rattle.recordreader.proofs.finish.Statement.{statement}
 use Rattle.recordreader.proofs.finish.Tie as tie
-use Rattle.recordreader.proofs.finish.Reads as reads
-use Rattle.recordreader.proofs.finish.Lts as lts
-use Rattle.grammar.proofs.rank_of.Reads as rank-of-reads
-use Rattle.recordreader.proofs.record_of.Reads as record-of-reads
-use Rattle.recordreader.proofs.refused.Reads as refused-reads
 
 -- src/lib.rt:294:8
 rank-of-requires : tie.Need-rank-of-requires

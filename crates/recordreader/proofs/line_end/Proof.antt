@@ -2,9 +2,6 @@ use Rattle.grammar.proofs.LineAt.{ends, end-fits}
 use borrow.Author.Needs.{needs}
 use Rattle.recordreader.proofs.line_end.Statement.{statement}
 use Rattle.recordreader.proofs.line_end.Tie as tie
-use Rattle.recordreader.proofs.line_end.Reads as reads
-use Rattle.recordreader.proofs.line_end.Lts as lts
-use Rattle.line.proofs.bytes_before.Reads as bytes-before-reads
 
 -- src/lib.rt:242:28
 sub-bytes-before : tie.Need-sub-bytes-before

@@ -2,8 +2,6 @@ use Rattle.recordreader.proofs.Follow.{too-early, by-most}
 use borrow.Author.Needs.{needs}
 use Rattle.recordreader.proofs.may_follow.Statement.{statement}
 use Rattle.recordreader.proofs.may_follow.Tie as tie
-use Rattle.recordreader.proofs.may_follow.Reads as reads
-use Rattle.recordreader.proofs.may_follow.Lts as lts
 
 -- src/lib.rt:70:12
 mul-if1 : tie.Need-mul-if1

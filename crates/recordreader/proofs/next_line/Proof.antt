@@ -2,10 +2,6 @@ use Rattle.recordreader.proofs.Lines.{no-feed, has-feed}
 use borrow.Author.Needs.{needs}
 use Rattle.recordreader.proofs.next_line.Statement.{statement}
 use Rattle.recordreader.proofs.next_line.Tie as tie
-use Rattle.recordreader.proofs.next_line.Reads as reads
-use Rattle.recordreader.proofs.next_line.Lts as lts
-use Rattle.recordreader.proofs.take_line.Reads as take-line-reads
-use Rattle.recordreader.proofs.with_fault.Reads as with-fault-reads
 
 -- src/lib.rt:253:9
 with-fault-requires : tie.Need-with-fault-requires

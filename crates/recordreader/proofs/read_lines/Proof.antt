@@ -1,5 +1,5 @@
 use borrow.Author.Needs.{needs}
-use Prim.Native.Nat.{ℕ, _+_, _-_, _≤_}
+use Prim.Native.Nat.{_+_, _-_, _≤_}
 use lib.ListN.{length}
 use Rattle.grammar.proofs.Left.{Left, text-left}
 use Rattle.record.specs.Kind.{start, recordKind}
@@ -7,13 +7,6 @@ use Rattle.recordreader.specs.State.{Sound, partOf}
 use Rattle.recordreader.proofs.Lines.{refuses, empty-sound, line-fails, line-read, all-read}
 use Rattle.recordreader.proofs.read_lines.Statement.{statement}
 use Rattle.recordreader.proofs.read_lines.Tie as tie
-use Rattle.recordreader.proofs.read_lines.Reads as reads
-use Rattle.recordreader.proofs.read_lines.Lts as lts
-use Rattle.recordreader.proofs.blank_spots.Reads as blank-spots-reads
-use Rattle.recordreader.proofs.finish.Reads as finish-reads
-use Rattle.recordreader.proofs.line_end.Reads as line-end-reads
-use Rattle.recordreader.proofs.next_line.Reads as next-line-reads
-use Rattle.recordreader.proofs.refused.Reads as refused-reads
 
 abbrev Inv-loop : tie.InvT-loop
 Inv-loop text s₀ a₀ line₀ s a line = (a ≤ length text + 1) × (line ≤ a + 1) × Sound s × Left recordKind start text (partOf s) a line

@@ -2,10 +2,6 @@ use Rattle.recordreader.proofs.Lines.{refuses, too-long}
 use borrow.Author.Needs.{needs}
 use Rattle.recordreader.proofs.read_record.Statement.{statement}
 use Rattle.recordreader.proofs.read_record.Tie as tie
-use Rattle.recordreader.proofs.read_record.Reads as reads
-use Rattle.recordreader.proofs.read_record.Lts as lts
-use Rattle.recordreader.proofs.read_lines.Reads as read-lines-reads
-use Rattle.recordreader.proofs.refused.Reads as refused-reads
 
 -- src/lib.rt:342:9
 refused-requires : tie.Need-refused-requires

@@ -1,8 +1,6 @@
 use Rattle.recordreader.proofs.Lines.{least-held, none-held}
 use Rattle.recordreader.proofs.record_of.Statement.{statement}
 use Rattle.recordreader.proofs.record_of.Tie as tie
-use Rattle.recordreader.proofs.record_of.Reads as reads
-use Rattle.recordreader.proofs.record_of.Lts as lts
 
 -- src/lib.rt:278:9
 returns : tie.Need-returns

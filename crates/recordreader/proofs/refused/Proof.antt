@@ -1,9 +1,6 @@
 use borrow.Author.Needs.{needs}
 use Rattle.recordreader.proofs.refused.Statement.{statement}
 use Rattle.recordreader.proofs.refused.Tie as tie
-use Rattle.recordreader.proofs.refused.Reads as reads
-use Rattle.recordreader.proofs.refused.Lts as lts
-use Rattle.recordreader.proofs.blank_spots.Reads as blank-spots-reads
 
 -- src/lib.rt:262:9
 blank-spots-requires : tie.Need-blank-spots-requires

@@ -2,11 +2,6 @@ use Rattle.recordreader.proofs.OneLine.{fields-fail, line-adds}
 use borrow.Author.Needs.{needs}
 use Rattle.recordreader.proofs.take_fields.Statement.{statement}
 use Rattle.recordreader.proofs.take_fields.Tie as tie
-use Rattle.recordreader.proofs.take_fields.Reads as reads
-use Rattle.recordreader.proofs.take_fields.Lts as lts
-use Rattle.recordreader.proofs.add_item.Reads as add-item-reads
-use Rattle.recordreader.proofs.with_fault.Reads as with-fault-reads
-use Rattle.line.proofs.read_fields.Reads as read-fields-reads
 
 -- src/lib.rt:214:9
 read-fields-requires : tie.Need-read-fields-requires

@@ -3,13 +3,6 @@ use Rattle.recordreader.proofs.OneLine.{entry-fails, entry-passed}
 use borrow.Author.Needs.{needs}
 use Rattle.recordreader.proofs.take_line.Statement.{statement}
 use Rattle.recordreader.proofs.take_line.Tie as tie
-use Rattle.recordreader.proofs.take_line.Reads as reads
-use Rattle.recordreader.proofs.take_line.Lts as lts
-use Rattle.recordreader.proofs.entry_fault.Reads as entry-fault-reads
-use Rattle.recordreader.proofs.take_fields.Reads as take-fields-reads
-use Rattle.recordreader.proofs.with_fault.Reads as with-fault-reads
-use Rattle.line.proofs.bytes_before.Reads as bytes-before-reads
-use Rattle.line.proofs.record_word.Reads as record-word-reads
 
 -- src/lib.rt:228:9
 bytes-before-requires : tie.Need-bytes-before-requires

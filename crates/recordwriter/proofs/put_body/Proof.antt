@@ -3,10 +3,6 @@ use Rattle.recordwriter.proofs.Printed.{none-written, least-written}
 use borrow.Author.Needs.{needs}
 use Rattle.recordwriter.proofs.put_body.Statement.{statement}
 use Rattle.recordwriter.proofs.put_body.Tie as tie
-use Rattle.recordwriter.proofs.put_body.Reads as reads
-use Rattle.recordwriter.proofs.put_body.Lts as lts
-use Rattle.linewriter.proofs.put_line.Reads as put-line-reads
-use Rattle.recordwriter.proofs.put_spots.Reads as put-spots-reads
 
 -- src/lib.rt:102:47
 enum-told : tie.Need-enum-told

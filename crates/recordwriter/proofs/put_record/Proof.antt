@@ -3,10 +3,6 @@ use Rattle.recordwriter.proofs.Printed.{record-written}
 use borrow.Author.Needs.{needs}
 use Rattle.recordwriter.proofs.put_record.Statement.{statement}
 use Rattle.recordwriter.proofs.put_record.Tie as tie
-use Rattle.recordwriter.proofs.put_record.Reads as reads
-use Rattle.recordwriter.proofs.put_record.Lts as lts
-use Rattle.linewriter.proofs.put_line.Reads as put-line-reads
-use Rattle.recordwriter.proofs.put_body.Reads as put-body-reads
 
 -- src/lib.rt:114:9
 put-body-requires : tie.Need-put-body-requires

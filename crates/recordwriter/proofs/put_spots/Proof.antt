@@ -10,11 +10,6 @@ use Rattle.record.specs.Text.{atItems}
 use Rattle.recordwriter.proofs.Printed.{spots-none, spot-more, spots-all}
 use Rattle.recordwriter.proofs.put_spots.Statement.{statement}
 use Rattle.recordwriter.proofs.put_spots.Tie as tie
-use Rattle.recordwriter.proofs.put_spots.Reads as reads
-use Rattle.recordwriter.proofs.put_spots.Lts as lts
-use Rattle.linewriter.proofs.put_line.Reads as put-line-reads
-use Rattle.recordwriter.proofs.shown.Reads as shown-reads
-use Rattle.recordwriter.proofs.spot_at.Reads as spot-at-reads
 
 abbrev Inv-loop : tie.InvT-loop
 Inv-loop out₀ at spots n last a₀ i₀ out a i = (i ≤ last) × Wrote out₀ out (itemsText (atItems 1 (firstOf blankSpot i spots))) at a

@@ -2,8 +2,6 @@ use Rattle.recordwriter.proofs.Printed.{blank-past}
 use borrow.Author.Needs.{needs}
 use Rattle.recordwriter.proofs.spot_at.Statement.{statement}
 use Rattle.recordwriter.proofs.spot_at.Tie as tie
-use Rattle.recordwriter.proofs.spot_at.Reads as reads
-use Rattle.recordwriter.proofs.spot_at.Lts as lts
 
 -- src/lib.rt:74:16
 mul-result : tie.Need-mul-result

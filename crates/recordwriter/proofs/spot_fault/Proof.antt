@@ -2,8 +2,6 @@ use Rattle.recordwriter.proofs.Faults.{no-room, x-over, y-over, no-faul
 use borrow.Author.Needs.{needs}
 use Rattle.recordwriter.proofs.spot_fault.Statement.{statement}
 use Rattle.recordwriter.proofs.spot_fault.Tie as tie
-use Rattle.recordwriter.proofs.spot_fault.Reads as reads
-use Rattle.recordwriter.proofs.spot_fault.Lts as lts
 
 -- src/lib.rt:21:9
 returns : tie.Need-returns

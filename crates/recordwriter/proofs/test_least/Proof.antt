@@ -4,9 +4,6 @@ use Prim.Native.Nat.{_≤_, _-_}
 use Rattle.recordwriter.proofs.SpotsRead.{LeftFrom, length-over, length-passed, spot-refused, spot-passed, all-passed, one-more}
 use Rattle.recordwriter.proofs.test_least.Statement.{statement}
 use Rattle.recordwriter.proofs.test_least.Tie as tie
-use Rattle.recordwriter.proofs.test_least.Reads as reads
-use Rattle.recordwriter.proofs.test_least.Lts as lts
-use Rattle.recordwriter.proofs.spot_fault.Reads as spot-fault-reads
 
 abbrev Inv-loop : tie.InvT-loop
 Inv-loop wl n spots i₀ i = (i ≤ 8) × (i ≤ n) × LeftFrom wl n spots i

@@ -2,9 +2,6 @@ use Rattle.recordwriter.proofs.LinesRead.{none-passed, least-tested}
 use borrow.Author.Needs.{needs}
 use Rattle.recordwriter.proofs.test_lines.Statement.{statement}
 use Rattle.recordwriter.proofs.test_lines.Tie as tie
-use Rattle.recordwriter.proofs.test_lines.Reads as reads
-use Rattle.recordwriter.proofs.test_lines.Lts as lts
-use Rattle.recordwriter.proofs.test_least.Reads as test-least-reads
 
 -- src/lib.rt:58:26
 enum-told : tie.Need-enum-told

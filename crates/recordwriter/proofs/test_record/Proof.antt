@@ -2,10 +2,6 @@ use Rattle.recordwriter.proofs.LinesRead.{too-long, not-long}
 use borrow.Author.Needs.{needs}
 use Rattle.recordwriter.proofs.test_record.Statement.{statement}
 use Rattle.recordwriter.proofs.test_record.Tie as tie
-use Rattle.recordwriter.proofs.test_record.Reads as reads
-use Rattle.recordwriter.proofs.test_record.Lts as lts
-use Rattle.recordwriter.proofs.put_record.Reads as put-record-reads
-use Rattle.recordwriter.proofs.test_lines.Reads as test-lines-reads
 
 -- src/lib.rt:123:27
 slice-aggregate-put-record : tie.Need-slice-aggregate-put-record

@@ -2,9 +2,6 @@ use Rattle.recordwriter.proofs.Answers.{too-short, all-fits}
 use borrow.Author.Needs.{needs}
 use Rattle.recordwriter.proofs.write_passed.Statement.{statement}
 use Rattle.recordwriter.proofs.write_passed.Tie as tie
-use Rattle.recordwriter.proofs.write_passed.Reads as reads
-use Rattle.recordwriter.proofs.write_passed.Lts as lts
-use Rattle.recordwriter.proofs.put_record.Reads as put-record-reads
 
 -- src/lib.rt:135:24
 slice-aggregate-put-record : tie.Need-slice-aggregate-put-record

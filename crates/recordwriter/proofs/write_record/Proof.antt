@@ -3,10 +3,6 @@ use Rattle.recordwriter.proofs.Answers.{not-passed, passed}
 use borrow.Author.Needs.{needs}
 use Rattle.recordwriter.proofs.write_record.Statement.{statement}
 use Rattle.recordwriter.proofs.write_record.Tie as tie
-use Rattle.recordwriter.proofs.write_record.Reads as reads
-use Rattle.recordwriter.proofs.write_record.Lts as lts
-use Rattle.recordwriter.proofs.test_record.Reads as test-record-reads
-use Rattle.recordwriter.proofs.write_passed.Reads as write-passed-reads
 
 -- src/lib.rt:146:9
 test-record-requires : tie.Need-test-record-requires

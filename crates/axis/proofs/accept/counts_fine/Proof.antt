@@ -3,8 +3,6 @@ use Rattle.axis.proofs.Accepting.{counts-low, counts-high, counts-some,
 use borrow.Author.Needs.{needs}
 use Rattle.axis.proofs.accept.counts_fine.Statement.{statement}
 use Rattle.axis.proofs.accept.counts_fine.Tie as tie
-use Rattle.axis.proofs.accept.counts_fine.Reads as reads
-use Rattle.axis.proofs.accept.counts_fine.Lts as lts
 
 returns : tie.Need-returns
 returns c = search counts-low

@@ -1,8 +1,6 @@
 use Rattle.axis.proofs.Accepting.{frame-macs, frame-pairs, frame-nets, frame-side, frame-base, frame-yes}
 use Rattle.axis.proofs.accept.frame_fine.Statement.{statement}
 use Rattle.axis.proofs.accept.frame_fine.Tie as tie
-use Rattle.axis.proofs.accept.frame_fine.Reads as reads
-use Rattle.axis.proofs.accept.frame_fine.Lts as lts
 
 returns : tie.Need-returns
 returns c = search frame-macs

@@ -3,12 +3,6 @@ use Rattle.axis.proofs.HeldAxes.{shaped, frame-no, frame-n, frame-p, fr
 use borrow.Author.Needs.{needs}
 use Rattle.axis.proofs.accept.is_held.Statement.{statement}
 use Rattle.axis.proofs.accept.is_held.Tie as tie
-use Rattle.axis.proofs.accept.is_held.Reads as reads
-use Rattle.axis.proofs.accept.is_held.Lts as lts
-use Rattle.axis.proofs.accept.frame_fine.Reads as frame-fine-reads
-use Rattle.axis.proofs.accept.nets_fine.Reads as nets-fine-reads
-use Rattle.axis.proofs.accept.pairs_fine.Reads as pairs-fine-reads
-use Rattle.axis.proofs.accept.sizes_fine.Reads as sizes-fine-reads
 
 frame-fine-requires : tie.Need-frame-fine-requires
 frame-fine-requires c κs = search needs

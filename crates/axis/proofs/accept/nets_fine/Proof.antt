@@ -3,10 +3,6 @@ use borrow.Author.Needs.{needs}
 use Rattle.axis.proofs.Accepting.{NetsRead, nets-none, nets-few, counts-no, counts-few, counts-fits, net-no, nets-more, nets-yes}
 use Rattle.axis.proofs.accept.nets_fine.Statement.{statement}
 use Rattle.axis.proofs.accept.nets_fine.Tie as tie
-use Rattle.axis.proofs.accept.nets_fine.Reads as reads
-use Rattle.axis.proofs.accept.nets_fine.Lts as lts
-use Rattle.axis.proofs.accept.counts_fine.Reads as counts-fine-reads
-use Rattle.axis.proofs.accept.pins_fine.Reads as pins-fine-reads
 
 -- the first j nets are within the limits, and have the first `from` pins
 abbrev Inv-loop : tie.InvT-loop

@@ -1,8 +1,6 @@
 use Rattle.axis.proofs.Accepting.{pair-tail, pair-head, pair-plus, pair-minus, pair-yes}
 use Rattle.axis.proofs.accept.pair_fine.Statement.{statement}
 use Rattle.axis.proofs.accept.pair_fine.Tie as tie
-use Rattle.axis.proofs.accept.pair_fine.Reads as reads
-use Rattle.axis.proofs.accept.pair_fine.Lts as lts
 
 returns : tie.Need-returns
 returns c = search pair-tail

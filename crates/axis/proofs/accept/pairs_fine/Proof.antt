@@ -4,9 +4,6 @@ use Rattle.axis.specs.Accept.{PairsTo}
 use Rattle.axis.proofs.Accepting.{pairs-none, pairs-more, pairs-no, pairs-yes}
 use Rattle.axis.proofs.accept.pairs_fine.Statement.{statement}
 use Rattle.axis.proofs.accept.pairs_fine.Tie as tie
-use Rattle.axis.proofs.accept.pairs_fine.Reads as reads
-use Rattle.axis.proofs.accept.pairs_fine.Lts as lts
-use Rattle.axis.proofs.accept.pair_fine.Reads as pair-fine-reads
 
 -- the first j pairs are within the limits
 abbrev Inv-loop : tie.InvT-loop

@@ -1,8 +1,6 @@
 use Rattle.axis.proofs.Accepting.{pin-node, pin-up, pin-yes}
 use Rattle.axis.proofs.accept.pin_fine.Statement.{statement}
 use Rattle.axis.proofs.accept.pin_fine.Tie as tie
-use Rattle.axis.proofs.accept.pin_fine.Reads as reads
-use Rattle.axis.proofs.accept.pin_fine.Lts as lts
 
 returns : tie.Need-returns
 returns c = search pin-node

@@ -4,9 +4,6 @@ use Rattle.axis.specs.Accept.{PinsTo}
 use Rattle.axis.proofs.Accepting.{pins-none, pins-more, pins-no, pins-yes}
 use Rattle.axis.proofs.accept.pins_fine.Statement.{statement}
 use Rattle.axis.proofs.accept.pins_fine.Tie as tie
-use Rattle.axis.proofs.accept.pins_fine.Reads as reads
-use Rattle.axis.proofs.accept.pins_fine.Lts as lts
-use Rattle.axis.proofs.accept.pin_fine.Reads as pin-fine-reads
 
 -- the pins from `from` up to i are within the limits
 abbrev Inv-loop : tie.InvT-loop

@@ -4,8 +4,6 @@ use Rattle.axis.specs.Accept.{SizesTo}
 use Rattle.axis.proofs.Accepting.{sizes-none, sizes-more, sizes-no, sizes-yes}
 use Rattle.axis.proofs.accept.sizes_fine.Statement.{statement}
 use Rattle.axis.proofs.accept.sizes_fine.Tie as tie
-use Rattle.axis.proofs.accept.sizes_fine.Reads as reads
-use Rattle.axis.proofs.accept.sizes_fine.Lts as lts
 
 -- the first i sizes are within the limit
 abbrev Inv-loop : tie.InvT-loop

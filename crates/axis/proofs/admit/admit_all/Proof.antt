@@ -3,9 +3,6 @@ use borrow.Author.Needs.{needs}
 use Rattle.axis.proofs.AllBounds.{Admitting, admitting-starts, admitting-fine, admitting-free, admitting-fresh, admitting-slot, admitting-net, admitting-more, admitting-refuted, admitting-all}
 use Rattle.axis.proofs.admit.admit_all.Statement.{statement}
 use Rattle.axis.proofs.admit.admit_all.Tie as tie
-use Rattle.axis.proofs.admit.admit_all.Reads as reads
-use Rattle.axis.proofs.admit.admit_all.Lts as lts
-use Rattle.axis.proofs.admit.admit_slot.Reads as admit-slot-reads
 
 -- the bounds below j are in h, and y keeps them
 abbrev Inv-loop : tie.InvT-loop

@@ -3,13 +3,6 @@ use Rattle.axis.proofs.Raising.{fine-nodes}
 use Rattle.axis.proofs.Admissions.{admit-growing, admit-leads, admit-small, admit-spread, admit-pushable, admit-fits, admit-refuted}
 use Rattle.axis.proofs.admit.admit_slot.Statement.{statement}
 use Rattle.axis.proofs.admit.admit_slot.Tie as tie
-use Rattle.axis.proofs.admit.admit_slot.Reads as reads
-use Rattle.axis.proofs.admit.admit_slot.Lts as lts
-use Rattle.axis.proofs.admit.approach.Reads as approach-reads
-use Rattle.axis.proofs.graph.keeps.Reads as keeps-reads
-use Rattle.axis.proofs.push.push.Reads as push-reads
-use Rattle.axis.proofs.growth.rebase.Reads as rebase-reads
-use Rattle.axis.proofs.growth.seed.Reads as seed-reads
 
 seed-requires : tie.Need-seed-requires
 seed-requires c κs = search needs

@@ -3,10 +3,6 @@ use Rattle.axis.specs.Growth.{outside}
 use Rattle.axis.proofs.Reaches.{Reaching, reaching-starts, reaching-growing, reaching-small, approach-held, approach-joined, reaching-more, reaching-less, approach-never}
 use Rattle.axis.proofs.admit.approach.Statement.{statement}
 use Rattle.axis.proofs.admit.approach.Tie as tie
-use Rattle.axis.proofs.admit.approach.Reads as reads
-use Rattle.axis.proofs.admit.approach.Lts as lts
-use Rattle.axis.proofs.graph.keeps.Reads as keeps-reads
-use Rattle.axis.proofs.growth.grow_step.Reads as grow-step-reads
 
 -- the growth goes on; nodes outside get fewer
 abbrev Inv-loop : tie.InvT-loop

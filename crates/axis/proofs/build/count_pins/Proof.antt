@@ -5,8 +5,6 @@ use Rattle.bounds.specs.Held.{pinsBefore}
 use Rattle.axis.proofs.Built.{count-none, count-fits, count-more, count-end}
 use Rattle.axis.proofs.build.count_pins.Statement.{statement}
 use Rattle.axis.proofs.build.count_pins.Tie as tie
-use Rattle.axis.proofs.build.count_pins.Reads as reads
-use Rattle.axis.proofs.build.count_pins.Lts as lts
 
 -- c: the pins of the first j nets
 abbrev Inv-loop : tie.InvT-loop

@@ -3,8 +3,6 @@ use borrow.Author.Needs.{needs}
 use Rattle.axis.proofs.Built.{EndsPut, ends-start, ends-put, ends-all}
 use Rattle.axis.proofs.build.put_ends.Statement.{statement}
 use Rattle.axis.proofs.build.put_ends.Tie as tie
-use Rattle.axis.proofs.build.put_ends.Reads as reads
-use Rattle.axis.proofs.build.put_ends.Lts as lts
 
 -- the end slots of the first j nets are written
 abbrev Inv-loop : tie.InvT-loop

@@ -3,9 +3,6 @@ use Rattle.axis.proofs.Built.{PinsPut, NetsPut, nets-start, net-few, ne
 use borrow.Author.Needs.{needs}
 use Rattle.axis.proofs.build.put_nets.Statement.{statement}
 use Rattle.axis.proofs.build.put_nets.Tie as tie
-use Rattle.axis.proofs.build.put_nets.Reads as reads
-use Rattle.axis.proofs.build.put_nets.Lts as lts
-use Rattle.axis.proofs.build.bound.Reads as bound-reads
 
 -- the slots of the first i pins of a net are written
 abbrev Inv-loop2 : tie.InvT-loop2

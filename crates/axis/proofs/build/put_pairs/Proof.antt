@@ -3,8 +3,6 @@ use borrow.Author.Needs.{needs}
 use Rattle.axis.proofs.Built.{PairsPut, put-none, put-more, put-all}
 use Rattle.axis.proofs.build.put_pairs.Statement.{statement}
 use Rattle.axis.proofs.build.put_pairs.Tie as tie
-use Rattle.axis.proofs.build.put_pairs.Reads as reads
-use Rattle.axis.proofs.build.put_pairs.Lts as lts
 
 -- the slots of the first j pairs are written
 abbrev Inv-loop : tie.InvT-loop

@@ -3,8 +3,6 @@ use borrow.Author.Needs.{needs}
 use Rattle.axis.proofs.Built.{DiePut, die-none, die-more, die-all}
 use Rattle.axis.proofs.build.put_sizes.Statement.{statement}
 use Rattle.axis.proofs.build.put_sizes.Tie as tie
-use Rattle.axis.proofs.build.put_sizes.Reads as reads
-use Rattle.axis.proofs.build.put_sizes.Lts as lts
 
 -- the slots of the first i macros are written
 abbrev Inv-loop : tie.InvT-loop

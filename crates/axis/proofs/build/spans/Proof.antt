@@ -6,8 +6,6 @@ use Rattle.axis.specs.Build.{SpansTo}
 use Rattle.axis.proofs.Built.{spans-none, spans-more, spans-all}
 use Rattle.axis.proofs.build.spans.Statement.{statement}
 use Rattle.axis.proofs.build.spans.Tie as tie
-use Rattle.axis.proofs.build.spans.Reads as reads
-use Rattle.axis.proofs.build.spans.Lts as lts
 
 -- the first j nets are written
 abbrev Inv-loop : tie.InvT-loop

@@ -4,8 +4,6 @@ use Rattle.axis.specs.Limits.{nodeRoom}
 use Rattle.axis.proofs.Tests.{LowTo, shows-no, low-none, low-more, low-all}
 use Rattle.axis.proofs.certify.all_low.Statement.{statement}
 use Rattle.axis.proofs.certify.all_low.Tie as tie
-use Rattle.axis.proofs.certify.all_low.Reads as reads
-use Rattle.axis.proofs.certify.all_low.Lts as lts
 
 -- the first k values are within the limit
 abbrev Inv-loop : tie.InvT-loop

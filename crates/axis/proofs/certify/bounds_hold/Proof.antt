@@ -5,8 +5,6 @@ use Rattle.axis.proofs.Slacks.{tail-node, head-node, tail-fits, head-fi
 use Rattle.axis.proofs.Tests.{shows-no, holds-none, holds-more, holds-all}
 use Rattle.axis.proofs.certify.bounds_hold.Statement.{statement}
 use Rattle.axis.proofs.certify.bounds_hold.Tie as tie
-use Rattle.axis.proofs.certify.bounds_hold.Reads as reads
-use Rattle.axis.proofs.certify.bounds_hold.Lts as lts
 
 -- the first i bounds hold
 abbrev Inv-loop : tie.InvT-loop

@@ -3,12 +3,6 @@ use Rattle.axis.proofs.Certified.{certified-by}
 use borrow.Author.Needs.{needs}
 use Rattle.axis.proofs.certify.certified.Statement.{statement}
 use Rattle.axis.proofs.certify.certified.Tie as tie
-use Rattle.axis.proofs.certify.certified.Reads as reads
-use Rattle.axis.proofs.certify.certified.Lts as lts
-use Rattle.axis.proofs.certify.is_flow.Reads as is-flow-reads
-use Rattle.axis.proofs.certify.is_rooted.Reads as is-rooted-reads
-use Rattle.axis.proofs.certify.keeps_all.Reads as keeps-all-reads
-use Rattle.axis.proofs.certify.tight_slots.Reads as tight-slots-reads
 
 keeps-all-requires : tie.Need-keeps-all-requires
 keeps-all-requires c κs = search needs

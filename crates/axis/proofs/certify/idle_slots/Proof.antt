@@ -4,8 +4,6 @@ use Rattle.axis.specs.Limits.{slotRoom}
 use Rattle.axis.proofs.Tests.{IdleTo, shows-no, idle-none, idle-zero, idle-apart, idle-asks, idle-all}
 use Rattle.axis.proofs.certify.idle_slots.Statement.{statement}
 use Rattle.axis.proofs.certify.idle_slots.Tie as tie
-use Rattle.axis.proofs.certify.idle_slots.Reads as reads
-use Rattle.axis.proofs.certify.idle_slots.Lts as lts
 
 -- of the first i slots those that ask nothing carry nothing
 abbrev Inv-loop : tie.InvT-loop

@@ -3,13 +3,6 @@ use Rattle.axis.proofs.Gathers.{chain-few, chain-within, refuted}
 use borrow.Author.Needs.{needs}
 use Rattle.axis.proofs.certify.is_chain.Statement.{statement}
 use Rattle.axis.proofs.certify.is_chain.Tie as tie
-use Rattle.axis.proofs.certify.is_chain.Reads as reads
-use Rattle.axis.proofs.certify.is_chain.Lts as lts
-use Rattle.axis.proofs.certify.idle_slots.Reads as idle-slots-reads
-use Rattle.axis.proofs.certify.is_even.Reads as is-even-reads
-use Rattle.axis.proofs.certify.outweighs.Reads as outweighs-reads
-use Rattle.axis.proofs.certify.slot_sums.Reads as slot-sums-reads
-use Rattle.axis.proofs.certify.within.Reads as within-reads
 
 within-requires : tie.Need-within-requires
 within-requires c κs = search needs

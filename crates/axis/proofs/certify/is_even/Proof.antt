@@ -4,8 +4,6 @@ use Rattle.axis.specs.Certify.{Even}
 use Rattle.axis.proofs.Tests.{shows-no, even-none, even-more, even-all}
 use Rattle.axis.proofs.certify.is_even.Statement.{statement}
 use Rattle.axis.proofs.certify.is_even.Tie as tie
-use Rattle.axis.proofs.certify.is_even.Reads as reads
-use Rattle.axis.proofs.certify.is_even.Lts as lts
 
 -- as much enters as leaves at the first k nodes
 abbrev Inv-loop : tie.InvT-loop

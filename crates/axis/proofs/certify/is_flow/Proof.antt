@@ -3,14 +3,6 @@ use Rattle.axis.proofs.Gathers.{nets-spanned, flow-few, sums-modest, fl
 use borrow.Author.Needs.{needs}
 use Rattle.axis.proofs.certify.is_flow.Statement.{statement}
 use Rattle.axis.proofs.certify.is_flow.Tie as tie
-use Rattle.axis.proofs.certify.is_flow.Reads as reads
-use Rattle.axis.proofs.certify.is_flow.Lts as lts
-use Rattle.axis.proofs.certify.idle_slots.Reads as idle-slots-reads
-use Rattle.axis.proofs.certify.is_even.Reads as is-even-reads
-use Rattle.axis.proofs.certify.net_sums.Reads as net-sums-reads
-use Rattle.axis.proofs.certify.slot_sums.Reads as slot-sums-reads
-use Rattle.axis.proofs.certify.total.Reads as total-reads
-use Rattle.axis.proofs.certify.within.Reads as within-reads
 
 total-requires : tie.Need-total-requires
 total-requires c κs = (search needs, search nets-spanned)

@@ -5,9 +5,6 @@ use Rattle.axis.proofs.Slacks.{tail-node, head-node, tail-fits, head-fi
 use Rattle.axis.proofs.Tests.{shows-no, rooted-none, rooted-more, rooted-all, tail-rank-fits, tail-rank-far, tail-rank-room, head-rank-fits, head-rank-far, head-rank-room}
 use Rattle.axis.proofs.certify.is_rooted.Statement.{statement}
 use Rattle.axis.proofs.certify.is_rooted.Tie as tie
-use Rattle.axis.proofs.certify.is_rooted.Reads as reads
-use Rattle.axis.proofs.certify.is_rooted.Lts as lts
-use Rattle.axis.proofs.certify.is_tied.Reads as is-tied-reads
 
 -- the nodes below k have parents
 abbrev Inv-loop : tie.InvT-loop

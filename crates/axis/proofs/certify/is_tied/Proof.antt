@@ -1,9 +1,6 @@
-use borrow.Author.Needs.{needs}
 use Rattle.axis.proofs.Tests.{shows-no, tied-forward, tied-back}
 use Rattle.axis.proofs.certify.is_tied.Statement.{statement}
 use Rattle.axis.proofs.certify.is_tied.Tie as tie
-use Rattle.axis.proofs.certify.is_tied.Reads as reads
-use Rattle.axis.proofs.certify.is_tied.Lts as lts
 
 returns : tie.Need-returns
 returns c = search tied-forward

@@ -2,10 +2,6 @@ use Rattle.axis.proofs.Tests.{shows-no, low-small, kept-by}
 use borrow.Author.Needs.{needs}
 use Rattle.axis.proofs.certify.keeps_all.Statement.{statement}
 use Rattle.axis.proofs.certify.keeps_all.Tie as tie
-use Rattle.axis.proofs.certify.keeps_all.Reads as reads
-use Rattle.axis.proofs.certify.keeps_all.Lts as lts
-use Rattle.axis.proofs.certify.all_low.Reads as all-low-reads
-use Rattle.axis.proofs.certify.bounds_hold.Reads as bounds-hold-reads
 
 all-low-requires : tie.Need-all-low-requires
 all-low-requires c κs = search needs

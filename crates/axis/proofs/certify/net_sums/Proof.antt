@@ -5,8 +5,6 @@ use Rattle.axis.specs.Certify.{Gathered}
 use Rattle.axis.proofs.Gathers.{enter-none, leave-none, lo-node, hi-node, lo-fits, hi-fits, enter-fits, leave-fits, enter-more, leave-more, net-sums-all}
 use Rattle.axis.proofs.certify.net_sums.Statement.{statement}
 use Rattle.axis.proofs.certify.net_sums.Tie as tie
-use Rattle.axis.proofs.certify.net_sums.Reads as reads
-use Rattle.axis.proofs.certify.net_sums.Lts as lts
 
 -- the weights of the first j nets besides
 abbrev Inv-loop : tie.InvT-loop

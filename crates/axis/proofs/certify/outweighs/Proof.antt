@@ -7,8 +7,6 @@ use Rattle.axis.specs.Graph.{at}
 use Rattle.axis.proofs.Gathers.{weigh-none, plus-fits, minus-fits, plus-one, minus-one, plus-idle, minus-idle, outweighs-all}
 use Rattle.axis.proofs.certify.outweighs.Statement.{statement}
 use Rattle.axis.proofs.certify.outweighs.Tie as tie
-use Rattle.axis.proofs.certify.outweighs.Reads as reads
-use Rattle.axis.proofs.certify.outweighs.Lts as lts
 
 -- the pluses and the minuses of the first i slots that carry
 abbrev Inv-loop : tie.InvT-loop

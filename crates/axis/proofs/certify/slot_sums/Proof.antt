@@ -7,8 +7,6 @@ use Rattle.axis.proofs.Slacks.{tail-node, head-node, tail-fits, head-fi
 use Rattle.axis.proofs.Gathers.{zeros, sums-none, into-fits, out-fits, into-more, out-more, sums-all}
 use Rattle.axis.proofs.certify.slot_sums.Statement.{statement}
 use Rattle.axis.proofs.certify.slot_sums.Tie as tie
-use Rattle.axis.proofs.certify.slot_sums.Reads as reads
-use Rattle.axis.proofs.certify.slot_sums.Lts as lts
 
 -- the sums of the first i slots
 abbrev Inv-loop : tie.InvT-loop

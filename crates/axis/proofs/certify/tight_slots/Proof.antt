@@ -5,8 +5,6 @@ use Rattle.axis.proofs.Slacks.{tail-node, head-node, tail-fits, head-fi
 use Rattle.axis.proofs.Tests.{shows-no, tights-none, tights-more, tights-idle, tights-all}
 use Rattle.axis.proofs.certify.tight_slots.Statement.{statement}
 use Rattle.axis.proofs.certify.tight_slots.Tie as tie
-use Rattle.axis.proofs.certify.tight_slots.Reads as reads
-use Rattle.axis.proofs.certify.tight_slots.Lts as lts
 
 -- of the first i slots those that carry are tight
 abbrev Inv-loop : tie.InvT-loop

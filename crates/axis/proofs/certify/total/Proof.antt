@@ -6,8 +6,6 @@ use Rattle.axis.specs.Solved.{weights}
 use Rattle.axis.proofs.Gathers.{total-none, total-all, weight-fits, weight-more}
 use Rattle.axis.proofs.certify.total.Statement.{statement}
 use Rattle.axis.proofs.certify.total.Tie as tie
-use Rattle.axis.proofs.certify.total.Reads as reads
-use Rattle.axis.proofs.certify.total.Lts as lts
 
 -- the weights of the first j nets
 abbrev Inv-loop : tie.InvT-loop

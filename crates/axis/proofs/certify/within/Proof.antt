@@ -4,8 +4,6 @@ use Rattle.axis.specs.Limits.{slotRoom}
 use Rattle.axis.proofs.Tests.{WithinTo, shows-no, within-none, within-more, within-all}
 use Rattle.axis.proofs.certify.within.Statement.{statement}
 use Rattle.axis.proofs.certify.within.Tie as tie
-use Rattle.axis.proofs.certify.within.Reads as reads
-use Rattle.axis.proofs.certify.within.Lts as lts
 
 -- the first i amounts are within q
 abbrev Inv-loop : tie.InvT-loop

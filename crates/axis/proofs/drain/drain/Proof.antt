@@ -2,9 +2,6 @@ use borrow.Author.Needs.{needs}
 use Rattle.axis.proofs.Turns.{Draining, drain-starts, drain-sound, drain-spare, drain-sub, drain-less, drain-more, drain-ends}
 use Rattle.axis.proofs.drain.drain.Statement.{statement}
 use Rattle.axis.proofs.drain.drain.Tie as tie
-use Rattle.axis.proofs.drain.drain.Reads as reads
-use Rattle.axis.proofs.drain.drain.Lts as lts
-use Rattle.axis.proofs.drain.one_turn.Reads as one-turn-reads
 
 -- r of the weight is left
 abbrev Inv-loop : tie.InvT-loop

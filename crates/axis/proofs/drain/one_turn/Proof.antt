@@ -4,13 +4,6 @@ use Rattle.axis.proofs.Seeds.{seed-growing, seed-chain}
 use Rattle.axis.proofs.Turns.{turn-pushable, turn-ok, turn-small, turn-spread}
 use Rattle.axis.proofs.drain.one_turn.Statement.{statement}
 use Rattle.axis.proofs.drain.one_turn.Tie as tie
-use Rattle.axis.proofs.drain.one_turn.Reads as reads
-use Rattle.axis.proofs.drain.one_turn.Lts as lts
-use Rattle.axis.proofs.push.push.Reads as push-reads
-use Rattle.axis.proofs.drain.lesser.Reads as lesser-reads
-use Rattle.axis.proofs.growth.rebase.Reads as rebase-reads
-use Rattle.axis.proofs.drain.reach.Reads as reach-reads
-use Rattle.axis.proofs.growth.seed.Reads as seed-reads
 
 seed-requires : tie.Need-seed-requires
 seed-requires c κs = search needs

@@ -3,9 +3,6 @@ use Rattle.axis.specs.Growth.{outside}
 use Rattle.axis.proofs.Reaches.{Reaching, reaching-starts, reaching-growing, reaching-ends, reaching-more, reaching-less, reaching-never}
 use Rattle.axis.proofs.drain.reach.Statement.{statement}
 use Rattle.axis.proofs.drain.reach.Tie as tie
-use Rattle.axis.proofs.drain.reach.Reads as reads
-use Rattle.axis.proofs.drain.reach.Lts as lts
-use Rattle.axis.proofs.growth.grow_step.Reads as grow-step-reads
 
 -- the growth goes on; nodes outside get fewer
 abbrev Inv-loop : tie.InvT-loop

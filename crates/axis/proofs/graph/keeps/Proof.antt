@@ -2,8 +2,6 @@ use borrow.Author.Needs.{needs}
 use Rattle.axis.proofs.Slacks.{keeps-fits-need, keeps-fits-have, keeps-yes, keeps-no}
 use Rattle.axis.proofs.graph.keeps.Statement.{statement}
 use Rattle.axis.proofs.graph.keeps.Tie as tie
-use Rattle.axis.proofs.graph.keeps.Reads as reads
-use Rattle.axis.proofs.graph.keeps.Lts as lts
 
 mul-need : tie.Need-mul-need
 mul-need c = search needs

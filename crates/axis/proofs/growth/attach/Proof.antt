@@ -2,9 +2,6 @@ use borrow.Author.Needs.{needs}
 use Rattle.axis.proofs.Steps.{count-low, attach-forward, attach-all, attach-part}
 use Rattle.axis.proofs.growth.attach.Statement.{statement}
 use Rattle.axis.proofs.growth.attach.Tie as tie
-use Rattle.axis.proofs.growth.attach.Reads as reads
-use Rattle.axis.proofs.growth.attach.Lts as lts
-use Rattle.axis.proofs.growth.join.Reads as join-reads
 
 mul-s : tie.Need-mul-s
 mul-s c = search needs

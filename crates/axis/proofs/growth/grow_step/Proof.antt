@@ -3,11 +3,6 @@ use Rattle.axis.proofs.Joins.{step-closed}
 use Rattle.axis.proofs.Steps.{least-room, least-fine, ready}
 use Rattle.axis.proofs.growth.grow_step.Statement.{statement}
 use Rattle.axis.proofs.growth.grow_step.Tie as tie
-use Rattle.axis.proofs.growth.grow_step.Reads as reads
-use Rattle.axis.proofs.growth.grow_step.Lts as lts
-use Rattle.axis.proofs.growth.attach.Reads as attach-reads
-use Rattle.axis.proofs.growth.least_leaving.Reads as least-leaving-reads
-use Rattle.axis.proofs.growth.raise.Reads as raise-reads
 
 least-leaving-requires : tie.Need-least-leaving-requires
 least-leaving-requires c κs = search needs

@@ -4,9 +4,6 @@ use Rattle.axis.specs.Growth.{Least}
 use Rattle.axis.proofs.Slacks.{tail-node, head-node, tail-fits, head-fits, fits-need, fits-have, slack-le, least-none, least-skip, least-keep, least-take, least-zero, least-all}
 use Rattle.axis.proofs.growth.least_leaving.Statement.{statement}
 use Rattle.axis.proofs.growth.least_leaving.Tie as tie
-use Rattle.axis.proofs.growth.least_leaving.Reads as reads
-use Rattle.axis.proofs.growth.least_leaving.Lts as lts
-use Rattle.axis.proofs.growth.leaves.Reads as leaves-reads
 
 -- the least slack among the first i slots
 abbrev Inv-loop : tie.InvT-loop

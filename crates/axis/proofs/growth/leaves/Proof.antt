@@ -1,8 +1,6 @@
 use Rattle.axis.proofs.Slacks.{yes-forward, yes-back, no-inside, no-idle, no-outside}
 use Rattle.axis.proofs.growth.leaves.Statement.{statement}
 use Rattle.axis.proofs.growth.leaves.Tie as tie
-use Rattle.axis.proofs.growth.leaves.Reads as reads
-use Rattle.axis.proofs.growth.leaves.Lts as lts
 
 returns : tie.Need-returns
 returns c = search yes-forward

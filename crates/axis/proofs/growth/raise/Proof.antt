@@ -5,8 +5,6 @@ use Rattle.axis.specs.Growth.{Raised}
 use Rattle.axis.proofs.Raising.{small-fits, raised-none, raised-skip, raised-more, raised-all}
 use Rattle.axis.proofs.growth.raise.Statement.{statement}
 use Rattle.axis.proofs.growth.raise.Tie as tie
-use Rattle.axis.proofs.growth.raise.Reads as reads
-use Rattle.axis.proofs.growth.raise.Lts as lts
 
 -- the first k nodes are done
 abbrev Inv-loop : tie.InvT-loop

@@ -5,8 +5,6 @@ use Rattle.axis.specs.Growth.{Shifted}
 use Rattle.axis.proofs.Raising.{rebase-fits, rebase-below, shifted-none, shifted-more, shifted-all}
 use Rattle.axis.proofs.growth.rebase.Statement.{statement}
 use Rattle.axis.proofs.growth.rebase.Tie as tie
-use Rattle.axis.proofs.growth.rebase.Reads as reads
-use Rattle.axis.proofs.growth.rebase.Lts as lts
 
 -- the first k values are moved
 abbrev Inv-loop : tie.InvT-loop

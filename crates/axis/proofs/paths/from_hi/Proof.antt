@@ -2,14 +2,6 @@ use Prim.Native.Nat.{_-_, _≤_}
 use borrow.Author.Needs.{needs}
 use Rattle.axis.proofs.paths.from_hi.Statement.{statement}
 use Rattle.axis.proofs.paths.from_hi.Tie as tie
-use Rattle.axis.proofs.paths.from_hi.Reads as reads
-use Rattle.axis.proofs.paths.from_hi.Lts as lts
-use Rattle.axis.proofs.arrays.amount.Reads as amount-reads
-use Rattle.axis.proofs.arrays.begin_of.Reads as begin-of-reads
-use Rattle.axis.proofs.arrays.end_of.Reads as end-of-reads
-use Rattle.axis.proofs.arrays.pin_slot.Reads as pin-slot-reads
-use Rattle.axis.proofs.arrays.tail_of.Reads as tail-of-reads
-use Rattle.axis.proofs.paths.relax.Reads as relax-reads
 
 -- nothing is kept
 abbrev Inv-loop : tie.InvT-loop

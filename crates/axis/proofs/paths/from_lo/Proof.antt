@@ -2,18 +2,6 @@ use Prim.Native.Nat.{_-_, _≤_}
 use borrow.Author.Needs.{needs}
 use Rattle.axis.proofs.paths.from_lo.Statement.{statement}
 use Rattle.axis.proofs.paths.from_lo.Tie as tie
-use Rattle.axis.proofs.paths.from_lo.Reads as reads
-use Rattle.axis.proofs.paths.from_lo.Lts as lts
-use Rattle.axis.proofs.arrays.amount.Reads as amount-reads
-use Rattle.axis.proofs.arrays.begin_of.Reads as begin-of-reads
-use Rattle.axis.proofs.arrays.end_of.Reads as end-of-reads
-use Rattle.axis.proofs.arrays.head_of.Reads as head-of-reads
-use Rattle.axis.proofs.arrays.lo_slot.Reads as lo-slot-reads
-use Rattle.axis.proofs.arrays.pin_slot.Reads as pin-slot-reads
-use Rattle.axis.proofs.arrays.plus.Reads as plus-reads
-use Rattle.axis.proofs.arrays.slack.Reads as slack-reads
-use Rattle.axis.proofs.arrays.value.Reads as value-reads
-use Rattle.axis.proofs.paths.relax.Reads as relax-reads
 
 -- nothing is kept
 abbrev Inv-loop : tie.InvT-loop

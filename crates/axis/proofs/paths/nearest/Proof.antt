@@ -2,10 +2,6 @@ use Prim.Native.Nat.{_-_, _≤_}
 use borrow.Author.Needs.{needs}
 use Rattle.axis.proofs.paths.nearest.Statement.{statement}
 use Rattle.axis.proofs.paths.nearest.Tie as tie
-use Rattle.axis.proofs.paths.nearest.Reads as reads
-use Rattle.axis.proofs.paths.nearest.Lts as lts
-use Rattle.axis.proofs.arrays.rank_of.Reads as rank-of-reads
-use Rattle.axis.proofs.arrays.value.Reads as value-reads
 
 -- nothing is kept
 abbrev Inv-loop : tie.InvT-loop

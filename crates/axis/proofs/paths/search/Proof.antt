@@ -2,13 +2,6 @@ use Prim.Native.Nat.{_-_, _≤_}
 use borrow.Author.Needs.{needs}
 use Rattle.axis.proofs.paths.search.Statement.{statement}
 use Rattle.axis.proofs.paths.search.Tie as tie
-use Rattle.axis.proofs.paths.search.Reads as reads
-use Rattle.axis.proofs.paths.search.Lts as lts
-use Rattle.axis.proofs.arrays.set_rank.Reads as set-rank-reads
-use Rattle.axis.proofs.arrays.value.Reads as value-reads
-use Rattle.axis.proofs.paths.nearest.Reads as nearest-reads
-use Rattle.axis.proofs.paths.through_pairs.Reads as through-pairs-reads
-use Rattle.axis.proofs.paths.through_pins.Reads as through-pins-reads
 
 -- nothing is kept
 abbrev Inv-loop : tie.InvT-loop

@@ -2,14 +2,6 @@ use Prim.Native.Nat.{_-_, _≤_}
 use borrow.Author.Needs.{needs}
 use Rattle.axis.proofs.paths.through_pairs.Statement.{statement}
 use Rattle.axis.proofs.paths.through_pairs.Tie as tie
-use Rattle.axis.proofs.paths.through_pairs.Reads as reads
-use Rattle.axis.proofs.paths.through_pairs.Lts as lts
-use Rattle.axis.proofs.arrays.amount.Reads as amount-reads
-use Rattle.axis.proofs.arrays.cell.Reads as cell-reads
-use Rattle.axis.proofs.arrays.plus.Reads as plus-reads
-use Rattle.axis.proofs.arrays.slack.Reads as slack-reads
-use Rattle.axis.proofs.arrays.value.Reads as value-reads
-use Rattle.axis.proofs.paths.relax.Reads as relax-reads
 
 -- nothing is kept
 abbrev Inv-loop : tie.InvT-loop

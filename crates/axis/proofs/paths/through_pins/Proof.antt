@@ -2,13 +2,6 @@ use Prim.Native.Nat.{_-_, _≤_}
 use borrow.Author.Needs.{needs}
 use Rattle.axis.proofs.paths.through_pins.Statement.{statement}
 use Rattle.axis.proofs.paths.through_pins.Tie as tie
-use Rattle.axis.proofs.paths.through_pins.Reads as reads
-use Rattle.axis.proofs.paths.through_pins.Lts as lts
-use Rattle.axis.proofs.arrays.first_pin.Reads as first-pin-reads
-use Rattle.axis.proofs.arrays.next_pin.Reads as next-pin-reads
-use Rattle.axis.proofs.arrays.pin_slot.Reads as pin-slot-reads
-use Rattle.axis.proofs.paths.through_hi.Reads as through-hi-reads
-use Rattle.axis.proofs.paths.through_lo.Reads as through-lo-reads
 
 -- nothing is kept
 abbrev Inv-loop : tie.InvT-loop

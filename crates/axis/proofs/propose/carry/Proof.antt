@@ -2,15 +2,6 @@ use Prim.Native.Nat.{_-_, _≤_}
 use borrow.Author.Needs.{needs}
 use Rattle.axis.proofs.propose.carry.Statement.{statement}
 use Rattle.axis.proofs.propose.carry.Tie as tie
-use Rattle.axis.proofs.propose.carry.Reads as reads
-use Rattle.axis.proofs.propose.carry.Lts as lts
-use Rattle.axis.proofs.arrays.amount.Reads as amount-reads
-use Rattle.axis.proofs.arrays.head_of.Reads as head-of-reads
-use Rattle.axis.proofs.arrays.less.Reads as less-reads
-use Rattle.axis.proofs.arrays.parent_of.Reads as parent-of-reads
-use Rattle.axis.proofs.arrays.plus.Reads as plus-reads
-use Rattle.axis.proofs.arrays.set_amount.Reads as set-amount-reads
-use Rattle.axis.proofs.arrays.tail_of.Reads as tail-of-reads
 
 -- nothing is kept
 abbrev Inv-loop : tie.InvT-loop

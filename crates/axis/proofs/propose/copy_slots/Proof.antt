@@ -2,12 +2,6 @@ use Prim.Native.Nat.{_-_, _≤_}
 use borrow.Author.Needs.{needs}
 use Rattle.axis.proofs.propose.copy_slots.Statement.{statement}
 use Rattle.axis.proofs.propose.copy_slots.Tie as tie
-use Rattle.axis.proofs.propose.copy_slots.Reads as reads
-use Rattle.axis.proofs.propose.copy_slots.Lts as lts
-use Rattle.axis.proofs.arrays.less.Reads as less-reads
-use Rattle.axis.proofs.arrays.plus.Reads as plus-reads
-use Rattle.axis.proofs.arrays.set_amount.Reads as set-amount-reads
-use Rattle.axis.proofs.arrays.set_ends.Reads as set-ends-reads
 
 -- nothing is kept
 abbrev Inv-loop : tie.InvT-loop

@@ -2,17 +2,6 @@ use Prim.Native.Nat.{_-_, _≤_}
 use borrow.Author.Needs.{needs}
 use Rattle.axis.proofs.propose.enter.Statement.{statement}
 use Rattle.axis.proofs.propose.enter.Tie as tie
-use Rattle.axis.proofs.propose.enter.Reads as reads
-use Rattle.axis.proofs.propose.enter.Lts as lts
-use Rattle.axis.proofs.arrays.add_pin.Reads as add-pin-reads
-use Rattle.axis.proofs.arrays.amount.Reads as amount-reads
-use Rattle.axis.proofs.arrays.less.Reads as less-reads
-use Rattle.axis.proofs.arrays.pin_slot.Reads as pin-slot-reads
-use Rattle.axis.proofs.arrays.plus.Reads as plus-reads
-use Rattle.axis.proofs.arrays.set_pins.Reads as set-pins-reads
-use Rattle.axis.proofs.arrays.set_value.Reads as set-value-reads
-use Rattle.axis.proofs.arrays.tail_of.Reads as tail-of-reads
-use Rattle.axis.proofs.arrays.value.Reads as value-reads
 
 -- nothing is kept
 abbrev Inv-loop : tie.InvT-loop

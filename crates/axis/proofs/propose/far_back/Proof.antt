@@ -2,10 +2,6 @@ use Prim.Native.Nat.{_-_, _≤_}
 use borrow.Author.Needs.{needs}
 use Rattle.axis.proofs.propose.far_back.Statement.{statement}
 use Rattle.axis.proofs.propose.far_back.Tie as tie
-use Rattle.axis.proofs.propose.far_back.Reads as reads
-use Rattle.axis.proofs.propose.far_back.Lts as lts
-use Rattle.axis.proofs.arrays.parent_of.Reads as parent-of-reads
-use Rattle.axis.proofs.arrays.tail_of.Reads as tail-of-reads
 
 -- nothing is kept
 abbrev Inv-loop : tie.InvT-loop

@@ -2,9 +2,6 @@ use Prim.Native.Nat.{_-_, _≤_}
 use borrow.Author.Needs.{needs}
 use Rattle.axis.proofs.propose.farthest.Statement.{statement}
 use Rattle.axis.proofs.propose.farthest.Tie as tie
-use Rattle.axis.proofs.propose.farthest.Reads as reads
-use Rattle.axis.proofs.propose.farthest.Lts as lts
-use Rattle.axis.proofs.arrays.value.Reads as value-reads
 
 -- nothing is kept
 abbrev Inv-loop : tie.InvT-loop

@@ -2,13 +2,6 @@ use Prim.Native.Nat.{_-_, _≤_}
 use borrow.Author.Needs.{needs}
 use Rattle.axis.proofs.propose.fill_cells.Statement.{statement}
 use Rattle.axis.proofs.propose.fill_cells.Tie as tie
-use Rattle.axis.proofs.propose.fill_cells.Reads as reads
-use Rattle.axis.proofs.propose.fill_cells.Lts as lts
-use Rattle.axis.proofs.arrays.amount.Reads as amount-reads
-use Rattle.axis.proofs.arrays.cell.Reads as cell-reads
-use Rattle.axis.proofs.arrays.head_of.Reads as head-of-reads
-use Rattle.axis.proofs.arrays.set_cell.Reads as set-cell-reads
-use Rattle.axis.proofs.arrays.tail_of.Reads as tail-of-reads
 
 -- nothing is kept
 abbrev Inv-loop : tie.InvT-loop

@@ -2,12 +2,6 @@ use Prim.Native.Nat.{_-_, _≤_}
 use borrow.Author.Needs.{needs}
 use Rattle.axis.proofs.propose.narrowest.Statement.{statement}
 use Rattle.axis.proofs.propose.narrowest.Tie as tie
-use Rattle.axis.proofs.propose.narrowest.Reads as reads
-use Rattle.axis.proofs.propose.narrowest.Lts as lts
-use Rattle.axis.proofs.arrays.amount.Reads as amount-reads
-use Rattle.axis.proofs.arrays.head_of.Reads as head-of-reads
-use Rattle.axis.proofs.arrays.parent_of.Reads as parent-of-reads
-use Rattle.axis.proofs.arrays.tail_of.Reads as tail-of-reads
 
 -- nothing is kept
 abbrev Inv-loop : tie.InvT-loop

@@ -2,8 +2,6 @@ use Prim.Native.Nat.{_-_, _≤_}
 use borrow.Author.Needs.{needs}
 use Rattle.axis.proofs.propose.no_links.Statement.{statement}
 use Rattle.axis.proofs.propose.no_links.Tie as tie
-use Rattle.axis.proofs.propose.no_links.Reads as reads
-use Rattle.axis.proofs.propose.no_links.Lts as lts
 
 -- nothing is kept
 abbrev Inv-loop : tie.InvT-loop

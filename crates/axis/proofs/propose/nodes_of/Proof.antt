@@ -2,9 +2,6 @@ use Prim.Native.Nat.{_-_, _≤_}
 use borrow.Author.Needs.{needs}
 use Rattle.axis.proofs.propose.nodes_of.Statement.{statement}
 use Rattle.axis.proofs.propose.nodes_of.Tie as tie
-use Rattle.axis.proofs.propose.nodes_of.Reads as reads
-use Rattle.axis.proofs.propose.nodes_of.Lts as lts
-use Rattle.axis.proofs.arrays.value.Reads as value-reads
 
 -- nothing is kept
 abbrev Inv-loop : tie.InvT-loop

@@ -2,9 +2,6 @@ use Prim.Native.Nat.{_-_, _≤_}
 use borrow.Author.Needs.{needs}
 use Rattle.axis.proofs.propose.raise_all.Statement.{statement}
 use Rattle.axis.proofs.propose.raise_all.Tie as tie
-use Rattle.axis.proofs.propose.raise_all.Reads as reads
-use Rattle.axis.proofs.propose.raise_all.Lts as lts
-use Rattle.axis.proofs.propose.raise_once.Reads as raise-once-reads
 
 -- nothing is kept
 abbrev Inv-loop : tie.InvT-loop

@@ -2,9 +2,6 @@ use Prim.Native.Nat.{_-_, _≤_}
 use borrow.Author.Needs.{needs}
 use Rattle.axis.proofs.propose.raise_once.Statement.{statement}
 use Rattle.axis.proofs.propose.raise_once.Tie as tie
-use Rattle.axis.proofs.propose.raise_once.Reads as reads
-use Rattle.axis.proofs.propose.raise_once.Lts as lts
-use Rattle.axis.proofs.propose.raise_to.Reads as raise-to-reads
 
 -- nothing is kept
 abbrev Inv-loop : tie.InvT-loop

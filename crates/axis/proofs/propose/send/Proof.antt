@@ -2,10 +2,6 @@ use Prim.Native.Nat.{_-_, _≤_}
 use borrow.Author.Needs.{needs}
 use Rattle.axis.proofs.propose.send.Statement.{statement}
 use Rattle.axis.proofs.propose.send.Tie as tie
-use Rattle.axis.proofs.propose.send.Reads as reads
-use Rattle.axis.proofs.propose.send.Lts as lts
-use Rattle.axis.proofs.arrays.less.Reads as less-reads
-use Rattle.axis.proofs.propose.augment.Reads as augment-reads
 
 -- nothing is kept
 abbrev Inv-loop : tie.InvT-loop

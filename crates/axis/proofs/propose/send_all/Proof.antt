@@ -2,10 +2,6 @@ use Prim.Native.Nat.{_-_, _≤_}
 use borrow.Author.Needs.{needs}
 use Rattle.axis.proofs.propose.send_all.Statement.{statement}
 use Rattle.axis.proofs.propose.send_all.Tie as tie
-use Rattle.axis.proofs.propose.send_all.Reads as reads
-use Rattle.axis.proofs.propose.send_all.Lts as lts
-use Rattle.axis.proofs.propose.enter.Reads as enter-reads
-use Rattle.axis.proofs.propose.send.Reads as send-reads
 
 -- nothing is kept
 abbrev Inv-loop : tie.InvT-loop

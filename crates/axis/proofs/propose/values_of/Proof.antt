@@ -2,8 +2,6 @@ use Prim.Native.Nat.{_-_, _≤_}
 use borrow.Author.Needs.{needs}
 use Rattle.axis.proofs.propose.values_of.Statement.{statement}
 use Rattle.axis.proofs.propose.values_of.Tie as tie
-use Rattle.axis.proofs.propose.values_of.Reads as reads
-use Rattle.axis.proofs.propose.values_of.Lts as lts
 
 -- nothing is kept
 abbrev Inv-loop : tie.InvT-loop

@@ -4,8 +4,6 @@ use Rattle.axis.specs.Push.{Walked}
 use Rattle.axis.proofs.Pushes.{walk-starts, walk-ends, node-room, node-fits, slot-room, slot-fits, slot-fits-wide, fits-more, back-enough, walk-forward, walk-back, forward-less, back-less}
 use Rattle.axis.proofs.push.push.Statement.{statement}
 use Rattle.axis.proofs.push.push.Tie as tie
-use Rattle.axis.proofs.push.push.Reads as reads
-use Rattle.axis.proofs.push.push.Lts as lts
 
 -- the walk stands at c; ranks fall on the way to the start
 abbrev Inv-loop : tie.InvT-loop

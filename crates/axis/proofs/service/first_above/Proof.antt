@@ -4,8 +4,6 @@ use Rattle.axis.specs.Service.{NoneAbove}
 use Rattle.axis.proofs.Served.{fits-none, fits-more, above-found, above-none}
 use Rattle.axis.proofs.service.first_above.Statement.{statement}
 use Rattle.axis.proofs.service.first_above.Tie as tie
-use Rattle.axis.proofs.service.first_above.Reads as reads
-use Rattle.axis.proofs.service.first_above.Lts as lts
 
 -- none of the first i sizes is above the side
 abbrev Inv-loop : tie.InvT-loop

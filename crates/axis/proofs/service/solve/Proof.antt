@@ -3,12 +3,6 @@ use Rattle.axis.proofs.Served.{malformed, is-held, held-few, all-fit}
 use borrow.Author.Needs.{needs}
 use Rattle.axis.proofs.service.solve.Statement.{statement}
 use Rattle.axis.proofs.service.solve.Tie as tie
-use Rattle.axis.proofs.service.solve.Reads as reads
-use Rattle.axis.proofs.service.solve.Lts as lts
-use Rattle.axis.proofs.accept.is_held.Reads as is-held-reads
-use Rattle.axis.proofs.service.first_above.Reads as first-above-reads
-use Rattle.axis.proofs.service.solve_pairs.Reads as solve-pairs-reads
-use Rattle.axis.proofs.service.too_large.Reads as too-large-reads
 
 is-held-requires : tie.Need-is-held-requires
 is-held-requires c κs = search needs

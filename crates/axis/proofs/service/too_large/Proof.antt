@@ -3,8 +3,6 @@ use Rattle.axis.proofs.Served.{large-chain}
 use borrow.Author.Needs.{needs}
 use Rattle.axis.proofs.service.too_large.Statement.{statement}
 use Rattle.axis.proofs.service.too_large.Tie as tie
-use Rattle.axis.proofs.service.too_large.Reads as reads
-use Rattle.axis.proofs.service.too_large.Lts as lts
 
 mul-o : tie.Need-mul-o
 mul-o c = search needs

@@ -4,9 +4,6 @@ use Rattle.axis.specs.Solved.{Flows}
 use Rattle.axis.proofs.AllNets.{flows-none, flows-sound, flows-net, flows-spare, flows-more, flows-all}
 use Rattle.axis.proofs.solve.drain_all.Statement.{statement}
 use Rattle.axis.proofs.solve.drain_all.Tie as tie
-use Rattle.axis.proofs.solve.drain_all.Reads as reads
-use Rattle.axis.proofs.solve.drain_all.Lts as lts
-use Rattle.axis.proofs.drain.drain.Reads as drain-reads
 
 -- the first j nets flow
 abbrev Inv-loop : tie.InvT-loop

@@ -3,9 +3,6 @@ use Rattle.axis.specs.Growth.{outside}
 use Rattle.axis.proofs.Reaches.{Reaching, reaching-starts, reaching-growing, reaching-more, reaching-less, settle-ends}
 use Rattle.axis.proofs.solve.settle.Statement.{statement}
 use Rattle.axis.proofs.solve.settle.Tie as tie
-use Rattle.axis.proofs.solve.settle.Reads as reads
-use Rattle.axis.proofs.solve.settle.Lts as lts
-use Rattle.axis.proofs.growth.grow_step.Reads as grow-step-reads
 
 -- the growth goes on; nodes outside get fewer
 abbrev Inv-loop : tie.InvT-loop

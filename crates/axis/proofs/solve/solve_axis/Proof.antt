@@ -2,11 +2,6 @@ use borrow.Author.Needs.{needs}
 use Rattle.axis.proofs.Optimum.{solved, solve-growing}
 use Rattle.axis.proofs.solve.solve_axis.Statement.{statement}
 use Rattle.axis.proofs.solve.solve_axis.Tie as tie
-use Rattle.axis.proofs.solve.solve_axis.Reads as reads
-use Rattle.axis.proofs.solve.solve_axis.Lts as lts
-use Rattle.axis.proofs.solve.drain_all.Reads as drain-all-reads
-use Rattle.axis.proofs.solve.settle.Reads as settle-reads
-use Rattle.axis.proofs.growth.seed.Reads as seed-reads
 
 drain-all-requires : tie.Need-drain-all-requires
 drain-all-requires c κs = search needs

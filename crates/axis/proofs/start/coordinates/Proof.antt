@@ -4,8 +4,6 @@ use Rattle.axis.specs.Start.{Placed}
 use Rattle.axis.proofs.Starts.{placed-none, placed-le, placed-more, placed-all}
 use Rattle.axis.proofs.start.coordinates.Statement.{statement}
 use Rattle.axis.proofs.start.coordinates.Tie as tie
-use Rattle.axis.proofs.start.coordinates.Reads as reads
-use Rattle.axis.proofs.start.coordinates.Lts as lts
 
 -- the first i macros have their coordinates
 abbrev Inv-loop : tie.InvT-loop

@@ -4,10 +4,6 @@ use Rattle.axis.specs.Start.{Around}
 use Rattle.axis.proofs.Starts.{around-none, end-node, end-scaled, end-fits, around-more, around-all}
 use Rattle.axis.proofs.start.net_ends.Statement.{statement}
 use Rattle.axis.proofs.start.net_ends.Tie as tie
-use Rattle.axis.proofs.start.net_ends.Reads as reads
-use Rattle.axis.proofs.start.net_ends.Lts as lts
-use Rattle.axis.proofs.drain.lesser.Reads as lesser-reads
-use Rattle.axis.proofs.start.greater.Reads as greater-reads
 
 -- lo and hi enclose the first i pins
 abbrev Inv-loop : tie.InvT-loop

@@ -3,9 +3,6 @@ use borrow.Author.Needs.{needs}
 use Rattle.axis.proofs.Starts.{Starting, start-none, start-few, start-fits, start-pins, start-hi, start-lo, start-more, start-all}
 use Rattle.axis.proofs.start.start_values.Statement.{statement}
 use Rattle.axis.proofs.start.start_values.Tie as tie
-use Rattle.axis.proofs.start.start_values.Reads as reads
-use Rattle.axis.proofs.start.start_values.Lts as lts
-use Rattle.axis.proofs.start.net_ends.Reads as net-ends-reads
 
 -- the ends of the first j nets have their values; these nets have the first `from` pins
 abbrev Inv-loop : tie.InvT-loop

@@ -1,11 +1,8 @@
-use mathlib.Core.Path.{_≡_}
 use Prim.Native.Nat.{_≤_, _-_}
 use borrow.Author.Needs.{needs}
 use lib.ListN.{length}
 use Rattle.cases.proofs.values.untouched.Statement.{statement}
 use Rattle.cases.proofs.values.untouched.Tie as tie
-use Rattle.cases.proofs.values.untouched.Reads as reads
-use Rattle.cases.proofs.values.untouched.Lts as lts
 
 abbrev Inv-loop : tie.InvT-loop
 Inv-loop s i₀ i = i ≤ length s

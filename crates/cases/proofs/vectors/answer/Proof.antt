@@ -2,15 +2,6 @@ use Rattle.cases.proofs.Prefix.{prefix-long, prefix-of}
 use borrow.Author.Needs.{needs}
 use Rattle.cases.proofs.vectors.answer.Statement.{statement}
 use Rattle.cases.proofs.vectors.answer.Tie as tie
-use Rattle.cases.proofs.vectors.answer.Reads as reads
-use Rattle.cases.proofs.vectors.answer.Lts as lts
-use Rattle.cases.proofs.vectors.after.Reads as after-reads
-use Rattle.cases.proofs.vectors.answer_chip.Reads as answer-chip-reads
-use Rattle.cases.proofs.vectors.answer_record.Reads as answer-record-reads
-use Rattle.cases.proofs.vectors.at_most.Reads as at-most-reads
-use Rattle.cases.proofs.vectors.index_of.Reads as index-of-reads
-use Rattle.cases.proofs.vectors.unfold.Reads as unfold-reads
-use Rattle.io.proofs.large_buffer.Reads as large-buffer-reads
 
 -- src/vectors.rt:218:9
 index-of-requires : tie.Need-index-of-requires

@@ -2,9 +2,6 @@ use Rattle.cases.proofs.Prefix.{prefix-long}
 use borrow.Author.Needs.{needs}
 use Rattle.cases.proofs.vectors.is_text.Statement.{statement}
 use Rattle.cases.proofs.vectors.is_text.Tie as tie
-use Rattle.cases.proofs.vectors.is_text.Reads as reads
-use Rattle.cases.proofs.vectors.is_text.Lts as lts
-use Rattle.check.proofs.same.Reads as same-reads
 
 -- src/vectors.rt:179:9
 returns : tie.Need-returns

@@ -4,9 +4,6 @@ use borrow.Author.Needs.{needs}
 use lib.ListN.{length}
 use Rattle.cases.proofs.vectors.repeat.Statement.{statement}
 use Rattle.cases.proofs.vectors.repeat.Tie as tie
-use Rattle.cases.proofs.vectors.repeat.Reads as reads
-use Rattle.cases.proofs.vectors.repeat.Lts as lts
-use Rattle.cases.proofs.vectors.unescape.Reads as unescape-reads
 
 abbrev Inv-loop : tie.InvT-loop
 Inv-loop s times out₀ at a₀ i₀ out a i = (i ≤ times) × (length out ≡ length out₀)

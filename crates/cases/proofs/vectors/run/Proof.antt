@@ -1,13 +1,8 @@
-use mathlib.Core.Path.{_≡_}
 use Prim.Native.Nat.{_+_, _≤_, _-_}
 use borrow.Author.Needs.{needs}
 use lib.ListN.{length}
 use Rattle.cases.proofs.vectors.run.Statement.{statement}
 use Rattle.cases.proofs.vectors.run.Tie as tie
-use Rattle.cases.proofs.vectors.run.Reads as reads
-use Rattle.cases.proofs.vectors.run.Lts as lts
-use Rattle.cases.proofs.vectors.answer.Reads as answer-reads
-use Rattle.cases.proofs.vectors.index_of.Reads as index-of-reads
 
 abbrev Inv-loop : tie.InvT-loop
 Inv-loop s i₀ i = i ≤ length s + 1

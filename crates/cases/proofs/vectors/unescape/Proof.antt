@@ -4,11 +4,6 @@ use borrow.Author.Needs.{needs}
 use lib.ListN.{length}
 use Rattle.cases.proofs.vectors.unescape.Statement.{statement}
 use Rattle.cases.proofs.vectors.unescape.Tie as tie
-use Rattle.cases.proofs.vectors.unescape.Reads as reads
-use Rattle.cases.proofs.vectors.unescape.Lts as lts
-use Rattle.cases.proofs.vectors.escape_byte.Reads as escape-byte-reads
-use Rattle.cases.proofs.vectors.escape_size.Reads as escape-size-reads
-use Rattle.cases.proofs.vectors.put.Reads as put-reads
 
 abbrev Inv-loop : tie.InvT-loop
 Inv-loop s out₀ at a₀ i₀ out a i = (i ≤ length s) × (length out ≡ length out₀)

@@ -4,12 +4,6 @@ use borrow.Author.Needs.{needs}
 use lib.ListN.{length}
 use Rattle.cases.proofs.vectors.unfold.Statement.{statement}
 use Rattle.cases.proofs.vectors.unfold.Tie as tie
-use Rattle.cases.proofs.vectors.unfold.Reads as reads
-use Rattle.cases.proofs.vectors.unfold.Lts as lts
-use Rattle.cases.proofs.vectors.after.Reads as after-reads
-use Rattle.cases.proofs.vectors.index_of.Reads as index-of-reads
-use Rattle.cases.proofs.vectors.put_repeated.Reads as put-repeated-reads
-use Rattle.cases.proofs.vectors.unescape.Reads as unescape-reads
 
 abbrev Inv-loop : tie.InvT-loop
 Inv-loop s out₀ a₀ i₀ out a i = (i ≤ length s) × (length out ≡ length out₀)

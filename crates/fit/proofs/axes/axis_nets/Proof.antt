@@ -4,8 +4,6 @@ use Prim.Native.Nat.{_-_, _≤_}
 use Rattle.fit.proofs.Copies.{Copied, copied-none, copied-all, net-more}
 use Rattle.fit.proofs.axes.axis_nets.Statement.{statement}
 use Rattle.fit.proofs.axes.axis_nets.Tie as tie
-use Rattle.fit.proofs.axes.axis_nets.Reads as reads
-use Rattle.fit.proofs.axes.axis_nets.Lts as lts
 
 -- the first j nets are written
 abbrev Inv-loop : tie.InvT-loop

@@ -2,13 +2,6 @@ use Rattle.fit.proofs.MadeAxes.{letter-each, axis-made}
 use borrow.Author.Needs.{needs}
 use Rattle.fit.proofs.axes.axis_parts.Statement.{statement}
 use Rattle.fit.proofs.axes.axis_parts.Tie as tie
-use Rattle.fit.proofs.axes.axis_parts.Reads as reads
-use Rattle.fit.proofs.axes.axis_parts.Lts as lts
-use Rattle.fit.proofs.axes.axis_nets.Reads as axis-nets-reads
-use Rattle.fit.proofs.axes.axis_pins.Reads as axis-pins-reads
-use Rattle.fit.proofs.axes.die_side.Reads as die-side-reads
-use Rattle.fit.proofs.axes.mac_sides.Reads as mac-sides-reads
-use Rattle.fit.proofs.pairslots.pair_slots.Reads as pair-slots-reads
 
 -- src/axes.rt:130:15
 die-side-requires : tie.Need-die-side-requires

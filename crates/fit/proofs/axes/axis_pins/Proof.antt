@@ -4,9 +4,6 @@ use Prim.Native.Nat.{_-_, _≤_}
 use Rattle.fit.proofs.Copies.{Copied, copied-none, copied-all, pin-more}
 use Rattle.fit.proofs.axes.axis_pins.Statement.{statement}
 use Rattle.fit.proofs.axes.axis_pins.Tie as tie
-use Rattle.fit.proofs.axes.axis_pins.Reads as reads
-use Rattle.fit.proofs.axes.axis_pins.Lts as lts
-use Rattle.fit.proofs.axes.pin_up.Reads as pin-up-reads
 
 -- the first i pins are written
 abbrev Inv-loop : tie.InvT-loop

@@ -4,9 +4,6 @@ use Prim.Native.Nat.{_-_, _≤_}
 use Rattle.fit.proofs.Copies.{Copied, copied-none, copied-all, side-more}
 use Rattle.fit.proofs.axes.mac_sides.Statement.{statement}
 use Rattle.fit.proofs.axes.mac_sides.Tie as tie
-use Rattle.fit.proofs.axes.mac_sides.Reads as reads
-use Rattle.fit.proofs.axes.mac_sides.Lts as lts
-use Rattle.fit.proofs.axes.mac_side.Reads as mac-side-reads
 
 -- the first i sizes are written
 abbrev Inv-loop : tie.InvT-loop

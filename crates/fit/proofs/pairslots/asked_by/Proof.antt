@@ -2,10 +2,6 @@ use Rattle.fit.proofs.Asking.{asks-before, asks-after, asks-nothing}
 use borrow.Author.Needs.{needs}
 use Rattle.fit.proofs.pairslots.asked_by.Statement.{statement}
 use Rattle.fit.proofs.pairslots.asked_by.Tie as tie
-use Rattle.fit.proofs.pairslots.asked_by.Reads as reads
-use Rattle.fit.proofs.pairslots.asked_by.Lts as lts
-use Rattle.fit.proofs.pairslots.letter_after.Reads as letter-after-reads
-use Rattle.fit.proofs.pairslots.letter_before.Reads as letter-before-reads
 
 -- src/pairslots.rt:45:18
 letter-before-requires : tie.Need-letter-before-requires

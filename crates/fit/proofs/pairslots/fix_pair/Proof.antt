@@ -2,8 +2,6 @@ use Rattle.fit.proofs.Asking.{fix-before, fix-after, fix-nothing}
 use borrow.Author.Needs.{needs}
 use Rattle.fit.proofs.pairslots.fix_pair.Statement.{statement}
 use Rattle.fit.proofs.pairslots.fix_pair.Tie as tie
-use Rattle.fit.proofs.pairslots.fix_pair.Reads as reads
-use Rattle.fit.proofs.pairslots.fix_pair.Lts as lts
 
 -- src/pairslots.rt:86:26
 enum-told : tie.Need-enum-told

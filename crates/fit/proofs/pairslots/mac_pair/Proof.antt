@@ -2,8 +2,6 @@ use Rattle.fit.proofs.Asking.{macs-before, macs-after, macs-nothing}
 use borrow.Author.Needs.{needs}
 use Rattle.fit.proofs.pairslots.mac_pair.Statement.{statement}
 use Rattle.fit.proofs.pairslots.mac_pair.Tie as tie
-use Rattle.fit.proofs.pairslots.mac_pair.Reads as reads
-use Rattle.fit.proofs.pairslots.mac_pair.Lts as lts
 
 -- src/pairslots.rt:59:26
 enum-told : tie.Need-enum-told

@@ -4,10 +4,6 @@ use lib.ListN.{length}
 use Rattle.fit.proofs.Pairing.{Written, none-written, few-letters, slot-place, pair-reached, slot-written, all-written}
 use Rattle.fit.proofs.pairslots.pair_slots.Statement.{statement}
 use Rattle.fit.proofs.pairslots.pair_slots.Tie as tie
-use Rattle.fit.proofs.pairslots.pair_slots.Reads as reads
-use Rattle.fit.proofs.pairslots.pair_slots.Lts as lts
-use Rattle.fit.proofs.pairslots.asked_by.Reads as asked-by-reads
-use Rattle.fit.proofs.pairslots.slot_at.Reads as slot-at-reads
 
 -- s slots are written, and the cursor is at the pair of letter s
 abbrev Inv-loop : tie.InvT-loop

@@ -2,13 +2,6 @@ use Rattle.fit.proofs.Pairing.{corner-small, side-small, fix-slot, mac-
 use borrow.Author.Needs.{needs}
 use Rattle.fit.proofs.pairslots.slot_at.Statement.{statement}
 use Rattle.fit.proofs.pairslots.slot_at.Tie as tie
-use Rattle.fit.proofs.pairslots.slot_at.Reads as reads
-use Rattle.fit.proofs.pairslots.slot_at.Lts as lts
-use Rattle.fit.proofs.axes.fix_corner.Reads as fix-corner-reads
-use Rattle.fit.proofs.axes.fix_side.Reads as fix-side-reads
-use Rattle.fit.proofs.axes.mac_side.Reads as mac-side-reads
-use Rattle.fit.proofs.pairslots.fix_pair.Reads as fix-pair-reads
-use Rattle.fit.proofs.pairslots.mac_pair.Reads as mac-pair-reads
 
 -- src/pairslots.rt:114:13
 mul-a : tie.Need-mul-a

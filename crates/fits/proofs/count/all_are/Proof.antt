@@ -3,8 +3,6 @@ use borrow.Author.Needs.{needs}
 use lib.ListN.{length}
 use Rattle.fits.proofs.count.all_are.Statement.{statement}
 use Rattle.fits.proofs.count.all_are.Tie as tie
-use Rattle.fits.proofs.count.all_are.Reads as reads
-use Rattle.fits.proofs.count.all_are.Lts as lts
 
 abbrev Inv-loop : tie.InvT-loop
 Inv-loop part amount s₀ s = s ≤ length part

@@ -4,10 +4,6 @@ use borrow.Author.Needs.{needs}
 use lib.ListN.{length}
 use Rattle.fits.proofs.count.carry_all.Statement.{statement}
 use Rattle.fits.proofs.count.carry_all.Tie as tie
-use Rattle.fits.proofs.count.carry_all.Reads as reads
-use Rattle.fits.proofs.count.carry_all.Lts as lts
-use Rattle.fits.proofs.count.carry.Reads as carry-reads
-use Rattle.fits.proofs.count.slot_at.Reads as slot-at-reads
 
 abbrev Inv-loop : tie.InvT-loop
 Inv-loop c letters part most vertical into₀ out₀ s₀ into out s = (s ≤ length part) × (length into ≡ length into₀) × (length out ≡ length out₀)

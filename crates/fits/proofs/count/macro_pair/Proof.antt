@@ -2,8 +2,6 @@ use Prim.Native.Nat.{_≤_, _-_}
 use borrow.Author.Needs.{needs}
 use Rattle.fits.proofs.count.macro_pair.Statement.{statement}
 use Rattle.fits.proofs.count.macro_pair.Tie as tie
-use Rattle.fits.proofs.count.macro_pair.Reads as reads
-use Rattle.fits.proofs.count.macro_pair.Lts as lts
 
 abbrev Inv-loop : tie.InvT-loop
 Inv-loop n r a₀ left₀ a left = a ≤ n

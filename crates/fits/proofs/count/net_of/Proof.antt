@@ -2,8 +2,6 @@ use Prim.Native.Nat.{_≤_, _-_}
 use borrow.Author.Needs.{needs}
 use Rattle.fits.proofs.count.net_of.Statement.{statement}
 use Rattle.fits.proofs.count.net_of.Tie as tie
-use Rattle.fits.proofs.count.net_of.Reads as reads
-use Rattle.fits.proofs.count.net_of.Lts as lts
 
 abbrev Inv-loop : tie.InvT-loop
 Inv-loop i nets left₀ j₀ left j = j ≤ 32

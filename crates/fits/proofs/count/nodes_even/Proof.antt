@@ -3,9 +3,6 @@ use borrow.Author.Needs.{needs}
 use lib.ListN.{length}
 use Rattle.fits.proofs.count.nodes_even.Statement.{statement}
 use Rattle.fits.proofs.count.nodes_even.Tie as tie
-use Rattle.fits.proofs.count.nodes_even.Reads as reads
-use Rattle.fits.proofs.count.nodes_even.Lts as lts
-use Rattle.fits.proofs.count.node_even.Reads as node-even-reads
 
 abbrev Inv-loop : tie.InvT-loop
 Inv-loop c into out chain v₀ v = v ≤ length into

@@ -2,12 +2,6 @@ use Rattle.fits.proofs.Products.{pairs-fit}
 use borrow.Author.Needs.{needs}
 use Rattle.fits.proofs.count.pair_slot.Statement.{statement}
 use Rattle.fits.proofs.count.pair_slot.Tie as tie
-use Rattle.fits.proofs.count.pair_slot.Reads as reads
-use Rattle.fits.proofs.count.pair_slot.Lts as lts
-use Rattle.fits.proofs.count.fix_slot.Reads as fix-slot-reads
-use Rattle.fits.proofs.count.macro_pair.Reads as macro-pair-reads
-use Rattle.fits.proofs.count.macros_slot.Reads as macros-slot-reads
-use Rattle.fits.proofs.count.no_bound.Reads as no-bound-reads
 
 no-bound-requires : tie.Need-no-bound-requires
 no-bound-requires c κs = search needs

@@ -3,11 +3,6 @@ use borrow.Author.Needs.{needs}
 use lib.ListN.{length}
 use Rattle.fits.proofs.count.part_sum.Statement.{statement}
 use Rattle.fits.proofs.count.part_sum.Tie as tie
-use Rattle.fits.proofs.count.part_sum.Reads as reads
-use Rattle.fits.proofs.count.part_sum.Lts as lts
-use Rattle.fits.proofs.count.product.Reads as product-reads
-use Rattle.fits.proofs.count.slot_at.Reads as slot-at-reads
-use Rattle.fits.proofs.count.sum.Reads as sum-reads
 
 abbrev Inv-loop : tie.InvT-loop
 Inv-loop c letters part vertical of-up total₀ s₀ total s = s ≤ length part

@@ -2,9 +2,6 @@ use Prim.Native.Nat.{_≤_, _-_}
 use borrow.Author.Needs.{needs}
 use Rattle.fits.proofs.count.pin_count.Statement.{statement}
 use Rattle.fits.proofs.count.pin_count.Tie as tie
-use Rattle.fits.proofs.count.pin_count.Reads as reads
-use Rattle.fits.proofs.count.pin_count.Lts as lts
-use Rattle.fits.proofs.count.more_pins.Reads as more-pins-reads
 
 abbrev Inv-loop : tie.InvT-loop
 Inv-loop nets t q₀ j₀ q j = (q ≤ 128) × (j ≤ 32)

@@ -2,8 +2,6 @@ use Rattle.fits.proofs.Products.{product-fits}
 use borrow.Author.Needs.{needs}
 use Rattle.fits.proofs.count.product.Statement.{statement}
 use Rattle.fits.proofs.count.product.Tie as tie
-use Rattle.fits.proofs.count.product.Reads as reads
-use Rattle.fits.proofs.count.product.Lts as lts
 
 mul-result : tie.Need-mul-result
 mul-result c = search (needs, product-fits)

@@ -2,10 +2,6 @@ use Prim.Native.Nat.{_≤_, _-_}
 use borrow.Author.Needs.{needs}
 use Rattle.fits.proofs.report.print_list.Statement.{statement}
 use Rattle.fits.proofs.report.print_list.Tie as tie
-use Rattle.fits.proofs.report.print_list.Reads as reads
-use Rattle.fits.proofs.report.print_list.Lts as lts
-use Rattle.fits.proofs.report.print_amount.Reads as print-amount-reads
-use Rattle.io.proofs.write_all.Reads as write-all-reads
 
 abbrev Inv-loop : tie.InvT-loop
 Inv-loop flow n i₀ t4 i = i ≤ n

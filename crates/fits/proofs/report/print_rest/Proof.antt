@@ -2,9 +2,6 @@ use Prim.Native.Nat.{_≤_, _-_}
 use borrow.Author.Needs.{needs}
 use Rattle.fits.proofs.report.print_rest.Statement.{statement}
 use Rattle.fits.proofs.report.print_rest.Tie as tie
-use Rattle.fits.proofs.report.print_rest.Reads as reads
-use Rattle.fits.proofs.report.print_rest.Lts as lts
-use Rattle.io.proofs.write_all.Reads as write-all-reads
 
 abbrev Inv-loop : tie.InvT-loop
 Inv-loop from spots i₀ t6 t7 i = 0 ≤ i

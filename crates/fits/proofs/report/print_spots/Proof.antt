@@ -2,10 +2,6 @@ use Prim.Native.Nat.{_≤_, _-_}
 use borrow.Author.Needs.{needs}
 use Rattle.fits.proofs.report.print_spots.Statement.{statement}
 use Rattle.fits.proofs.report.print_spots.Tie as tie
-use Rattle.fits.proofs.report.print_spots.Reads as reads
-use Rattle.fits.proofs.report.print_spots.Lts as lts
-use Rattle.fits.proofs.report.print_spot.Reads as print-spot-reads
-use Rattle.io.proofs.write_all.Reads as write-all-reads
 
 abbrev Inv-loop : tie.InvT-loop
 Inv-loop n spots i₀ t5 t6 i = i ≤ 8

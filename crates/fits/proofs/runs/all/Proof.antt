@@ -2,9 +2,6 @@ use Prim.Native.Nat.{_≤_, _-_}
 use borrow.Author.Needs.{needs}
 use Rattle.fits.proofs.runs.all.Statement.{statement}
 use Rattle.fits.proofs.runs.all.Tie as tie
-use Rattle.fits.proofs.runs.all.Reads as reads
-use Rattle.fits.proofs.runs.all.Lts as lts
-use Rattle.fits.proofs.runs.numbered.Reads as numbered-reads
 
 abbrev Inv-loop : tie.InvT-loop
 Inv-loop name c p count i₀ i = i ≤ count

@@ -3,10 +3,6 @@ use borrow.Author.Needs.{needs}
 use lib.ListN.{length}
 use Rattle.fits.proofs.runs.each.Statement.{statement}
 use Rattle.fits.proofs.runs.each.Tie as tie
-use Rattle.fits.proofs.runs.each.Reads as reads
-use Rattle.fits.proofs.runs.each.Lts as lts
-use Rattle.fits.proofs.runs.fitted.Reads as fitted-reads
-use Rattle.fits.proofs.runs.line_end.Reads as line-end-reads
 
 abbrev Inv-loop : tie.InvT-loop
 Inv-loop name c lines i₀ i = i ≤ length lines + 1

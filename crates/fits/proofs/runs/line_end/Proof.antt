@@ -3,8 +3,6 @@ use borrow.Author.Needs.{needs}
 use lib.ListN.{length}
 use Rattle.fits.proofs.runs.line_end.Statement.{statement}
 use Rattle.fits.proofs.runs.line_end.Tie as tie
-use Rattle.fits.proofs.runs.line_end.Reads as reads
-use Rattle.fits.proofs.runs.line_end.Lts as lts
 
 abbrev Inv-loop : tie.InvT-loop
 Inv-loop s i j₀ j = (i ≤ j) × (j ≤ length s)

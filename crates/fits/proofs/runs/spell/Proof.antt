@@ -4,9 +4,6 @@ use borrow.Author.Needs.{needs}
 use lib.ListN.{length}
 use Rattle.fits.proofs.runs.spell.Statement.{statement}
 use Rattle.fits.proofs.runs.spell.Tie as tie
-use Rattle.fits.proofs.runs.spell.Reads as reads
-use Rattle.fits.proofs.runs.spell.Lts as lts
-use Rattle.fits.proofs.runs.letter.Reads as letter-reads
 
 abbrev Inv-loop : tie.InvT-loop
 Inv-loop out₀ number rest₀ i₀ out rest i = (i ≤ length out₀) × (length out ≡ length out₀)

@@ -2,9 +2,6 @@ use Rattle.model.proofs.Tests.{over, up-to, fails, holds, first-fails, 
 use borrow.Author.Needs.{needs}
 use Rattle.model.proofs.Fix.new.Statement.{statement}
 use Rattle.model.proofs.Fix.new.Tie as tie
-use Rattle.model.proofs.Fix.new.Reads as reads
-use Rattle.model.proofs.Fix.new.Lts as lts
-use Rattle.model.proofs.within.Reads as within-reads
 
 -- src/lib.rt:106:13
 returns : tie.Need-returns

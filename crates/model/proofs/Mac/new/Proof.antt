@@ -2,9 +2,6 @@ use Rattle.model.proofs.Tests.{fails, holds, first-fails, second-fails,
 use borrow.Author.Needs.{needs}
 use Rattle.model.proofs.Mac.new.Statement.{statement}
 use Rattle.model.proofs.Mac.new.Tie as tie
-use Rattle.model.proofs.Mac.new.Reads as reads
-use Rattle.model.proofs.Mac.new.Lts as lts
-use Rattle.model.proofs.within.Reads as within-reads
 
 -- src/lib.rt:142:13
 within-requires : tie.Need-within-requires

@@ -2,9 +2,6 @@ use Rattle.model.proofs.Tests.{fails, holds, outside, inside}
 use borrow.Author.Needs.{needs}
 use Rattle.model.proofs.Net.new.Statement.{statement}
 use Rattle.model.proofs.Net.new.Tie as tie
-use Rattle.model.proofs.Net.new.Reads as reads
-use Rattle.model.proofs.Net.new.Lts as lts
-use Rattle.model.proofs.within.Reads as within-reads
 
 -- src/lib.rt:173:13
 within-requires : tie.Need-within-requires

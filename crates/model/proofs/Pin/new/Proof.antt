@@ -2,9 +2,6 @@ use Rattle.model.proofs.Pins.{macro-outside, x-outside, y-outside, pin-
 use borrow.Author.Needs.{needs}
 use Rattle.model.proofs.Pin.new.Statement.{statement}
 use Rattle.model.proofs.Pin.new.Tie as tie
-use Rattle.model.proofs.Pin.new.Reads as reads
-use Rattle.model.proofs.Pin.new.Lts as lts
-use Rattle.model.proofs.raised.Reads as raised-reads
 
 -- src/lib.rt:224:13
 returns : tie.Need-returns

@@ -2,9 +2,6 @@ use Rattle.search.proofs.Chosen.{other-better, best-better}
 use borrow.Author.Needs.{needs}
 use Rattle.search.proofs.best.better_record.Statement.{statement}
 use Rattle.search.proofs.best.better_record.Tie as tie
-use Rattle.search.proofs.best.better_record.Reads as reads
-use Rattle.search.proofs.best.better_record.Lts as lts
-use Rattle.search.proofs.best.replaces_best.Reads as replaces-best-reads
 
 -- src/best.rt:58:8
 replaces-best-requires : tie.Need-replaces-best-requires

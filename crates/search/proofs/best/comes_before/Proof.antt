@@ -3,8 +3,6 @@ use Prim.Native.Nat.{_≤_, _-_}
 use Rattle.search.proofs.Earlier.{FromCorner, none-earlier, by-x, by-y, same-corner}
 use Rattle.search.proofs.best.comes_before.Statement.{statement}
 use Rattle.search.proofs.best.comes_before.Tie as tie
-use Rattle.search.proofs.best.comes_before.Reads as reads
-use Rattle.search.proofs.best.comes_before.Lts as lts
 
 abbrev Inv-loop : tie.InvT-loop
 Inv-loop n a b i₀ i = (i ≤ n) × FromCorner n a b i

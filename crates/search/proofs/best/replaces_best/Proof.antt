@@ -2,9 +2,6 @@ use Rattle.search.proofs.Chosen.{keeps-best, takes-first, told-none, to
 use borrow.Author.Needs.{needs}
 use Rattle.search.proofs.best.replaces_best.Statement.{statement}
 use Rattle.search.proofs.best.replaces_best.Tie as tie
-use Rattle.search.proofs.best.replaces_best.Reads as reads
-use Rattle.search.proofs.best.replaces_best.Lts as lts
-use Rattle.search.proofs.best.comes_before.Reads as comes-before-reads
 
 -- src/best.rt:38:24
 enum-known-theirs : tie.Need-enum-known-theirs

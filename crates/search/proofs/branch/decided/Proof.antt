@@ -2,9 +2,6 @@ use Rattle.search.proofs.FourKids.{stored}
 use borrow.Author.Needs.{needs}
 use Rattle.search.proofs.branch.decided.Statement.{statement}
 use Rattle.search.proofs.branch.decided.Tie as tie
-use Rattle.search.proofs.branch.decided.Reads as reads
-use Rattle.search.proofs.branch.decided.Lts as lts
-use Rattle.search.proofs.branch.letter.Reads as letter-reads
 
 -- src/branch.rt:58:13
 letter-requires : tie.Need-letter-requires

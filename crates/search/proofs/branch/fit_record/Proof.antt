@@ -2,10 +2,6 @@ use Rattle.search.proofs.FitRecords.{prefix-long, fit-none, fit-refused
 use borrow.Author.Needs.{needs}
 use Rattle.search.proofs.branch.fit_record.Statement.{statement}
 use Rattle.search.proofs.branch.fit_record.Tie as tie
-use Rattle.search.proofs.branch.fit_record.Reads as reads
-use Rattle.search.proofs.branch.fit_record.Lts as lts
-use Rattle.fit.proofs.fit_letters.Reads as fit-letters-reads
-use Rattle.search.proofs.branch.no_record.Reads as no-record-reads
 
 -- src/branch.rt:69:33
 array-share-prefix-letters : tie.Need-array-share-prefix-letters

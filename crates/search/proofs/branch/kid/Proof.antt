@@ -2,8 +2,6 @@ use Rattle.search.proofs.FourKids.{last-kid}
 use borrow.Author.Needs.{needs}
 use Rattle.search.proofs.branch.kid.Statement.{statement}
 use Rattle.search.proofs.branch.kid.Tie as tie
-use Rattle.search.proofs.branch.kid.Reads as reads
-use Rattle.search.proofs.branch.kid.Lts as lts
 
 -- src/branch.rt:87:9
 returns : tie.Need-returns

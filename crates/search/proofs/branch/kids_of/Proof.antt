@@ -2,10 +2,6 @@ use Rattle.search.proofs.FourKids.{kid-lettered, kids-fit}
 use borrow.Author.Needs.{needs}
 use Rattle.search.proofs.branch.kids_of.Statement.{statement}
 use Rattle.search.proofs.branch.kids_of.Tie as tie
-use Rattle.search.proofs.branch.kids_of.Reads as reads
-use Rattle.search.proofs.branch.kids_of.Lts as lts
-use Rattle.search.proofs.branch.decided.Reads as decided-reads
-use Rattle.search.proofs.branch.fit_record.Reads as fit-record-reads
 
 -- src/branch.rt:75:26
 decided-requires : tie.Need-decided-requires

@@ -2,8 +2,6 @@ use Rattle.search.proofs.FourKids.{last-letter}
 use borrow.Author.Needs.{needs}
 use Rattle.search.proofs.branch.letter.Statement.{statement}
 use Rattle.search.proofs.branch.letter.Tie as tie
-use Rattle.search.proofs.branch.letter.Reads as reads
-use Rattle.search.proofs.branch.letter.Lts as lts
 
 -- src/branch.rt:41:9
 returns : tie.Need-returns

@@ -4,11 +4,6 @@ use Rattle.search.proofs.FourKids.{Sought, sought-start, sought-all, so
 use borrow.Author.Needs.{needs}
 use Rattle.search.proofs.branch.next_kid.Statement.{statement}
 use Rattle.search.proofs.branch.next_kid.Tie as tie
-use Rattle.search.proofs.branch.next_kid.Reads as reads
-use Rattle.search.proofs.branch.next_kid.Lts as lts
-use Rattle.search.proofs.best.replaces_best.Reads as replaces-best-reads
-use Rattle.search.proofs.branch.kid.Reads as kid-reads
-use Rattle.search.proofs.branch.no_record.Reads as no-record-reads
 
 abbrev Inv-loop : tie.InvT-loop
 Inv-loop kids best₀ at₀ i₀ best at i = (i ≤ 4) × Sought (kidList kids) best at i

@@ -2,9 +2,6 @@ use Rattle.search.proofs.FourKids.{without-first, without-second, witho
 use borrow.Author.Needs.{needs}
 use Rattle.search.proofs.branch.without.Statement.{statement}
 use Rattle.search.proofs.branch.without.Tie as tie
-use Rattle.search.proofs.branch.without.Reads as reads
-use Rattle.search.proofs.branch.without.Lts as lts
-use Rattle.search.proofs.branch.no_record.Reads as no-record-reads
 
 -- src/branch.rt:105:9
 no-record-requires : tie.Need-no-record-requires

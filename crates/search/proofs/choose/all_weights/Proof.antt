@@ -6,9 +6,6 @@ use lib.ListN.{length}
 use mathlib.Core.Path.{_≡_}
 use Rattle.search.proofs.choose.all_weights.Statement.{statement}
 use Rattle.search.proofs.choose.all_weights.Tie as tie
-use Rattle.search.proofs.choose.all_weights.Reads as reads
-use Rattle.search.proofs.choose.all_weights.Lts as lts
-use Rattle.search.proofs.choose.net_weights.Reads as net-weights-reads
 
 abbrev Inv-loop : tie.InvT-loop
 Inv-loop nets t pins weights₀ i₀ weights i = (i ≤ 8) × (length weights ≡ 8) × SmallWeights weights

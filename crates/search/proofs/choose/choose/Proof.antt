@@ -2,9 +2,6 @@ use borrow.Author.Needs.{needs}
 use Rattle.search.proofs.Choosing.{all-laid, chip-chosen}
 use Rattle.search.proofs.choose.choose.Statement.{statement}
 use Rattle.search.proofs.choose.choose.Tie as tie
-use Rattle.search.proofs.choose.choose.Reads as reads
-use Rattle.search.proofs.choose.choose.Lts as lts
-use Rattle.search.proofs.choose.choose_pair.Reads as choose-pair-reads
 
 -- src/choose.rt:186:5
 choose-pair-requires : tie.Need-choose-pair-requires

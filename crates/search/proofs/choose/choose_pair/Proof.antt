@@ -3,11 +3,6 @@ use Prim.Native.Nat.{_-_, _≤_}
 use Rattle.search.proofs.Choosing.{Seen, none-seen, pair-near, taken-seen, left-seen, all-chosen}
 use Rattle.search.proofs.choose.choose_pair.Statement.{statement}
 use Rattle.search.proofs.choose.choose_pair.Tie as tie
-use Rattle.search.proofs.choose.choose_pair.Reads as reads
-use Rattle.search.proofs.choose.choose_pair.Lts as lts
-use Rattle.pairs.proofs.first_pair.Reads as first-pair-reads
-use Rattle.pairs.proofs.next_pair.Reads as next-pair-reads
-use Rattle.search.proofs.choose.pair_score.Reads as pair-score-reads
 
 abbrev Inv-loop : tie.InvT-loop
 Inv-loop macs n fixes k p weights spots best₀ most₀ at₀ s₀ best most at s = (s ≤ p) × Seen macs n fixes k spots p at s best most

@@ -3,9 +3,6 @@ use Prim.Native.Nat.{_-_}
 use Rattle.search.proofs.Weighing.{Summed, none-summed, pins-near, pins-fit, weight-fits, more-summed, same-summed, all-summed}
 use Rattle.search.proofs.choose.net_weights.Statement.{statement}
 use Rattle.search.proofs.choose.net_weights.Tie as tie
-use Rattle.search.proofs.choose.net_weights.Reads as reads
-use Rattle.search.proofs.choose.net_weights.Lts as lts
-use Rattle.search.proofs.choose.on_net.Reads as on-net-reads
 
 abbrev Inv-loop : tie.InvT-loop
 Inv-loop t pins m nets total₀ q₀ j₀ total q j = Summed nets t total q j

@@ -2,8 +2,6 @@ use borrow.Author.Needs.{needs}
 use Prim.Native.Nat.{_-_, _≤_}
 use Rattle.search.proofs.choose.on_net.Statement.{statement}
 use Rattle.search.proofs.choose.on_net.Tie as tie
-use Rattle.search.proofs.choose.on_net.Reads as reads
-use Rattle.search.proofs.choose.on_net.Lts as lts
 
 abbrev Inv-loop : tie.InvT-loop
 Inv-loop q count m pins e₀ e = e ≤ count

@@ -2,8 +2,6 @@ use Rattle.search.proofs.Boxes.{apart-left, apart-right, apart-low, apa
 use borrow.Author.Needs.{needs}
 use Rattle.search.proofs.choose.overlap.Statement.{statement}
 use Rattle.search.proofs.choose.overlap.Tie as tie
-use Rattle.search.proofs.choose.overlap.Reads as reads
-use Rattle.search.proofs.choose.overlap.Lts as lts
 
 -- src/choose.rt:69:8
 add-if1 : tie.Need-add-if1

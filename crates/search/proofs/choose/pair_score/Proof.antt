@@ -2,12 +2,6 @@ use Rattle.search.proofs.Boxes.{first-small, second-small, pair-scored}
 use borrow.Author.Needs.{needs}
 use Rattle.search.proofs.choose.pair_score.Statement.{statement}
 use Rattle.search.proofs.choose.pair_score.Tie as tie
-use Rattle.search.proofs.choose.pair_score.Reads as reads
-use Rattle.search.proofs.choose.pair_score.Lts as lts
-use Rattle.search.proofs.choose.box_at.Reads as box-at-reads
-use Rattle.search.proofs.choose.pair_weight.Reads as pair-weight-reads
-use Rattle.search.proofs.choose.score.Reads as score-reads
-use Rattle.search.proofs.choose.second_box.Reads as second-box-reads
 
 -- src/choose.rt:144:9
 box-at-requires : tie.Need-box-at-requires

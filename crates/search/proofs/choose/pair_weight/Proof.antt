@@ -2,9 +2,6 @@ use Rattle.search.proofs.Boxes.{weight-small, lesser-small}
 use borrow.Author.Needs.{needs}
 use Rattle.search.proofs.choose.pair_weight.Statement.{statement}
 use Rattle.search.proofs.choose.pair_weight.Tie as tie
-use Rattle.search.proofs.choose.pair_weight.Reads as reads
-use Rattle.search.proofs.choose.pair_weight.Lts as lts
-use Rattle.search.proofs.choose.lesser.Reads as lesser-reads
 
 -- src/choose.rt:123:13
 mul-w : tie.Need-mul-w

@@ -2,10 +2,6 @@ use Rattle.search.proofs.Boxes.{no-score, some-score, meets, product-fi
 use borrow.Author.Needs.{needs}
 use Rattle.search.proofs.choose.score.Statement.{statement}
 use Rattle.search.proofs.choose.score.Tie as tie
-use Rattle.search.proofs.choose.score.Reads as reads
-use Rattle.search.proofs.choose.score.Lts as lts
-use Rattle.search.proofs.choose.overlap.Reads as overlap-reads
-use Rattle.search.proofs.choose.push.Reads as push-reads
 
 -- src/choose.rt:112:9
 overlap-requires : tie.Need-overlap-requires

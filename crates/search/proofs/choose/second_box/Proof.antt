@@ -2,9 +2,6 @@ use Rattle.search.proofs.Boxes.{second-fix, second-mac}
 use borrow.Author.Needs.{needs}
 use Rattle.search.proofs.choose.second_box.Statement.{statement}
 use Rattle.search.proofs.choose.second_box.Tie as tie
-use Rattle.search.proofs.choose.second_box.Reads as reads
-use Rattle.search.proofs.choose.second_box.Lts as lts
-use Rattle.search.proofs.choose.box_at.Reads as box-at-reads
 
 -- src/choose.rt:60:16
 mul-result : tie.Need-mul-result

@@ -2,10 +2,6 @@ use Rattle.search.proofs.Boxes.{least-small, least-fits}
 use borrow.Author.Needs.{needs}
 use Rattle.search.proofs.choose.two_least.Statement.{statement}
 use Rattle.search.proofs.choose.two_least.Tie as tie
-use Rattle.search.proofs.choose.two_least.Reads as reads
-use Rattle.search.proofs.choose.two_least.Lts as lts
-use Rattle.search.proofs.choose.greater.Reads as greater-reads
-use Rattle.search.proofs.choose.lesser.Reads as lesser-reads
 
 -- src/choose.rt:89:9
 lesser-requires : tie.Need-lesser-requires

@@ -2,13 +2,6 @@ use Rattle.search.proofs.Placing.{dots-lettered, start-counted, whole-r
 use borrow.Author.Needs.{needs}
 use Rattle.search.proofs.service.chip_record.Statement.{statement}
 use Rattle.search.proofs.service.chip_record.Tie as tie
-use Rattle.search.proofs.service.chip_record.Reads as reads
-use Rattle.search.proofs.service.chip_record.Lts as lts
-use Rattle.search.proofs.branch.fit_record.Reads as fit-record-reads
-use Rattle.search.proofs.branch.no_record.Reads as no-record-reads
-use Rattle.search.proofs.branch.search.Reads as search-reads
-use Rattle.search.proofs.choose.all_weights.Reads as all-weights-reads
-use Rattle.search.proofs.service.letter_count.Reads as letter-count-reads
 
 -- src/service.rt:36:9
 letter-count-requires : tie.Need-letter-count-requires

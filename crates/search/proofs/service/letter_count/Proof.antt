@@ -2,8 +2,6 @@ use Rattle.search.proofs.Placing.{no-letters, pairs-fit, fixed-fit, let
 use borrow.Author.Needs.{needs}
 use Rattle.search.proofs.service.letter_count.Statement.{statement}
 use Rattle.search.proofs.service.letter_count.Tie as tie
-use Rattle.search.proofs.service.letter_count.Reads as reads
-use Rattle.search.proofs.service.letter_count.Lts as lts
 
 -- src/service.rt:25:9
 returns : tie.Need-returns

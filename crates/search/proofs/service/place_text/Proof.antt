@@ -1,4 +1,6 @@
-use Rattle.search.proofs.Placing.{Whole, whole, read-passed, place-refused, record-placed}
+use Rattle.chip.proofs.Passing.{Whole, whole}
+use Rattle.chipreader.proofs.Passing.{read-passed}
+use Rattle.search.proofs.Placing.{place-refused, record-placed}
 use borrow.Author.Needs.{needs}
 use Rattle.search.proofs.service.place_text.Statement.{statement}
 use Rattle.search.proofs.service.place_text.Tie as tie
@@ -28,7 +30,7 @@ enum-told c = search needs
 chip-record-requires : tie.Need-chip-record-requires
 chip-record-requires c κs =
     let h = c .before .before .before in
-    read-passed _ (shape h) _ (h .read-chip .result .answer) (h .read-chip .ensures .0) (c .enum-told .given .1)
+    read-passed _ _ (h .read-chip .result .answer) (h .read-chip .ensures .0) (shape h) (c .enum-told .given .1)
 
 -- src/service.rt:62:33
 write-record-requires : tie.Need-write-record-requires
@@ -50,7 +52,7 @@ returns-2 c =
     let m = c .before .before .before .before in
     let h = m .before .before .before .before in
     let told = m .before .enum-told .given .1 in
-    record-placed (h .read-chip .result .chip) (read-passed _ (shape h) _ (h .read-chip .result .answer) (h .read-chip .ensures .0) told) _ (m .chip-record .ensures) _ _ (h .read-chip .result .answer) (h .read-chip .ensures .0) told _ (c .before .before .write-record .ensures)
+    record-placed (h .read-chip .result .chip) (read-passed _ _ (h .read-chip .result .answer) (h .read-chip .ensures .0) (shape h) told) _ (m .chip-record .ensures) _ _ (h .read-chip .result .answer) (h .read-chip .ensures .0) told _ (c .before .before .write-record .ensures)
 
 pub place-text-spec : {M : Type 1} → statement M
 place-text-spec =

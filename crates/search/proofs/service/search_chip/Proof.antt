@@ -1,4 +1,5 @@
-use Rattle.search.proofs.Placing.{Whole, whole, test-passed, search-refused, record-searched}
+use Rattle.chip.proofs.Passing.{Whole, whole, test-passed}
+use Rattle.search.proofs.Placing.{search-refused, record-searched}
 use borrow.Author.Needs.{needs}
 use Rattle.search.proofs.service.search_chip.Statement.{statement}
 use Rattle.search.proofs.service.search_chip.Tie as tie

@@ -2,9 +2,6 @@ use Prim.Native.Nat.{_≤_, _-_}
 use borrow.Author.Needs.{needs}
 use Rattle.searches.proofs.blocks.compare.Statement.{statement}
 use Rattle.searches.proofs.blocks.compare.Tie as tie
-use Rattle.searches.proofs.blocks.compare.Reads as reads
-use Rattle.searches.proofs.blocks.compare.Lts as lts
-use Rattle.searches.proofs.blocks.with_case.Reads as with-case-reads
 
 abbrev Inv-loop : tie.InvT-loop
 Inv-loop b from to t₀ case₀ t case = 0 ≤ case

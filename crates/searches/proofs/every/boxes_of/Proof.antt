@@ -2,9 +2,6 @@ use borrow.Author.Needs.{needs}
 use Prim.Native.Nat.{_≤_, _-_}
 use Rattle.searches.proofs.every.boxes_of.Statement.{statement}
 use Rattle.searches.proofs.every.boxes_of.Tie as tie
-use Rattle.searches.proofs.every.boxes_of.Reads as reads
-use Rattle.searches.proofs.every.boxes_of.Lts as lts
-use Rattle.searches.proofs.every.box_of.Reads as box-of-reads
 
 abbrev Inv-loop : tie.InvT-loop
 Inv-loop macs spots boxes₀ i₀ boxes i = i ≤ 8

@@ -2,9 +2,6 @@ use borrow.Author.Needs.{needs}
 use Prim.Native.Nat.{_≤_, _-_}
 use Rattle.searches.proofs.every.clear.Statement.{statement}
 use Rattle.searches.proofs.every.clear.Tie as tie
-use Rattle.searches.proofs.every.clear.Reads as reads
-use Rattle.searches.proofs.every.clear.Lts as lts
-use Rattle.searches.proofs.every.apart.Reads as apart-reads
 
 abbrev Inv-loop : tie.InvT-loop
 Inv-loop b count boxes i₀ i = i ≤ 8

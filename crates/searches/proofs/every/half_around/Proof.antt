@@ -2,12 +2,6 @@ use borrow.Author.Needs.{needs}
 use Prim.Native.Nat.{_≤_, _-_}
 use Rattle.searches.proofs.every.half_around.Statement.{statement}
 use Rattle.searches.proofs.every.half_around.Tie as tie
-use Rattle.searches.proofs.every.half_around.Reads as reads
-use Rattle.searches.proofs.every.half_around.Lts as lts
-use Rattle.searches.proofs.every.above.Reads as above-reads
-use Rattle.searches.proofs.every.place_of.Reads as place-of-reads
-use Rattle.searches.proofs.every.sum.Reads as sum-reads
-use Rattle.searches.proofs.every.wider.Reads as wider-reads
 
 abbrev Inv-loop : tie.InvT-loop
 Inv-loop spots from count pins e₀ i₀ e i = i ≤ 128

@@ -2,9 +2,6 @@ use Prim.Native.Nat.{_≤_, _-_}
 use borrow.Author.Needs.{needs}
 use Rattle.searches.proofs.every.legal_boxes.Statement.{statement}
 use Rattle.searches.proofs.every.legal_boxes.Tie as tie
-use Rattle.searches.proofs.every.legal_boxes.Reads as reads
-use Rattle.searches.proofs.every.legal_boxes.Lts as lts
-use Rattle.searches.proofs.every.legal_box.Reads as legal-box-reads
 
 abbrev Inv-loop : tie.InvT-loop
 Inv-loop die fixes k boxes n i₀ i = i ≤ 8

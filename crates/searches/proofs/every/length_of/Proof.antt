@@ -2,12 +2,6 @@ use Prim.Native.Nat.{_≤_, _-_}
 use borrow.Author.Needs.{needs}
 use Rattle.searches.proofs.every.length_of.Statement.{statement}
 use Rattle.searches.proofs.every.length_of.Tie as tie
-use Rattle.searches.proofs.every.length_of.Reads as reads
-use Rattle.searches.proofs.every.length_of.Lts as lts
-use Rattle.searches.proofs.every.after.Reads as after-reads
-use Rattle.searches.proofs.every.half_around.Reads as half-around-reads
-use Rattle.searches.proofs.every.product.Reads as product-reads
-use Rattle.searches.proofs.every.sum.Reads as sum-reads
 
 abbrev Inv-loop : tie.InvT-loop
 Inv-loop spots nets pins t total₀ from₀ j₀ total from j = j ≤ 32

@@ -2,8 +2,6 @@ use borrow.Author.Needs.{needs}
 use Prim.Native.Nat.{_≤_}
 use Rattle.searches.proofs.every.next.Statement.{statement}
 use Rattle.searches.proofs.every.next.Tie as tie
-use Rattle.searches.proofs.every.next.Reads as reads
-use Rattle.searches.proofs.every.next.Lts as lts
 
 abbrev Inv-loop : tie.InvT-loop
 Inv-loop n die spots₀ i₀ spots i = i ≤ 8

@@ -2,8 +2,6 @@ use Rattle.searches.proofs.Products.{product-fits}
 use borrow.Author.Needs.{needs}
 use Rattle.searches.proofs.every.product.Statement.{statement}
 use Rattle.searches.proofs.every.product.Tie as tie
-use Rattle.searches.proofs.every.product.Reads as reads
-use Rattle.searches.proofs.every.product.Lts as lts
 
 mul-result : tie.Need-mul-result
 mul-result c = search (needs, product-fits)

@@ -2,11 +2,6 @@ use Prim.Native.Nat.{_≤_, _-_}
 use borrow.Author.Needs.{needs}
 use Rattle.searches.proofs.every.try_every.Statement.{statement}
 use Rattle.searches.proofs.every.try_every.Tie as tie
-use Rattle.searches.proofs.every.try_every.Reads as reads
-use Rattle.searches.proofs.every.try_every.Lts as lts
-use Rattle.searches.proofs.every.next.Reads as next-reads
-use Rattle.searches.proofs.every.nothing.Reads as nothing-reads
-use Rattle.searches.proofs.every.tried.Reads as tried-reads
 
 abbrev Inv-loop : tie.InvT-loop
 Inv-loop c die found₀ spots₀ i₀ found spots i = i ≤ 1000000

@@ -3,9 +3,6 @@ use lib.Seq.{length-take-le}
 use borrow.Author.Needs.{needs}
 use Rattle.searches.proofs.named.print.Statement.{statement}
 use Rattle.searches.proofs.named.print.Tie as tie
-use Rattle.searches.proofs.named.print.Reads as reads
-use Rattle.searches.proofs.named.print.Lts as lts
-use Rattle.io.proofs.write_all.Reads as write-all-reads
 
 slice-aggregate-write-all : tie.Need-slice-aggregate-write-all
 slice-aggregate-write-all c = sym (length-take-le _ _ (c .before .if1 .taken))

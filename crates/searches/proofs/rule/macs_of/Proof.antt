@@ -2,9 +2,6 @@ use borrow.Author.Needs.{needs}
 use Prim.Native.Nat.{_≤_, _-_}
 use Rattle.searches.proofs.rule.macs_of.Statement.{statement}
 use Rattle.searches.proofs.rule.macs_of.Tie as tie
-use Rattle.searches.proofs.rule.macs_of.Reads as reads
-use Rattle.searches.proofs.rule.macs_of.Lts as lts
-use Rattle.searches.proofs.rule.small_side.Reads as small-side-reads
 
 abbrev Inv-loop : tie.InvT-loop
 Inv-loop case most macs₀ i₀ macs i = i ≤ 8

@@ -2,9 +2,6 @@ use Prim.Native.Nat.{_≤_, _-_}
 use borrow.Author.Needs.{needs}
 use Rattle.searches.proofs.rule.nets_of.Statement.{statement}
 use Rattle.searches.proofs.rule.nets_of.Tie as tie
-use Rattle.searches.proofs.rule.nets_of.Reads as reads
-use Rattle.searches.proofs.rule.nets_of.Lts as lts
-use Rattle.searches.proofs.rule.side.Reads as side-reads
 
 abbrev Inv-loop : tie.InvT-loop
 Inv-loop case nets₀ j₀ nets j = j ≤ 4

@@ -2,9 +2,6 @@ use borrow.Author.Needs.{needs}
 use Prim.Native.Nat.{_≤_, _-_}
 use Rattle.searches.proofs.rule.pins_of.Statement.{statement}
 use Rattle.searches.proofs.rule.pins_of.Tie as tie
-use Rattle.searches.proofs.rule.pins_of.Reads as reads
-use Rattle.searches.proofs.rule.pins_of.Lts as lts
-use Rattle.searches.proofs.rule.pin_of.Reads as pin-of-reads
 
 abbrev Inv-loop : tie.InvT-loop
 Inv-loop case n pins₀ i₀ pins i = i ≤ 16

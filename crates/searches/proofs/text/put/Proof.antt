@@ -4,9 +4,6 @@ use mathlib.Core.Path.{_≡_}
 use Prim.Native.Nat.{_≤_, _-_}
 use Rattle.searches.proofs.text.put.Statement.{statement}
 use Rattle.searches.proofs.text.put.Tie as tie
-use Rattle.searches.proofs.text.put.Reads as reads
-use Rattle.searches.proofs.text.put.Lts as lts
-use Rattle.searches.proofs.text.put_byte.Reads as put-byte-reads
 
 abbrev Inv-loop : tie.InvT-loop
 Inv-loop out₀ at text a₀ i₀ out a i = (i ≤ length text) × (length out ≡ length out₀)

@@ -4,9 +4,6 @@ use Prim.Native.Nat.{_≤_, _-_}
 use borrow.Author.Needs.{needs}
 use Rattle.searches.proofs.text.put_spots.Statement.{statement}
 use Rattle.searches.proofs.text.put_spots.Tie as tie
-use Rattle.searches.proofs.text.put_spots.Reads as reads
-use Rattle.searches.proofs.text.put_spots.Lts as lts
-use Rattle.searches.proofs.text.put_spot.Reads as put-spot-reads
 
 abbrev Inv-loop : tie.InvT-loop
 Inv-loop out₀ at n spots a₀ i₀ out a i = (i ≤ 8) × (length out ≡ length out₀)

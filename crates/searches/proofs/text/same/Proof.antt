@@ -3,8 +3,6 @@ use lib.ListN.{length}
 use Prim.Native.Nat.{_≤_, _-_}
 use Rattle.searches.proofs.text.same.Statement.{statement}
 use Rattle.searches.proofs.text.same.Tie as tie
-use Rattle.searches.proofs.text.same.Reads as reads
-use Rattle.searches.proofs.text.same.Lts as lts
 
 abbrev Inv-loop : tie.InvT-loop
 Inv-loop a b i₀ i = i ≤ length a

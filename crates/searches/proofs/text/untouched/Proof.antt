@@ -3,8 +3,6 @@ use lib.ListN.{length}
 use Prim.Native.Nat.{_≤_, _-_}
 use Rattle.searches.proofs.text.untouched.Statement.{statement}
 use Rattle.searches.proofs.text.untouched.Tie as tie
-use Rattle.searches.proofs.text.untouched.Reads as reads
-use Rattle.searches.proofs.text.untouched.Lts as lts
 
 abbrev Inv-loop : tie.InvT-loop
 Inv-loop out from i₀ i = 0 ≤ i

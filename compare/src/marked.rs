@@ -1,0 +1,146 @@
+//! Document 01's own examples, with the answers typed from it: the marked cases and the refusal
+//! table. Both the library and the comparison's own functions are held to them.
+
+use crate::chips::Spot;
+use crate::fits::{self, Call};
+use crate::fitting::fit;
+use crate::library::{Answer, YES};
+use crate::measures;
+use crate::measuring;
+use crate::placing;
+use crate::reading::read_chip;
+use crate::records::{record_text, Placed};
+use crate::report::{shown, Difference, Tally, OWN};
+use crate::texts;
+use crate::trying::{by_letters, by_positions};
+
+const EXAMPLE: &str = "die,w,5,h,3\nfix,x,2,y,0,w,1,h,2\nmac,w,2,h,2\nmac,w,2,h,1\nnet,w,3\n\
+                       pin,m,1,x,0,y,0\npin,m,2,x,0,y,0\nend\n";
+
+/// Cases 1, 7 to 11, and the macro that a far pad draws to x 4.
+const RECORDS: [(&str, &str); 7] = [
+    (EXAMPLE, "least,wl,3\nat,m,1,x,0,y,1\nat,m,2,x,0,y,0\ndone\n"),
+    ("die,w,3,h,1\nmac,w,2,h,1\nmac,w,2,h,1\nend\n", "none\ndone\n"),
+    (
+        "die,w,4,h,1\nmac,w,2,h,1\nmac,w,2,h,1\nend\n",
+        "least,wl,0\nat,m,1,x,0,y,0\nat,m,2,x,2,y,0\ndone\n",
+    ),
+    ("die,w,4,h,1\nnet,w,2\npin,m,0,x,-2,y,0\npin,m,0,x,3,y,1\nend\n", "least,wl,12\ndone\n"),
+    ("die,w,2,h,1\nfix,x,0,y,0,w,1,h,1\nmac,w,1,h,1\nend\n", "least,wl,0\nat,m,1,x,1,y,0\ndone\n"),
+    ("die,w,2,h,1\nfix,x,0,y,0,w,1,h,1\nmac,w,2,h,1\nend\n", "none\ndone\n"),
+    (
+        "die,w,5,h,1\nmac,w,1,h,1\nnet,w,1\npin,m,1,x,0,y,0\npin,m,0,x,4,y,0\nend\n",
+        "least,wl,0\nat,m,1,x,4,y,0\ndone\n",
+    ),
+];
+
+/// Length and corners of a fit.
+type Fit = Option<(i64, [Spot; 2])>;
+
+/// Cases 2 to 6, on the example.
+const FITS: [(&str, Fit); 5] = [
+    ("ALL", Some((3, [[0, 1], [0, 0]]))),
+    ("BLL", Some((6, [[0, 0], [0, 2]]))),
+    ("LLR", Some((9, [[0, 0], [3, 0]]))),
+    ("LLL", None),
+    ("...", Some((0, [[0, 0], [0, 0]]))),
+];
+
+/// Rows 2 to 10 of the refusal table: text, number, line.
+const REFUSALS: [(&str, u64, u64); 9] = [
+    ("die,w,5\n", 2, 1),
+    ("die,w,05,h,3\n", 3, 1),
+    ("die,w,0,h,3\n", 4, 1),
+    ("", 5, 1),
+    (
+        "die,w,5,h,3\nmac,w,1,h,1\nmac,w,1,h,1\nmac,w,1,h,1\nmac,w,1,h,1\nmac,w,1,h,1\n\
+         mac,w,1,h,1\nmac,w,1,h,1\nmac,w,1,h,1\nmac,w,1,h,1\nend\n",
+        6,
+        10,
+    ),
+    ("die,w,5,h,3\nnet,w,1\nend\n", 7, 3),
+    ("die,w,5,h,3\nmac,w,1,h,1\nmac,w,1,h,1\nnet,w,1\npin,m,3,x,0,y,0\nend\n", 8, 5),
+    ("die,w,5,h,3\nfix,x,4,y,0,w,2,h,1\nend\n", 9, 2),
+    ("die,w,5,h,3\nfix,x,2,y,0,w,1,h,2\nfix,x,2,y,0,w,1,h,2\nend\n", 10, 3),
+];
+
+pub fn cases() -> Result<Tally, Difference> {
+    let mut tally = Tally::new("examples of document 01", "yes", "no");
+    for (text, record) in RECORDS {
+        compare_record(text, record, &mut tally)?;
+    }
+    for (letters, answer) in FITS {
+        compare_fit(letters, answer, &mut tally)?;
+    }
+    let long = "a".repeat(16_385);
+    compare_refusal(&long, 1, 0, &mut tally)?;
+    for (text, number, line) in REFUSALS {
+        compare_refusal(text, number, line, &mut tally)?;
+    }
+    compare_late_refusals(&mut tally)?;
+    Ok(tally)
+}
+
+/// Holds one of the comparison's own functions to the document.
+fn hold(input: &str, own: String, document: String) -> Result<(), Difference> {
+    if own == document {
+        return Ok(());
+    }
+    Err(Difference {
+        service: OWN,
+        input: shown(input.as_bytes()),
+        library: own,
+        expected: document,
+    })
+}
+
+fn compare_record(text: &str, record: &str, tally: &mut Tally) -> Result<(), Difference> {
+    if let Ok(chip) = read_chip(text.as_bytes()) {
+        for best in [by_positions(&chip).first, by_letters(&chip)] {
+            hold(text, shown(&record_text(best.as_ref())), shown(record.as_bytes()))?;
+        }
+    }
+    let answer = Answer::new(YES, record.len() as u64);
+    placing::compare(text.as_bytes(), 256, record.as_bytes(), answer, tally)?;
+    texts::compare_record(record.as_bytes(), tally)
+}
+
+fn compare_fit(letters: &str, answer: Fit, tally: &mut Tally) -> Result<(), Difference> {
+    if let Ok(chip) = read_chip(EXAMPLE.as_bytes()) {
+        let own = fit(&chip, letters.as_bytes());
+        let document = answer.map(|(length, spots)| Placed { length, spots: spots.to_vec() });
+        hold(letters, format!("{own:?}"), format!("{document:?}"))?;
+    }
+    fits::compare(&call(letters), tally).map(|_| ())
+}
+
+fn compare_refusal(
+    text: &str,
+    number: u64,
+    line: u64,
+    tally: &mut Tally,
+) -> Result<(), Difference> {
+    let own = read_chip(text.as_bytes()).map_or_else(Answer::refused, |_| Answer::new(YES, 0));
+    hold(text, own.to_string(), Answer::new(number, line).to_string())?;
+    texts::compare_chip(text.as_bytes(), tally)
+}
+
+/// Rows 11 to 15, on the example chip.
+fn compare_late_refusals(tally: &mut Tally) -> Result<(), Difference> {
+    for (letters, number) in [("AL", 11), ("AxL", 12)] {
+        let own = fits::accepted(&call(letters)).map_or_else(|refusal| refusal.number, |_| YES);
+        hold(letters, own.to_string(), number.to_string())?;
+        fits::compare(&call(letters), tally)?;
+    }
+    for (positions, number) in [(&[0, 0][..], 13), (&[0, 0, 1_025, 0], 14)] {
+        let own = measuring::expected(EXAMPLE.as_bytes(), positions).number;
+        hold(EXAMPLE, own.to_string(), number.to_string())?;
+        measures::compare(EXAMPLE.as_bytes(), positions, tally)?;
+    }
+    placing::compare(EXAMPLE.as_bytes(), 10, &[], Answer::new(15, 0), tally)
+}
+
+fn call(letters: &str) -> Call {
+    let (text, letters) = (EXAMPLE.as_bytes().to_vec(), letters.as_bytes().to_vec());
+    Call { text, letters, slots: 30, positions: 4 }
+}

@@ -1,0 +1,141 @@
+//! Chip text to record text: compared byte for byte with the slow ways, for buffers of any length.
+
+use crate::chips::Chip;
+use crate::damage;
+use crate::generating::{self, Bounds, FEW, SMALL, THIN};
+use crate::library::{self, blank_bytes, Answer, YES};
+use crate::random::Random;
+use crate::reading::read_chip;
+use crate::records::{record_text, Placed};
+use crate::report::{shown, Difference, Tally, OWN};
+use crate::trying::{by_letters, by_positions, placements, Least};
+
+/// Up to so many placements of a small chip are tried.
+const TRIED: i64 = 60_000;
+/// Up to so many letters are decided in all ways.
+const DECIDED: usize = 12;
+
+/// Small chips by trying every position.
+pub fn small(random: &mut Random, count: usize) -> Result<Tally, Difference> {
+    let mut tally = Tally::new("records of small chips", "written", "");
+    for _ in 0..count {
+        let bounds = random.pick(&[SMALL, THIN]);
+        let chip = chosen(random, &bounds, |chip| placements(chip, TRIED) < TRIED);
+        let least = by_positions(&chip);
+        note(&chip, &least, &mut tally);
+        check_own_ways(&chip, &least, &mut tally)?;
+        compare_chip(random, &chip, least.first, &mut tally)?;
+    }
+    Ok(tally)
+}
+
+fn note(chip: &Chip, least: &Least, tally: &mut Tally) {
+    match least.equal {
+        0 => tally.see("none"),
+        1 => tally.see("one least placement"),
+        _ => tally.see("ties"),
+    }
+    match chip.macros.len() {
+        0 => tally.see("no macros"),
+        1 | 2 => tally.see("1 or 2 macros"),
+        _ => tally.see("3 or 4 macros"),
+    }
+}
+
+/// Compares the two slow ways with each other, where the letters are few.
+fn check_own_ways(chip: &Chip, least: &Least, tally: &mut Tally) -> Result<(), Difference> {
+    if chip.pairs().len() > DECIDED {
+        return Ok(());
+    }
+    let best = by_letters(chip);
+    if best != least.first {
+        return Err(Difference {
+            service: OWN,
+            input: shown(&chip.text()),
+            library: format!("by letters {best:?}"),
+            expected: format!("by positions {:?}", least.first),
+        });
+    }
+    tally.see("also by every letter string");
+    Ok(())
+}
+
+/// Chips on large dies by trying every letter string.
+pub fn large(random: &mut Random, count: usize) -> Result<Tally, Difference> {
+    let mut tally = Tally::new("records of large dies", "written", "");
+    for _ in 0..count {
+        let chip = chosen(random, &FEW, |chip| chip.pairs().len() <= DECIDED);
+        let best = by_letters(&chip);
+        tally.see(if best.is_some() { "least" } else { "none" });
+        if chip.macros.len() > 3 {
+            tally.see("4 or 5 macros");
+        }
+        compare_chip(random, &chip, best, &mut tally)?;
+    }
+    Ok(tally)
+}
+
+/// Texts with faults: the refusal of the chip text, and nothing written.
+pub fn refused(random: &mut Random, count: usize) -> Result<Tally, Difference> {
+    let mut tally = Tally::new("refused chips", "", "");
+    for _ in 0..count {
+        let (text, refusal) = loop {
+            let text = damage::chip_text(random);
+            if let Err(refusal) = read_chip(&text) {
+                break (text, refusal);
+            }
+        };
+        let length = random.pick(&[0, 5, 256, 5_000]);
+        compare(&text, length, &[], Answer::refused(refusal), &mut tally)?;
+    }
+    Ok(tally)
+}
+
+fn chosen(random: &mut Random, bounds: &Bounds, wanted: impl Fn(&Chip) -> bool) -> Chip {
+    loop {
+        let chip = generating::chip(random, bounds);
+        if wanted(&chip) {
+            return chip;
+        }
+    }
+}
+
+/// Places a chip into a buffer that is too short, then into one that is exact or longer.
+fn compare_chip(
+    random: &mut Random,
+    chip: &Chip,
+    best: Option<Placed>,
+    tally: &mut Tally,
+) -> Result<(), Difference> {
+    let record = record_text(best.as_ref());
+    let below = random.below(record.len());
+    let short = random.pick(&[0, below, record.len() - 1]);
+    compare(&chip.text(), short, &[], Answer::new(15, 0), tally)?;
+    let enough = record.len() + random.pick(&[0, 1, 5, 300]);
+    let written = Answer::new(YES, record.len() as u64);
+    compare(&chip.text(), enough, &record, written, tally)
+}
+
+/// The buffer must begin with `record` and hold what it held from there on.
+pub fn compare(
+    text: &[u8],
+    length: usize,
+    record: &[u8],
+    expected: Answer,
+    tally: &mut Tally,
+) -> Result<(), Difference> {
+    let mut wanted = blank_bytes(length);
+    let mut out = wanted.clone();
+    wanted[..record.len()].copy_from_slice(record);
+    let found = library::place(text, &mut out);
+    if found != expected || out != wanted {
+        return Err(Difference {
+            service: "records",
+            input: format!("{}, buffer of {length} bytes", shown(text)),
+            library: format!("{found}, buffer {}", shown(&out)),
+            expected: format!("{expected}, buffer {}", shown(&wanted)),
+        });
+    }
+    tally.answer(found.number);
+    Ok(())
+}

@@ -1,0 +1,76 @@
+// The C interface of the placer, as a static library: bytes and numbers in, a number and a value out. embed/jizdovel.h declares the functions for C.
+mod codes;
+mod fitting;
+mod measuring;
+
+use crate::codes::answer_code;
+use crate::codes::chip_code;
+use crate::codes::record_code;
+use crate::fitting::fit_text;
+use crate::measuring::measure_text;
+ghost use mathlib.Core.Path.{_≡_};
+ghost use lib.ListN.{length};
+ghost use Rattle.chip.specs.Text.{readChip};
+ghost use Rattle.record.specs.Text.{readRecord};
+ghost use Rattle.search.specs.Place.{placeText};
+ghost use Rattle.jizdovel.specs.Code.{code, ofReading, ofAnswer, ofMeasure, ofFit};
+ghost use Rattle.jizdovel.specs.Services.{measureText, fitText, SlotsFilled, placesAfter};
+
+// Chip text to record text.
+#[no_mangle]
+pub extern "C" fn jizdovel_place(text: &[u8], out: &mut [u8], value: &mut u64) -> u64
+    ensures { λ r. ⌜ record { number = r; value = now (value .exit) } ≡ code (ofAnswer (placeText (now (text .entry)) (now (out .entry)) .answer)) ⌝ }
+    ensures { λ r. ⌜ now (out .exit) ≡ placeText (now (text .entry)) (now (out .entry)) .buffer ⌝ }
+{
+    let r = answer_code(search::service::place_text(text, out));
+    *value = r.value;
+    r.number
+}
+
+// A chip text, checked.
+#[no_mangle]
+pub extern "C" fn jizdovel_check_chip(text: &[u8], value: &mut u64) -> u64
+    ensures { λ r. ⌜ record { number = r; value = now (value .exit) } ≡ code (ofReading (readChip (now (text .entry)))) ⌝ }
+{
+    let r = chip_code(chipreader::read_chip(text));
+    *value = r.value;
+    r.number
+}
+
+// A record text, checked by itself.
+#[no_mangle]
+pub extern "C" fn jizdovel_check_record(text: &[u8], value: &mut u64) -> u64
+    ensures { λ r. ⌜ record { number = r; value = now (value .exit) } ≡ code (ofReading (readRecord (now (text .entry)))) ⌝ }
+{
+    let r = record_code(recordreader::read_record(text));
+    *value = r.value;
+    r.number
+}
+
+// Positions x1, y1, x2, y2 .. of the macros of a chip text, measured.
+#[no_mangle]
+pub extern "C" fn jizdovel_measure(text: &[u8], positions: &[u64], value: &mut u64) -> u64
+    ensures { λ r. ⌜ record { number = r; value = now (value .exit) } ≡ code (ofMeasure (measureText (now (text .entry)) (now (positions .entry)))) ⌝ }
+{
+    let r = measure_text(text, positions);
+    *value = r.value;
+    r.number
+}
+
+// The fit of a letter string to the chip of a text, with slots and positions into the lent lists.
+#[no_mangle]
+pub extern "C" fn jizdovel_fit(
+    text: &[u8],
+    letters: &[u8],
+    slots: &mut [u16],
+    positions: &mut [u64],
+    value: &mut u64,
+) -> u64
+    ensures { λ r. ⌜ record { number = r; value = now (value .exit) } ≡ code (ofFit (fitText (now (text .entry)) (now (letters .entry)) (length (now (slots .entry))) (length (now (positions .entry))))) ⌝ }
+    ensures { λ r. ⌜ SlotsFilled (readChip (now (text .entry))) (now (letters .entry)) (fitText (now (text .entry)) (now (letters .entry)) (length (now (slots .entry))) (length (now (positions .entry)))) (now (slots .entry)) (now (slots .exit)) ⌝ }
+    ensures { λ r. ⌜ now (positions .exit) ≡ placesAfter (fitText (now (text .entry)) (now (letters .entry)) (length (now (slots .entry))) (length (now (positions .entry)))) (now (positions .entry)) ⌝ }
+{
+    let r = fit_text(text, letters, slots, positions);
+    *value = r.value;
+    r.number
+}

@@ -1,0 +1,86 @@
+/* The C interface in use: one chip, through every function of the library. */
+#include <inttypes.h>
+#include <stdio.h>
+#include <string.h>
+
+#include "jizdovel.h"
+
+static const char chip[] =
+    "die,w,5,h,3\n"
+    "fix,x,2,y,0,w,1,h,2\n"
+    "mac,w,2,h,2\n"
+    "mac,w,2,h,1\n"
+    "net,w,3\n"
+    "pin,m,1,x,0,y,0\n"
+    "pin,m,2,x,0,y,0\n"
+    "end\n";
+
+/* An answer: yes or no with its value, or the refusal's number and line. */
+static void tell(const char *what, uint64_t number, uint64_t value)
+{
+    if (number == JIZDOVEL_YES)
+        printf("%s: yes, %" PRIu64 "\n", what, value);
+    else if (number == JIZDOVEL_NO)
+        printf("%s: no, %" PRIu64 "\n", what, value);
+    else
+        printf("%s: refused, number %" PRIu64 ", line %" PRIu64 "\n", what, number, value);
+}
+
+/* Chip text to record text, and the record checked. */
+static void place(const uint8_t *text, size_t length)
+{
+    uint8_t record[JIZDOVEL_RECORD_BYTES];
+    uint64_t value;
+    uint64_t number = jizdovel_place(text, length, record, sizeof record, &value);
+
+    tell("place", number, value);
+    if (number != JIZDOVEL_YES)
+        return;
+    fwrite(record, 1, value, stdout);
+    number = jizdovel_check_record(record, value, &value);
+    tell("check record", number, value);
+}
+
+static void measure(const uint8_t *text, size_t length, uint64_t x, uint64_t y)
+{
+    const uint64_t positions[4] = {x, y, 0, 0};
+    uint64_t value;
+    uint64_t number = jizdovel_measure(text, length, positions, 4, &value);
+
+    printf("macro 1 at %" PRIu64 ",%" PRIu64 ", ", x, y);
+    tell("measure", number, value);
+}
+
+static void fit(const uint8_t *text, size_t length, const char *letters)
+{
+    uint16_t slots[JIZDOVEL_SLOTS];
+    uint64_t positions[JIZDOVEL_POSITIONS];
+    uint64_t value;
+    uint64_t number = jizdovel_fit(text, length, (const uint8_t *)letters, strlen(letters),
+                                   slots, JIZDOVEL_SLOTS, positions, JIZDOVEL_POSITIONS, &value);
+
+    printf("letters %s, ", letters);
+    tell("fit", number, value);
+    if (number == JIZDOVEL_YES)
+        printf("macro 1 at %" PRIu64 ",%" PRIu64 ", macro 2 at %" PRIu64 ",%" PRIu64 "\n",
+               positions[0], positions[1], positions[2], positions[3]);
+}
+
+int main(void)
+{
+    const uint8_t *text = (const uint8_t *)chip;
+    const size_t length = sizeof chip - 1;
+    uint64_t value;
+    uint64_t number = jizdovel_check_chip(text, length, &value);
+
+    tell("check chip", number, value);
+    number = jizdovel_check_chip(text, 12, &value);
+    tell("check its first line", number, value);
+    place(text, length);
+    measure(text, length, 0, 1);
+    measure(text, length, 0, 0);
+    fit(text, length, "ALL");
+    fit(text, length, "LLL");
+    fit(text, length, "AL");
+    return 0;
+}

@@ -1,0 +1,79 @@
+/* Jizdovel, an exact macro placer: the C interface of the static library libjizdovel.a (x86-64).
+ *
+ * Every function takes every text, letter string and list, and ends. Each is proved to answer what
+ * crates/jizdovel/specs says; docs/PROMISES.md lists the promises.
+ *
+ * The answer is a number, and a value beside it that is written through `value`:
+ *
+ *   JIZDOVEL_YES  the text is accepted, the record is written, the positions are legal, or the
+ *                 letters have a fit; `value` as each function says
+ *   JIZDOVEL_NO   the positions are not legal, or the letters have no fit; `value` as each says
+ *   1 .. 254      refused with that number of the refusal table; `value` is the line, 0 where the
+ *                 refusal has no line
+ *
+ * After a refusal every lent list and buffer holds what it held before.
+ *
+ * Duties that no refusal can cover:
+ *  - a pointer points to as many elements as its length says, aligned for its type, and is not
+ *    null, even where the length is 0; `value` points to one number;
+ *  - what a function may write (out, slots, positions of a fit, value) overlaps nothing else that
+ *    is lent in the same call, and nobody else reads or writes it during the call;
+ *  - a stack of 8 megabytes is enough (docs/DECISIONS.md has the measurements).
+ * The functions keep no state: calls from several threads with different lists do not disturb each
+ * other.
+ */
+#ifndef JIZDOVEL_H
+#define JIZDOVEL_H
+
+#include <stddef.h>
+#include <stdint.h>
+
+#ifdef __cplusplus
+extern "C" {
+#endif
+
+#define JIZDOVEL_YES 0
+#define JIZDOVEL_NO 255
+
+/* The most that a chip can need: bytes of a record, slots of a fit, numbers of a position list. */
+#define JIZDOVEL_RECORD_BYTES 256
+#define JIZDOVEL_SLOTS 728
+#define JIZDOVEL_POSITIONS 16
+
+/* Chip text to record text: writes the record of the chip into `out`. YES: `value` is the number of
+ * bytes written; bytes past them are not touched. A chip without a legal placement has the record
+ * `none`. Refusals: those of reading a chip, then 15 where `out` is shorter than the record. */
+uint64_t jizdovel_place(const uint8_t *text, size_t text_length,
+                        uint8_t *out, size_t out_length,
+                        uint64_t *value);
+
+/* Checks a chip text. YES: it is accepted, `value` is 0. */
+uint64_t jizdovel_check_chip(const uint8_t *text, size_t text_length, uint64_t *value);
+
+/* Checks a record text, by itself. YES: it is accepted, `value` is 0. */
+uint64_t jizdovel_check_record(const uint8_t *text, size_t text_length, uint64_t *value);
+
+/* Measures positions x1, y1, x2, y2 .. of the macros of a chip text. YES: legal; NO: not legal;
+ * `value` is the wirelength in both cases. Refusals: those of reading a chip, then 13 where there
+ * are not two numbers for each macro, then 14 where one is above 1,024. */
+uint64_t jizdovel_measure(const uint8_t *text, size_t text_length,
+                          const uint64_t *positions, size_t positions_length,
+                          uint64_t *value);
+
+/* The fit of a letter string, one of `LRBA.` for each pair, to the chip of a text. YES: `value` is
+ * the wirelength, `positions` begins with x1, y1, x2, y2 .. and `slots` with the amounts of a flow.
+ * NO: no fit, `value` is 0, `slots` begins with a closed chain, `positions` is not touched. With n
+ * macros, p pairs and q pins there are 2 (2n + p + 2q) slots and 2n numbers; what follows them in
+ * the lists is not touched. Refusals: those of reading a chip, then 11, 12, then 15 where `slots`
+ * or `positions` is too short. */
+uint64_t jizdovel_fit(const uint8_t *text, size_t text_length,
+                      const uint8_t *letters, size_t letters_length,
+                      uint16_t *slots, size_t slots_length,
+                      uint64_t *positions, size_t positions_length,
+                      uint64_t *value);
+
+#ifdef __cplusplus
+}
+#endif
+
+#endif
