@@ -16,7 +16,7 @@ PLACE = ROOT / "target" / "bin" / "place"
 LAB = WORK / "baseline" / "release" / "lab"
 ENOUGH = 0.2  # seconds; what is shorter is repeated until all runs together have taken as long
 MOST_RUNS, GRAIN = 2000, 1e-6  # of the baseline: runs on a chip, seconds that its clock tells apart
-ALL_RULES, SAME_RULES = ("p27 child D2 f", "0"), ("p17 child D0", "2")  # a search of the baseline, and SCRATCH
+ALL_RULES, NEAREST_RULES = ("p27 child D2 f", "0"), ("p17 child D0", "2")  # a search of the baseline, and SCRATCH
 
 Run = namedtuple("Run", "seconds kilobytes ended")
 Search = namedtuple("Search", "seconds fits nodes length")
@@ -89,5 +89,5 @@ def row(path, limit):
     record = path.with_suffix(".record")
     chip, (wl, _) = chips.read_chip(path), chips.read_record(record)
     run, same = place(path, record)
-    return Row(path.stem, chip, wl, run, same, baseline(*ALL_RULES, path), baseline(*SAME_RULES, path),
+    return Row(path.stem, chip, wl, run, same, baseline(*ALL_RULES, path), baseline(*NEAREST_RULES, path),
                {solver: solve(solver, chip, limit) for solver in SOLVERS})

@@ -2,6 +2,7 @@
 import math
 
 WIDE, HIGH, LEFT, TOP, RIGHT, BOTTOM, SIZE = 1000, 720, 80, 70, 80, 60, 11
+BESIDE = 15  # pixels from a dot to a name that needs no line
 STYLE = ("text{font-family:sans-serif;fill:#222;stroke:white;stroke-width:3;stroke-linejoin:round;paint-order:stroke}"
          ".grid{stroke:#e8e8e8}.ratio{stroke:#aaa;stroke-dasharray:5 4}.lead{stroke:#7aa0c4}"
          ".dot{fill:#2266aa;stroke:white}")
@@ -60,27 +61,53 @@ class Scale:
         return out
 
 
-def clear(box, taken):
-    """Whether a box lies in the frame and meets none of the boxes."""
+def meet(box, boxes):
     left, top, right, low = box
-    return (LEFT < left and right < WIDE - RIGHT and TOP < top and low < HIGH - BOTTOM
-            and not any(left < r and l < right and top < b and t < low for l, t, r, b in taken))
+    return any(left < r and l < right and top < b and t < low for l, t, r, b in boxes)
+
+
+def inside(box):
+    return LEFT < box[0] and TOP < box[1] and box[2] < WIDE - RIGHT and box[3] < HIGH - BOTTOM
+
+
+def nearest(box, x, y):
+    """The spot of a box that is nearest to x, y."""
+    return min(max(x, box[0]), box[2]), min(max(y, box[1]), box[3])
+
+
+def lead(box, x, y):
+    """Small boxes along the line from a dot to a box."""
+    x2, y2 = nearest(box, x, y)
+    spots = [(x + (x2 - x) * k / 12, y + (y2 - y) * k / 12) for k in range(1, 12)]
+    return [(left - 1, top - 1, left + 1, top + 1) for left, top in spots]
+
+
+def spots(x, y, wide):
+    """Boxes for a name around a dot with their distances, the nearest first."""
+    for far in range(9, 200, 6):
+        for turn in (0, 8, 4, 12, 2, 6, 10, 14, 1, 3, 5, 7, 9, 11, 13, 15):
+            side, up = math.cos(turn * math.pi / 8), math.sin(turn * math.pi / 8)
+            left = x + far * side - (0 if side > 0.1 else wide if side < -0.1 else wide / 2)
+            yield far, (left, y - far * up - SIZE / 2, left + wide, y - far * up + SIZE / 2)
 
 
 def labels(dots):
-    """The name beside each dot, at the nearest place where it meets no other name and no dot."""
-    out, taken = [], [(x - 6, y - 6, x + 6, y + 6) for _, x, y in dots]
-    for name, x, y in dots:
-        wide = 0.58 * SIZE * len(name)
-        for far, turn in ((far, turn) for far in range(9, 200, 6) for turn in (0, 4, 2, 6, 1, 3, 5, 7)):
-            side, up = math.cos(turn * math.pi / 4), math.sin(turn * math.pi / 4)
-            left = x + far * side - (0 if side > 0.1 else wide if side < -0.1 else wide / 2)
-            box = (left, y - far * up - SIZE / 2, left + wide, y - far * up + SIZE / 2)
-            if clear(box, taken):
+    """The name of each dot, crowded ones first: beside it where no other dot is as near, else at the end of a line."""
+    out, named = [], []
+    for name, x, y in sorted(dots, key=lambda dot: sum(math.dist(dot[1:], other[1:]) > 60 for other in dots)):
+        others = [(left, top) for _, left, top in dots if (left, top) != (x, y)]
+        taken = named + [(left - 6, top - 6, left + 6, top + 6) for left, top in others]
+        for far, box in spots(x, y, 0.58 * SIZE * len(name)):
+            if not inside(box) or meet(box, taken):
+                continue
+            line_to = lead(box, x, y)
+            if far <= BESIDE and all(math.dist(nearest(box, *other), other) > far + 3 for other in others):
                 break
-        taken.append(box)
-        if far > 15:
-            out.append(line("lead", x, y, min(max(x, box[0]), box[2]), min(max(y, box[1]), box[3])))
+            if far > BESIDE and not any(meet(spot, taken) for spot in line_to):
+                named += line_to
+                out.append(line("lead", x, y, *nearest(box, x, y)))
+                break
+        named.append(box)
         out.append(text(box[0], box[3] - 2, name))
     return out
 

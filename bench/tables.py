@@ -24,7 +24,7 @@ def table(heads, rows):
 
 def place_table(rows):
     heads = ["Chip", "Macros, fixes, nets, pins", "place (ms)", "Peak (KB)", "Record",
-             "Baseline, all rules (ms)", "Ratio", "Baseline, same rules (ms)", "Ratio", "Its fits", "Its nodes"]
+             "Baseline, all rules (ms)", "Ratio", "Baseline, nearest rules (ms)", "Ratio", "Its fits", "Its nodes"]
     return table(heads, [place_line(row) for row in rows] + [total_line(rows)])
 
 

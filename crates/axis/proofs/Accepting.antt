@@ -16,7 +16,7 @@ use Rattle.bounds.specs.declared.Axis.{Axis as HeldAxis}
 use Rattle.bounds.specs.Axis.{noSlot, noPin, noNet, FinePair, FinePin}
 use Rattle.bounds.specs.Held.{pinsBefore}
 use Rattle.axis.specs.Graph.{Decides}
-use Rattle.axis.specs.Accept.{SizesTo, PairsTo, PinsTo, NetCounts, NetTo, NetsTo, FrameTo}
+use Rattle.axis.specs.Accept.{PairsTo, PinsTo, NetCounts, NetTo, NetsTo, FrameTo}
 use Rattle.axis.proofs.NetPins.{pins-next}
 
 pub says-yes : {P : Type 0} → P → Decides true P
@@ -94,26 +94,6 @@ module _ (a : HeldAxis) where
 
   pub frame-yes : a .n ≤ 8 → a .p ≤ 120 → a .t ≤ 32 → a .side ≤ 8192 → a .base ≤ 16384 → Decides true (FrameTo a)
   frame-yes p q r s t = says-yes (record { macs = p; pairs = q; nets = r; side = s; base = t })
-
--- ---- the sizes
-
-module _ (ws : List ℕ) where
-  pub sizes-none : SizesTo ws 0
-  sizes-none = record { at = λ i l. absurd (omega arith) }
-
-  module _ (i : ℕ) (h : SizesTo ws i) where
-    pub sizes-more : getD ws i 0 ≤ 8192 → SizesTo ws (i + 1)
-    sizes-more b = record { at = λ k l. by k l (ℕ-discrete k i) }
-      where
-        by : (k : ℕ) → k < i + 1 → Dec (k ≡ i) → getD ws k 0 ≤ 8192
-        by k l (yes e) = rw e b
-        by k l (no n) = h .at k (omega arith)
-
-    pub sizes-yes : (n : ℕ) → n ≤ i → Decides true (SizesTo ws n)
-    sizes-yes n l = says-yes (record { at = λ k m. h .at k (omega arith) })
-
-  pub sizes-no : (i n : ℕ) → i < n → 8192 < getD ws i 0 → Decides false (SizesTo ws n)
-  sizes-no i n l b = says-no (λ p. let q = p .at i l in omega arith)
 
 -- ---- the pairs
 

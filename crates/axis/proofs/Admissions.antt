@@ -15,14 +15,14 @@ use lib.Dec.{eqb}
 use Rattle.numbers.specs.Sum.{when}
 use Rattle.numbers.proofs.Sums.{sum-pick}
 use Rattle.flow.specs.Flow.{weigh, Balance}
-use Rattle.flow.proofs.Duality.{strong, no-values}
+use Rattle.flow.proofs.Duality.{strong}
 use Rattle.bounds.specs.declared.Slot.{Slot}
 use Rattle.axis.specs.declared.graph.Graph.{Graph}
 use Rattle.axis.specs.declared.growth.Growth.{Growth}
 use Rattle.axis.specs.Limits.{slotRoom, lowMost}
 use Rattle.bounds.specs.Axis.{noSlot}
 use Rattle.bounds.specs.Listed.{slotAt, tails, heads, pluses, minuses}
-use Rattle.axis.specs.Graph.{at, Decides, Fine, Small, HoldsAt, Holds, Leads, Net}
+use Rattle.axis.specs.Graph.{at, Decides, Fine, Small, HoldsAt, Leads, Net}
 use Rattle.axis.specs.Growth.{seedOf, Growing, Spread, Shifted}
 use Rattle.axis.specs.Push.{Pushable, Pushed}
 use Rattle.axis.specs.Admit.{withSlot, Free, Fresh, Approached, Refuted}
@@ -131,7 +131,3 @@ module _ (g : Graph) (x : List ℕ) (j : ℕ) (s : Slot) (fine : Fine g) (free :
               let c : when (eqb (w .start) k) 1 ≡ when (eqb (s .head) k) 1 = rw from in
               omega arith;
         }
-
--- a graph that is refuted: no values keep its bounds
-pub refuted-none : (g : Graph) (f x : List ℕ) → Fine g → Refuted g f → Holds (g .slots) (g .m) x → ⊥
-refuted-none g f x fine r h = no-values (tails (g .slots)) (heads (g .slots)) (pluses (g .slots)) (minuses (g .slots)) (at f) (at x) (g .m) (g .n) (fine .tail) (fine .head) (r .balance) (r .more) h

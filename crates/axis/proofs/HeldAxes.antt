@@ -13,7 +13,9 @@ use Rattle.bounds.specs.declared.Axis.{Axis as HeldAxis}
 use Rattle.bounds.specs.Axis.{noSlot, noPin, noNet, bareNet, netsOf, axisOf, pinCount, FinePair, FinePin, FineNet, Fine}
 use Rattle.bounds.specs.Held.{pinsBefore, Held}
 use Rattle.axis.specs.Graph.{Decides}
-use Rattle.axis.specs.Accept.{SizesTo, PairsTo, PinsTo, NetCounts, NetsTo, FrameTo}
+use Rattle.axis.specs.Above.{NoneAbove, FirstAbove}
+use Rattle.axis.specs.Accept.{PairsTo, PinsTo, NetCounts, NetsTo, FrameTo}
+use Rattle.axis.proofs.FirstAbove.{all-fit, one-above}
 use Rattle.axis.proofs.NetPins.{pins-next, pins-within, length-nets, count-all, pins-take, weight-held, count-held, pin-held}
 use Rattle.axis.proofs.Accepting.{says-no, held-by, failed-by}
 
@@ -31,8 +33,8 @@ shaped a A B C D f g h k p q r s =
 
 -- the counts that the first test passed
 module _ (a : HeldAxis) (b : Bool) (d : Decides b (FrameTo a)) (e : not b ≡ false) where
-  pub frame-n : a .n ≤ 8
-  frame-n = held-by b d e .macs
+  pub frame-n : Shaped a → a .n ≤ length (a .sizes)
+  frame-n sh = let p = held-by b d e .macs in let q = sh .sizes in omega arith
 
   pub frame-p : a .p ≤ 120
   frame-p = held-by b d e .pairs
@@ -62,7 +64,7 @@ module _ (a : HeldAxis) (sh : Shaped a) where
 
   -- ---- from the arrays to the lists
 
-  module _ (f : FrameTo a) (s : SizesTo (a .sizes) (a .n)) (p : PairsTo (a .n) (a .pairs) (a .p)) (h : NetsTo (a .n) (a .nets) (a .pins) (a .t)) where
+  module _ (f : FrameTo a) (s : NoneAbove 8192 (a .sizes) (a .n)) (p : PairsTo (a .n) (a .pairs) (a .p)) (h : NetsTo (a .n) (a .nets) (a .pins) (a .t)) where
     few-pins : (t : ℕ) → t ≤ a .t → pinsBefore t (a .nets) ≤ 128
     unfolding pinsBefore
     few-pins zero l = omega arith
@@ -95,7 +97,7 @@ module _ (a : HeldAxis) (sh : Shaped a) where
 
     list-size : (i : ℕ) → i < a .n → getD (axisOf a .sizes) i 0 ≤ 8192
     unfolding axisOf
-    list-size i l = rw (getD-take (a .n) (a .sizes) i 0 l) (s .at i l)
+    list-size i l = rw (getD-take (a .n) (a .sizes) i 0 l) (s .le i l)
 
     list-pair : (j : ℕ) → j < a .p → FinePair (a .n) (getD (axisOf a .pairs) j noSlot)
     unfolding axisOf
@@ -197,13 +199,13 @@ module _ (a : HeldAxis) (sh : Shaped a) where
       frame : FrameTo a
       frame = held-by b d e
 
-      module _ (s : Bool) (ds : Decides s (SizesTo (a .sizes) (a .n))) where
-        pub sizes-not : not s ≡ true → Decides false (Held a)
-        sizes-not o = says-no (λ h. failed-by s ds o (record { at = held-size h }))
+      module _ (s : ℕ) (fs : FirstAbove 8192 (a .sizes) (a .n) s) where
+        pub sizes-not : s < a .n → Decides false (Held a)
+        sizes-not l = says-no (λ h. one-above 8192 (a .sizes) (a .n) s fs l (record { le = held-size h }))
 
-        module _ (es : not s ≡ false) (p : Bool) (dp : Decides p (PairsTo (a .n) (a .pairs) (a .p))) where
+        module _ (ls : a .n ≤ s) (p : Bool) (dp : Decides p (PairsTo (a .n) (a .pairs) (a .p))) where
           pub pairs-not : not p ≡ true → Decides false (Held a)
           pairs-not o = says-no (λ h. failed-by p dp o (record { at = held-pair h }))
 
           pub held-test : not p ≡ false → (r : Bool) → Decides r (NetsTo (a .n) (a .nets) (a .pins) (a .t)) → Decides r (Held a)
-          held-test ep r dr = record { holds = λ o. held-of frame (held-by s ds es) (held-by p dp ep) (dr .holds o); fails = λ o h. dr .fails o (held-nets h) }
+          held-test ep r dr = record { holds = λ o. held-of frame (all-fit 8192 (a .sizes) (a .n) s fs ls) (held-by p dp ep) (dr .holds o); fails = λ o h. dr .fails o (held-nets h) }

@@ -1,4 +1,5 @@
 pub mod Zeros
+pub mod FirstAbove
 pub mod Tests
 pub mod Gathers
 pub mod Slacks

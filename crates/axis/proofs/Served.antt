@@ -3,7 +3,6 @@ use mathlib.Core.Path.{_≡_, refl, sym, ap, subst, _∙_}
 use mathlib.Core.Bool.{Bool, true, false, not}
 use mathlib.Core.List.{List, [], _∷_}
 use Prim.Native.Nat.{ℕ, suc, _+_, _*_, _≤_, _<_}
-use native.Mathlib.Decide.{ℕ-discrete}
 use native.Mathlib.Omega.{arith}
 use lib.ListN.{length, getD, take, set, replicate, length-set}
 use lib.Seq.{sets, getD-take, getD-set-same, getD-set-other}
@@ -22,7 +21,8 @@ use Rattle.axis.specs.Graph.{at, Decides, Fine}
 use Rattle.axis.specs.Admit.{target, Free, Refuted, AdmitOk, Wanted}
 use Rattle.axis.specs.Build.{slotsFrom, endsOf, dieGraph, macroGraph, wholeGraph}
 use Rattle.axis.specs.Certify.{Shows, Kept}
-use Rattle.axis.specs.Service.{MalformedOk, UnsolvableOk, NoneAbove, FirstAbove}
+use Rattle.axis.specs.Above.{NoneAbove, FirstAbove}
+use Rattle.axis.specs.Service.{MalformedOk, UnsolvableOk}
 use Rattle.axis.proofs.Zeros.{zero-at}
 use Rattle.numbers.proofs.Stores.{sets-append}
 use Rattle.axis.proofs.Accepting.{held-by, failed-by}
@@ -30,7 +30,7 @@ use Rattle.axis.proofs.HeldAxes.{Shaped, length-sizes, length-pairs, le
 use Rattle.axis.proofs.Graphs.{die-fine, macros-fine, macros-near}
 use Rattle.axis.proofs.Admitted.{even, even-free, pairs-wanted, pairs-refuted}
 
--- ---- the test, and the first macro larger than the die
+-- ---- the test
 
 module _ (a : HeldAxis) (b : Bool) (d : Decides b (Held a)) where
   pub malformed : not b ≡ true → MalformedOk a (replicate 8 0) (replicate slotRoom 0)
@@ -40,29 +40,8 @@ module _ (a : HeldAxis) (b : Bool) (d : Decides b (Held a)) where
     pub is-held : Held a
     is-held = held-by b d e
 
-    pub held-few : a .n ≤ 8
-    held-few = is-held .macs
-
-module _ (side : ℕ) (ws : List ℕ) where
-  pub fits-none : NoneAbove side ws 0
-  fits-none = record { le = λ k l. absurd (omega arith) }
-
-  module _ (i : ℕ) (f : NoneAbove side ws i) where
-    pub fits-more : getD ws i 0 ≤ side → NoneAbove side ws (i + 1)
-    fits-more b = record { le = λ k l. by k l (ℕ-discrete k i) }
-      where
-        by : (k : ℕ) → k < i + 1 → Dec (k ≡ i) → getD ws k 0 ≤ side
-        by k l (yes e) = rw e b
-        by k l (no n) = f .le k (omega arith)
-
-    pub above-found : (n : ℕ) → i < n → side < getD ws i 0 → FirstAbove side ws n i
-    above-found n l b = record { most = omega arith; before = f; above = λ m. b }
-
-    pub above-none : (n : ℕ) → i ≤ n → n ≤ i → FirstAbove side ws n n
-    above-none n p q = record { most = omega arith; before = subst (NoneAbove side ws) (let z : i ≡ n = omega arith in z) f; above = λ m. absurd (omega arith) }
-
-  pub all-fit : (n i : ℕ) → FirstAbove side ws n i → n ≤ i → NoneAbove side ws n
-  all-fit n i f l = record { le = λ k m. f .before .le k (omega arith) }
+    pub held-few : Shaped a → a .n ≤ length (a .sizes)
+    held-few sh = let p = is-held .macs in let q = sh .sizes in omega arith
 
 -- 1 stored at k and at the next place
 module _ (f : List ℕ) (k : ℕ) where

@@ -16,8 +16,9 @@ use Rattle.bounds.specs.Listed.{slotAt, tails, heads, pluses, minuses}
 use Rattle.axis.specs.declared.graph.Graph.{Graph}
 use Rattle.axis.specs.Limits.{nodeRoom, slotRoom, lowMost}
 use Rattle.axis.specs.Graph.{at, Fine, Small, Holds, Tights}
-use Rattle.axis.specs.Start.{Resting}
+use Rattle.axis.specs.Above.{FirstAbove}
 use Rattle.axis.specs.Certify.{Shows, Kept, Within, Idle, Even, Tied, Parent, Rooted}
+use Rattle.axis.proofs.FirstAbove.{every-fits}
 
 pub shows-no : {P : Type 0} → Shows false P
 shows-no = record { shown = λ e. absurd (false≢true e) }
@@ -31,25 +32,15 @@ shown-by b s e = s .shown (not-false b e)
 
 -- ---- values within the limit
 
-pub record LowTo (x : List ℕ) (i : ℕ) : Type 0 where
-  pub most : (k : ℕ) → k < i → at x k ≤ lowMost
+module _ (x : List ℕ) (i : ℕ) (f : FirstAbove lowMost x nodeRoom i) (l : nodeRoom ≤ i) (long : length x ≡ nodeRoom) where
+  low-all : (k : ℕ) → at x k ≤ lowMost
+  low-all = every-fits lowMost x nodeRoom i f l long
 
-module _ (x : List ℕ) where
-  pub low-none : LowTo x 0
-  low-none = record { most = below-none (λ k. at x k ≤ lowMost) }
+  pub low-small : Small x
+  low-small = record { most = λ k. let p = low-all k in omega arith }
 
-  pub low-more : (i : ℕ) → LowTo x i → at x i ≤ lowMost → LowTo x (i + 1)
-  low-more i h l = record { most = below-more (λ k. at x k ≤ lowMost) i (h .most) l }
-
-  pub low-all : (i : ℕ) → LowTo x i → nodeRoom ≤ i → length x ≡ nodeRoom → Shows true (Resting x)
-  low-all i h l e = shows-yes (record { most = λ k. by k (decLt k nodeRoom) })
-    where
-      by : (k : ℕ) → Dec (k < nodeRoom) → at x k ≤ lowMost
-      by k (yes m) = h .most k (omega arith)
-      by k (no n) = rw (List·getD-eq-default x 0 {n = k} (omega arith)) (omega arith)
-
-  pub low-small : (b : Bool) → Shows b (Resting x) → not b ≡ false → Small x
-  low-small b s e = record { most = λ k. let p = shown-by b s e .most k in omega arith }
+  pub kept-by : (g : Graph) (r : Bool) → Shows r (Holds (g .slots) (g .m) x) → Shows r (Kept g x)
+  kept-by g r h = record { shown = λ o. record { holds = h .shown o; low = low-all } }
 
 -- ---- bounds
 
@@ -62,9 +53,6 @@ module _ (ss : List Slot) (x : List ℕ) where
 
   pub holds-all : (i m : ℕ) → Holds ss i x → m ≤ i → Shows true (Holds ss m x)
   holds-all i m h l = shows-yes (record { le = λ s k. h .le s (omega arith) })
-
-pub kept-by : (g : Graph) (x : List ℕ) (b : Bool) → Shows b (Resting x) → not b ≡ false → (r : Bool) → Shows r (Holds (g .slots) (g .m) x) → Shows r (Kept g x)
-kept-by g x b s e r h = record { shown = λ o. record { holds = h .shown o; low = shown-by b s e .most } }
 
 pub kept-small : (g : Graph) (x : List ℕ) (b : Bool) → Shows b (Kept g x) → not b ≡ false → Small x
 kept-small g x b s e = record { most = λ k. let p = shown-by b s e .low k in omega arith }
@@ -85,22 +73,8 @@ module _ (ss : List Slot) (f x : List ℕ) where
 
 -- ---- amounts
 
-pub record WithinTo (f : List ℕ) (q i : ℕ) : Type 0 where
-  pub most : (s : ℕ) → s < i → at f s ≤ q
-
-module _ (f : List ℕ) (q : ℕ) where
-  pub within-none : WithinTo f q 0
-  within-none = record { most = below-none (λ s. at f s ≤ q) }
-
-  pub within-more : (i : ℕ) → WithinTo f q i → at f i ≤ q → WithinTo f q (i + 1)
-  within-more i h l = record { most = below-more (λ s. at f s ≤ q) i (h .most) l }
-
-  pub within-all : (i : ℕ) → WithinTo f q i → slotRoom ≤ i → length f ≡ slotRoom → Shows true (Within f q)
-  within-all i h l e = shows-yes (record { most = λ s. by s (decLt s slotRoom) })
-    where
-      by : (s : ℕ) → Dec (s < slotRoom) → at f s ≤ q
-      by s (yes m) = h .most s (omega arith)
-      by s (no n) = rw (List·getD-eq-default f 0 {n = s} (omega arith)) (omega arith)
+pub within-all : (f : List ℕ) (q i : ℕ) → FirstAbove q f slotRoom i → slotRoom ≤ i → length f ≡ slotRoom → Shows true (Within f q)
+within-all f q i a l e = shows-yes (record { most = every-fits q f slotRoom i a l e })
 
 pub record IdleTo (ss : List Slot) (m : ℕ) (f : List ℕ) (i : ℕ) : Type 0 where
   pub past : (s : ℕ) → s < i → m ≤ s → at f s ≡ 0

@@ -9,10 +9,6 @@ use Rattle.bounds.specs.declared.Axis.{Axis}
 use Rattle.bounds.specs.Axis.{noSlot, noPin, noNet, FinePair, FinePin}
 use Rattle.bounds.specs.Held.{pinsBefore}
 
--- the first k sizes
-pub record SizesTo (ws : List ℕ) (k : ℕ) : Type 0 where
-  pub at : (i : ℕ) → i < k → getD ws i 0 ≤ 8192
-
 -- the first k pairs, of n macros
 pub record PairsTo (n : ℕ) (ss : List Slot) (k : ℕ) : Type 0 where
   pub at : (j : ℕ) → j < k → FinePair n (getD ss j noSlot)

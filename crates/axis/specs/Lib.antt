@@ -5,6 +5,7 @@ pub mod Push
 pub mod Drain
 pub mod Admit
 pub mod Solved
+pub mod Above
 pub mod Accept
 pub mod Build
 pub mod Start

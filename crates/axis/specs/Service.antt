@@ -1,5 +1,5 @@
 -- What solving an axis that is held as a value answers.
-use Prim.Native.Nat.{ℕ, _≤_, _<_}
+use Prim.Native.Nat.{ℕ, _≤_}
 use mathlib.Core.Path.{_≡_}
 use mathlib.Core.List.{List}
 use lib.ListN.{getD, take, replicate}
@@ -33,15 +33,3 @@ abbrev pub SolutionOk : HeldAxis → Verdict → List ℕ → List ℕ → Type 
 SolutionOk a verdict.Malformed at f = MalformedOk a at f
 SolutionOk a verdict.Unsolvable at f = UnsolvableOk a at f
 SolutionOk a verdict.Solved at f = SolvedOk a at f
-
--- ---- macros larger than the die
-
--- the first i of the sizes are at most the side
-pub record NoneAbove (side : ℕ) (ws : List ℕ) (i : ℕ) : Type 0 where
-  pub le : (k : ℕ) → k < i → getD ws k 0 ≤ side
-
--- the first size above the side, or k
-pub record FirstAbove (side : ℕ) (ws : List ℕ) (k i : ℕ) : Type 0 where
-  pub most : i ≤ k
-  pub before : NoneAbove side ws i
-  pub above : i < k → side < getD ws i 0

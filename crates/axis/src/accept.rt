@@ -1,4 +1,5 @@
 // Whether an axis is within the limits of the solver.
+use crate::above::first_above;
 use crate::solve::NET_ROOM;
 use bounds::Axis;
 use bounds::AxisNet;
@@ -8,7 +9,7 @@ ghost use Prim.Native.Nat.{_≤_};
 ghost use Rattle.bounds.specs.Axis.{FinePair, FinePin};
 ghost use Rattle.bounds.specs.Held.{Held};
 ghost use Rattle.axis.specs.Graph.{Decides};
-ghost use Rattle.axis.specs.Accept.{SizesTo, PairsTo, PinsTo, NetCounts, NetsTo, FrameTo};
+ghost use Rattle.axis.specs.Accept.{PairsTo, PinsTo, NetCounts, NetsTo, FrameTo};
 
 const SIDE_MOST: u64 = 8192;
 
@@ -21,21 +22,6 @@ const MACRO_ROOM: usize = 8;
 const PAIR_ROOM: usize = 120;
 
 const PIN_ROOM: usize = 128;
-
-// The first n sizes.
-fn sizes_fine(sizes: [u64; 8], n: usize) -> bool
-    requires { ⌜ n ≤ 8 ⌝ }
-    ensures { λ r. ⌜ Decides r (SizesTo sizes n) ⌝ }
-{
-    let mut i: usize = 0;
-    while i < n {
-        if SIDE_MOST < sizes[i] {
-            return false;
-        }
-        i += 1;
-    }
-    true
-}
 
 // A pair's slot between nodes of n macros.
 fn pair_fine(s: Slot, n: usize) -> bool
@@ -174,7 +160,7 @@ pub(crate) fn is_held(a: Axis) -> bool
         return false;
     }
     let sizes = a.sizes;
-    if !sizes_fine(sizes, a.n) {
+    if first_above(&sizes, SIDE_MOST, a.n) < a.n {
         return false;
     }
     let pairs = a.pairs;

@@ -3,6 +3,7 @@
 // Values and amounts are an answer where the values keep all bounds, every slot that carries is tight, the amounts balance, and
 // every node has a parent before it in some order from node 0: by a tight slot forwards, or by one that carries backwards. A closed
 // chain whose pluses outweigh its minuses shows that no values keep the bounds.
+use crate::above::first_above;
 use crate::arrays::NODES;
 use crate::arrays::WAYS;
 use crate::graph::Graph;
@@ -16,7 +17,6 @@ ghost use Prim.Native.Nat.{_<_, _≤_};
 ghost use Rattle.numbers.specs.Sum.{sum};
 ghost use Rattle.axis.specs.Limits.{nodeRoom, netRoom, amountMost};
 ghost use Rattle.axis.specs.Graph.{Fine, Small, Holds, Tights};
-ghost use Rattle.axis.specs.Start.{Resting};
 ghost use Rattle.axis.specs.Admit.{Refuted};
 ghost use Rattle.axis.specs.Solved.{weights, Nets, Solved};
 ghost use Rattle.axis.specs.Certify.{Shows, Kept, Within, Idle, Outweighs, SlotSums, Modest, NetSums, Even, Tied, Rooted, Spanned, Flow};
@@ -28,20 +28,6 @@ const HIGHEST: u64 = 500000;
 struct Sums {
     into: [u64; NODE_ROOM],
     out: [u64; NODE_ROOM],
-}
-
-// Whether no value is above HIGHEST.
-fn all_low(x: [u64; NODE_ROOM]) -> bool
-    ensures { λ r. ⌜ Shows r (Resting x) ⌝ }
-{
-    let mut k: usize = 0;
-    while k < NODE_ROOM {
-        if HIGHEST < x[k] {
-            return false;
-        }
-        k += 1;
-    }
-    true
 }
 
 // Whether the values keep every bound.
@@ -70,7 +56,7 @@ pub(crate) fn keeps_all(g: Graph, x: [u64; NODE_ROOM]) -> bool
     requires { ⌜ Fine g ⌝ }
     ensures { λ r. ⌜ Shows r (Kept g x) ⌝ }
 {
-    if !all_low(x) {
+    if first_above(&x, HIGHEST, NODE_ROOM) < NODE_ROOM {
         return false;
     }
     bounds_hold(g, x)
@@ -104,12 +90,8 @@ fn tight_slots(g: Graph, f: [u64; SLOT_ROOM], x: [u64; NODE_ROOM]) -> bool
 fn within(f: [u64; SLOT_ROOM], q: u64) -> bool
     ensures { λ r. ⌜ Shows r (Within f q) ⌝ }
 {
-    let mut i: usize = 0;
-    while i < SLOT_ROOM {
-        if q < f[i] {
-            return false;
-        }
-        i += 1;
+    if first_above(&f, q, SLOT_ROOM) < SLOT_ROOM {
+        return false;
     }
     true
 }

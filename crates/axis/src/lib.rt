@@ -9,6 +9,9 @@
 //
 // That way is sure but slow. `propose` makes an answer faster, with cheapest ways in plain arrays (`paths`, `arrays`), of which
 // nothing is proved but that it ends; `certify` tests what was proposed, and what fails the test is done the sure way.
+//
+// `accept`, `certify` and `service` look for an entry above a limit with `above`.
+mod above;
 mod accept;
 mod admit;
 mod arrays;

@@ -3,6 +3,7 @@
 // An axis beyond the limits is malformed. A macro larger than the die has no place. Then values for the bounds of macros and pairs
 // are proposed, or a chain that refutes them, and with the nets' slots an answer of least length and smallest coordinates. What does
 // not pass its test is done again, the pairs' bounds added one after the other and the nets' weights sent growth by growth.
+use crate::above::first_above;
 use crate::accept::is_held;
 use crate::admit::admit_all;
 use crate::build::count_pins;
@@ -29,7 +30,7 @@ use crate::start::start_values;
 use bounds::Axis;
 use bounds::Slot;
 ghost use mathlib.Core.Path.{_≡_};
-ghost use Prim.Native.Nat.{_*_, _≤_, _<_};
+ghost use Prim.Native.Nat.{_*_, _<_};
 ghost use lib.ListN.{take, replicate};
 ghost use lib.Seq.{sets};
 ghost use Rattle.bounds.specs.Axis.{axisOf, noSlot};
@@ -39,7 +40,8 @@ ghost use Rattle.bounds.specs.Held.{Held};
 ghost use Rattle.axis.specs.Admit.{Free};
 ghost use Rattle.axis.specs.Limits.{slotRoom};
 ghost use Rattle.axis.specs.Build.{slotsFrom, macroGraph, wholeGraph, SpansTo};
-ghost use Rattle.axis.specs.Service.{SolutionOk, NoneAbove, FirstAbove};
+ghost use Rattle.axis.specs.Above.{NoneAbove, FirstAbove};
+ghost use Rattle.axis.specs.Service.{SolutionOk};
 
 // Malformed: beyond a limit. Unsolvable: no coordinates keep the bounds. Solved: the best coordinates are found.
 pub enum Verdict {
@@ -53,21 +55,6 @@ pub struct Solution {
     pub verdict: Verdict,
     pub at: [u64; 8],
     pub amounts: [u64; SLOT_ROOM],
-}
-
-// The first of n macros that is larger than the die, or n.
-fn first_above(sizes: [u64; 8], side: u64, n: usize) -> usize
-    requires { ⌜ n ≤ 8 ⌝ }
-    ensures { λ r. ⌜ FirstAbove side sizes n r ⌝ }
-{
-    let mut i: usize = 0;
-    while i < n {
-        if side < sizes[i] {
-            return i;
-        }
-        i += 1;
-    }
-    n
 }
 
 // The whole graph, from the slots of macros and pairs.
@@ -237,7 +224,7 @@ pub fn solve(a: Axis) -> Solution
         };
     }
     let sizes = a.sizes;
-    let i = first_above(sizes, a.side, a.n);
+    let i = first_above(&sizes, a.side, a.n);
     if i < a.n {
         return too_large(a, i);
     }

@@ -11,8 +11,8 @@ use Rattle.numbers.proofs.Spreads.{spread-between}
 use Rattle.flow.specs.Flow.{weigh}
 use Rattle.bounds.specs.Axis.{Axis, valueAt, Keeps, places, lengthOn, Fine}
 use Rattle.bounds.specs.Listed.{amount, hiNode, loNode, weightOf}
-use Rattle.bounds.specs.Graph.{graphSlots, macroSlots, Holds, upper, lower, Coordinates}
-use Rattle.bounds.proofs.Sorts.{pinsOn, OfMacros, OfPins, each-macros, graph-macros, graph-pins}
+use Rattle.bounds.specs.Graph.{graphSlots, Holds, upper, lower, Coordinates}
+use Rattle.bounds.proofs.Sorts.{pinsOn, OfMacros, OfPins, graph-macros, graph-pins}
 use Rattle.bounds.proofs.Limits.{KeptBy, holds-each}
 use Rattle.bounds.proofs.Places.{length-places, place-at, netLength, length-sum}
 
@@ -34,9 +34,6 @@ module _ (a : Axis) (fine : Fine a) (x z : List ℕ) (c : Coordinates (length (a
             let h = shifted _ x z c _ (f .head) in
             record { le = omega arith };
       }
-
-  pub macro-keeps : Holds (macroSlots a) x → Keeps a z
-  macro-keeps h = kept-macros (each-macros a _ (holds-each _ _ h))
 
   pub graph-keeps : Holds (graphSlots a) x → Keeps a z
   graph-keeps h = kept-macros (graph-macros a _ (holds-each _ _ h))

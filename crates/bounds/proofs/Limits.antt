@@ -6,7 +6,7 @@ use lib.ListN.{length}
 use Rattle.flow.specs.Flow.{Ends}
 use Rattle.bounds.specs.declared.Slot.{Slot}
 use Rattle.bounds.specs.Axis.{Axis, Fine}
-use Rattle.bounds.specs.Listed.{listed, tails, heads, pluses, minuses, amount, hiNode, loNode, nodeCount}
+use Rattle.bounds.specs.Listed.{listed, tails, heads, amount, hiNode, loNode, nodeCount}
 use Rattle.bounds.specs.Graph.{graphSlots, macroSlots, Holds}
 use Rattle.bounds.proofs.Members.{Each}
 use Rattle.bounds.proofs.Sorts.{OfMacros, OfPins, OfEnds, macros-each, each-macros, listed-each, graph-each, graph-macros, graph-pins, graph-ends, by-node}
@@ -89,18 +89,6 @@ module _ (a : Axis) (fine : Fine a) where
 
   pub macro-heads : Ends (heads (macroSlots a)) (length (macroSlots a)) (suc (length (a .sizes)))
   macro-heads = record { lt = λ s l. macro-fine .at s l .head }
-
-  pub graph-pluses : (s : ℕ) → s < length (graphSlots a) → pluses (graphSlots a) s ≤ 32768
-  graph-pluses s l = graph-fine .at s l .plus
-
-  pub graph-minuses : (s : ℕ) → s < length (graphSlots a) → minuses (graphSlots a) s ≤ 32768
-  graph-minuses s l = graph-fine .at s l .minus
-
-  pub macro-pluses : (s : ℕ) → s < length (macroSlots a) → pluses (macroSlots a) s ≤ 32768
-  macro-pluses s l = macro-fine .at s l .plus
-
-  pub macro-minuses : (s : ℕ) → s < length (macroSlots a) → minuses (macroSlots a) s ≤ 32768
-  macro-minuses s l = macro-fine .at s l .minus
 
   module _ (x : List ℕ) where
     -- a macro lies at most a side above the die corner, and not below it

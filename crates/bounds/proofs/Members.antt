@@ -1,6 +1,6 @@
 -- Which slots an axis has: a property of each of them, from the kinds of slots, and back.
 use Prim.Native.Nat.{ℕ, zero, suc, _+_, _-_, _*_, _≤_, _<_}
-use mathlib.Core.Path.{_≡_, refl, sym, ap, subst, _∙_}
+use mathlib.Core.Path.{_≡_, sym, ap, subst, _∙_}
 use mathlib.Core.List.{List, [], _∷_, _++_}
 use native.Mathlib.Decide.{decLt}
 use native.Mathlib.Omega.{arith}
@@ -21,9 +21,6 @@ pub record Stands (ss : List Slot) (e : Slot) : Type 0 where
   pub index : ℕ
   pub lt : index < length ss
   pub is : slotAt ss index ≡ e
-
-pub each-stands : (ss : List Slot) → Each (Stands ss) ss
-each-stands ss = record { at = λ s l. record { index = s; lt = l; is = refl } }
 
 -- where slot s of the second of two lists stands
 pub slot-right : (ss ts : List Slot) (s : ℕ) → length ss ≤ s → slotAt (ss ++ ts) s ≡ slotAt ts (s - length ss)

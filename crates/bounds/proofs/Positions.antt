@@ -4,12 +4,10 @@ use mathlib.Core.Path.{_≡_, refl, ap, _∙_}
 use mathlib.Core.List.{List, [], _∷_}
 use native.Mathlib.Omega.{arith}
 use lib.ListN.{length, getD, List·getD-append}
-use lib.Seq.{getD-append-add}
 use Rattle.bounds.specs.Axis.{Axis, noSlot}
-use Rattle.bounds.specs.Listed.{slot, dieSlots, listed, slotAt}
-use Rattle.bounds.specs.Graph.{graphSlots, macroSlots}
+use Rattle.bounds.specs.Listed.{slot, dieSlots, slotAt}
+use Rattle.bounds.specs.Graph.{macroSlots}
 use Rattle.bounds.proofs.Counts.{length-die}
-use Rattle.bounds.proofs.Fronts.{listed-front, macros-front}
 
 die-rise : (side h : ℕ) (ws : List ℕ) (j s k : ℕ) → s ≡ 2 * j → k ≡ h + j → j < length ws → slotAt (dieSlots side h ws) s ≡ slot 0 k 0 0
 unfolding dieSlots
@@ -41,19 +39,3 @@ module _ (a : Axis) where
   fall-at i l =
       let c = length-die (a .side) 1 (a .sizes) in
       List·getD-append (dieSlots (a .side) 1 (a .sizes)) (a .pairs) noSlot (2 * i + 1) (omega arith) ∙ die-fall (a .side) 1 (a .sizes) i (2 * i + 1) (suc i) refl (omega arith) l
-
-  pub pair-at : (j : ℕ) → slotAt (macroSlots a) (2 * length (a .sizes) + j) ≡ getD (a .pairs) j noSlot
-  unfolding macroSlots
-  pair-at j =
-      let c = length-die (a .side) 1 (a .sizes) in
-      ap (slotAt (macroSlots a)) (omega arith) ∙ getD-append-add (dieSlots (a .side) 1 (a .sizes)) (a .pairs) j noSlot
-
-  -- the list starts with the slots of macros and pairs, the graph with the list
-  pub listed-macro : (s : ℕ) → s < length (macroSlots a) → slotAt (listed a) s ≡ slotAt (macroSlots a) s
-  listed-macro s l = macros-front a .same s l
-
-  pub graph-listed : (s : ℕ) → s < length (listed a) → slotAt (graphSlots a) s ≡ slotAt (listed a) s
-  graph-listed s l = listed-front a .same s l
-
-  pub graph-macro : (s : ℕ) → s < length (macroSlots a) → slotAt (graphSlots a) s ≡ slotAt (macroSlots a) s
-  graph-macro s l = let p = macros-front a .short in graph-listed s (omega arith) ∙ listed-macro s l

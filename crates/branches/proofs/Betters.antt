@@ -1,4 +1,4 @@
--- Of results with placements of one length, the better one: in any order, in any grouping, and of a result with itself the same.
+-- Of results with placements of one length, the better one: in any order and in any grouping.
 use Prim.{Unit}
 use Prim.Native.Nat.{ℕ}
 use mathlib.Core.Path.{_≡_, refl, sym, _∙_}
@@ -7,23 +7,16 @@ use mathlib.Core.Logic.{inl, inr}
 use lib.ListN.{length}
 use Rattle.placement.specs.Least.{Best, nothing, found}
 use Rattle.branches.specs.Branch.{replaces, pick, better}
-use Rattle.branches.proofs.Replaces.{Placed, replaces-irreflexive, replaces-transitive, replaces-asymmetric, replaces-total, still-stands}
+use Rattle.branches.proofs.Replaces.{Placed, replaces-transitive, replaces-asymmetric, replaces-total, still-stands}
 
 -- nothing, or a placement of n corners
 abbrev pub Sized : ℕ → Best → Type 0
 Sized n nothing = Unit {0}
 Sized n (found l ps) = length ps ≡ n
 
-pub better-nothing : (a : Best) → better a nothing ≡ a
-better-nothing a = refl
-
 pub nothing-better : (a : Best) → better nothing a ≡ a
 nothing-better nothing = refl
 nothing-better (found l ps) = refl
-
-pub better-idempotent : (a : Best) → better a a ≡ a
-better-idempotent nothing = refl
-better-idempotent (found l ps) = rw (replaces-irreflexive l ps)
 
 module _ (n : ℕ) where
   pick-sized : (t : Bool) (a b : Best) → Sized n a → Sized n b → Sized n (pick t a b)

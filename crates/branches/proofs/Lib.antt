@@ -5,4 +5,3 @@ pub mod Closing
 pub mod Overlaps
 pub mod Branching
 pub mod Undecided
-pub mod PairCount

@@ -1,5 +1,5 @@
--- The number of undecided pairs: a letter in the place of a dot lowers it, and where it is 0 there is no dot.
-use Prim.Native.Nat.{ℕ, zero, suc, _+_, _≤_, _<_}
+-- The number of undecided pairs: a letter in the place of a dot lowers it.
+use Prim.Native.Nat.{ℕ, zero, suc, _+_, _<_}
 use mathlib.Core.Path.{_≡_, refl, ap}
 use mathlib.Core.Bool.{false, true≢false}
 use mathlib.Core.List.{List, [], _∷_}
@@ -24,13 +24,6 @@ undecided-first low ls = omega arith
 undecided-first high ls = omega arith
 undecided-first dot ls = omega arith
 
-dots-most : (l : Letter) → dots l ≤ 1
-dots-most left = omega arith
-dots-most right = omega arith
-dots-most low = omega arith
-dots-most high = omega arith
-dots-most dot = omega arith
-
 dots-none : (l : Letter) → isDot l ≡ false → dots l ≡ 0
 dots-none left n = refl
 dots-none right n = refl
@@ -41,12 +34,6 @@ dots-none dot n = absurd (true≢false n)
 dots-one : (l : Letter) → l ≡ dot → dots l ≡ 1
 dots-one l e = ap dots e
 
--- at most one for each letter
-pub undecided-most : (ls : List Letter) → undecided ls ≤ length ls
-unfolding undecided
-undecided-most [] = omega arith
-undecided-most (l ∷ ls) = let h = undecided-most ls in let e = undecided-first l ls in let d = dots-most l in omega arith
-
 -- a letter in the place of a dot leaves one dot fewer
 pub undecided-set : (ls : List Letter) (s : ℕ) (l : Letter) → s < length ls → getD ls s dot ≡ dot → isDot l ≡ false → suc (undecided (set ls s l)) ≡ undecided ls
 undecided-set [] s l h e n = absurd (omega arith)
@@ -55,7 +42,3 @@ undecided-set (m ∷ ls) (suc s) l h e n = let i = undecided-set ls s l (omega a
 
 pub undecided-less : (ls : List Letter) (s : ℕ) (l : Letter) → s < length ls → getD ls s dot ≡ dot → isDot l ≡ false → undecided (set ls s l) < undecided ls
 undecided-less ls s l h e n = let i = undecided-set ls s l h e n in omega arith
-
--- where no pair is undecided there is no dot
-pub undecided-none : (ls : List Letter) (s : ℕ) → undecided ls ≡ 0 → s < length ls → getD ls s dot ≡ dot → ⊥
-undecided-none ls s z h e = let i = undecided-set ls s left h e refl in omega arith

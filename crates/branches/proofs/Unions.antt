@@ -79,10 +79,6 @@ module _ (c : Chip) (P : List Spot → Bool) (inside : Inside c P) where
   pub only-answer : (b : Best) → Answers c P b → firstLeast c P ≡ b
   only-answer b q = same-answer (firstLeast c P) b first-answers q
 
-  -- found, exactly when it is the earliest least
-  pub first-found : (l : ℕ) (ps : List Spot) → EarliestLeast c P l ps → firstLeast c P ≡ found l ps
-  first-found l ps e = only-answer (found l ps) (earliest-stands l ps e)
-
   answer-sized : (b : Best) → Answers c P b → Sized (length (c .macs)) b
   answer-sized nothing a = tt
   answer-sized (found l ps) a = passes-long ps (a .passed)

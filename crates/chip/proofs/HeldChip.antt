@@ -14,13 +14,13 @@ use Rattle.model.specs.declared.Pin.{Pin as HeldPin}
 use Rattle.model.specs.declared.Chip.{Chip as HeldChip}
 use Rattle.model.specs.Limits.{isWithin, pinPlace}
 use Rattle.model.specs.Meaning.{firstOf, blankFix, blankMac, blankNet, blankPin, pinOf, pinsOf, netsOf, chipOf}
-use Rattle.model.proofs.FirstOf.{length-first}
+use Rattle.model.proofs.FirstOf.{length-first, getD-first, first-within, first-some}
 use Rattle.model.proofs.Nets.{length-pins, length-nets}
 use Rattle.grammar.specs.Reading.{accepted}
 use Rattle.chip.specs.Text.{readChip, chipText}
 use Rattle.chip.specs.Valid.{ValidPin, ValidNet, Valid, noNet, pinsBefore, FineNet, FinePin, Fine}
 use Rattle.chip.proofs.Accepted.{accepted-valid}
-use Rattle.chip.proofs.HeldNets.{getD-first, first-within, first-some, getD-pins, before-first, pins-within}
+use Rattle.chip.proofs.HeldNets.{getD-pins, before-first, pins-within}
 use Rattle.chip.proofs.HeldMeaning.{fix-held, mac-held, weight-held, net-held}
 
 place-fine : (v : ℕ) → isWithin pinPlace (subℕ v 4096) ≡ true → v ≤ 8192

@@ -1,17 +1,14 @@
 -- What a chip held as a value means, part by part: its fixes, its macros, and its nets with their pins.
-use Prim.Native.Nat.{ℕ, suc, _+_, _≤_, _<_}
+use Prim.Native.Nat.{ℕ, suc, _≤_, _<_}
 use native.Mathlib.Omega.{arith}
-use mathlib.Core.Path.{_≡_, ap, _∙_}
-use mathlib.Core.List.{List}
+use mathlib.Core.Path.{_≡_, _∙_}
 use lib.ListN.{length, getD, take, drop, length-drop}
-use lib.Seq.{getD-drop}
-use Rattle.model.specs.declared.Pin.{Pin as HeldPin}
 use Rattle.model.specs.declared.Chip.{Chip as HeldChip}
-use Rattle.model.specs.Meaning.{Pin, firstOf, blankFix, blankMac, blankNet, blankPin, pinOf, pinsOf, chipOf}
-use Rattle.model.proofs.FirstOf.{first-take, length-first}
-use Rattle.model.proofs.Nets.{length-pins, length-nets}
-use Rattle.chip.specs.Valid.{noPin, noNet, pinsBefore, Fine}
-use Rattle.chip.proofs.HeldNets.{getD-first, getD-pins, before-first, getD-weight, getD-net, pins-before-up, pins-before-more}
+use Rattle.model.specs.Meaning.{firstOf, blankFix, blankMac, blankNet, blankPin, pinsOf, chipOf}
+use Rattle.model.proofs.FirstOf.{first-take, length-first, getD-first}
+use Rattle.model.proofs.Nets.{length-nets}
+use Rattle.chip.specs.Valid.{noNet, pinsBefore, Fine}
+use Rattle.chip.proofs.HeldNets.{before-first, getD-weight, getD-net, pins-before-up, pins-before-more}
 
 module _ (c : HeldChip) where
   pub fix-held : (i : ℕ) → i < c .k → getD (chipOf c .fixes) i blankFix ≡ getD (c .fixes) i blankFix
@@ -56,13 +53,3 @@ module _ (c : HeldChip) where
 
       pub pins-held : getD (chipOf c .nets) j noNet .pins ≡ pinsOf (take (getD (c .nets) j blankNet .pins) (drop (pinsBefore j (c .nets)) (c .pins)))
       pins-held = net-held j h ∙ rw (first-take blankPin (getD (c .nets) j blankNet .pins) (drop (pinsBefore j (c .nets)) (c .pins)) pins-left)
-
-      pub pin-count-held : length (getD (chipOf c .nets) j noNet .pins) ≡ getD (c .nets) j blankNet .pins
-      pin-count-held = rw (net-held j h, length-pins) (length-first blankPin (getD (c .nets) j blankNet .pins) (drop (pinsBefore j (c .nets)) (c .pins)) pins-left)
-
-      pub pin-held : (i : ℕ) → i < getD (c .nets) j blankNet .pins → getD (getD (chipOf c .nets) j noNet .pins) i noPin ≡ pinOf (getD (c .pins) (pinsBefore j (c .nets) + i) blankPin)
-      pin-held i g =
-          let n : ℕ = getD (c .nets) j blankNet .pins in
-          let ps : List HeldPin = drop (pinsBefore j (c .nets)) (c .pins) in
-          let m : length (firstOf blankPin n ps) ≡ n = length-first blankPin n ps pins-left in
-          ap (λ (t : List Pin). getD t i noPin) (net-held j h) ∙ getD-pins (firstOf blankPin n ps) i (rw m g) ∙ ap pinOf (getD-first blankPin n ps i g ∙ getD-drop (pinsBefore j (c .nets)) (c .pins) i blankPin)

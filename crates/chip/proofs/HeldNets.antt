@@ -1,44 +1,19 @@
--- Counted items, and nets that take their pins from one list: what stands where.
+-- Nets that take their pins from one list: what stands where.
 use Prim.Native.Nat.{ℕ, zero, suc, _+_, _≤_, _<_}
-use native.Mathlib.Decide.{decLe}
 use native.Mathlib.Nat.{le-of-suc-le-suc}
 use native.Mathlib.Numerals.{add-one}
 use native.Mathlib.Omega.{arith}
 use mathlib.Core.Path.{_≡_, refl, _∙_}
 use mathlib.Core.List.{List, [], _∷_}
-use lib.ListN.{length, getD, drop, length-append, length-drop}
+use lib.ListN.{length, getD, drop, length-drop}
 use lib.Seq.{drop-drop}
 use Rattle.model.specs.declared.Net.{Net as HeldNet}
 use Rattle.model.specs.declared.Pin.{Pin as HeldPin}
 use Rattle.model.specs.Meaning.{firstOf, blankNet, blankPin, pinOf, pinsOf, netsOf}
-use Rattle.model.proofs.FirstOf.{length-first, first-past}
+use Rattle.model.proofs.FirstOf.{length-first, first-within}
 use Rattle.model.proofs.Nets.{length-pins}
 use Rattle.chip.specs.Kind.{pinCount}
 use Rattle.chip.specs.Valid.{noPin, noNet, pinsBefore}
-
--- ---- the first n items
-
-module _ {A : Type 0} (z : A) where
-  pub getD-first : (n : ℕ) (s : List A) (i : ℕ) → i < n → getD (firstOf z n s) i z ≡ getD s i z
-  unfolding firstOf
-  getD-first zero s i h = absurd (omega arith)
-  getD-first (suc n) [] zero h = refl
-  getD-first (suc n) [] (suc i) h = refl
-  getD-first (suc n) (a ∷ s) zero h = refl
-  getD-first (suc n) (a ∷ s) (suc i) h = getD-first n s i (le-of-suc-le-suc h)
-
-  -- a count past the items would make one item too many
-  pub first-within : (n : ℕ) (s : List A) → length (firstOf z n s) ≤ length s → n ≤ length s
-  first-within n s h = by (decLe n (length s))
-    where
-      by : Dec (n ≤ length s) → n ≤ length s
-      by (yes p) = p
-      by (no q) = let g : length s + 1 ≤ length s = rw (first-past z n s (omega arith), length-append) at h in absurd (omega arith)
-
-  pub first-some : (n : ℕ) (s : List A) → 0 < length (firstOf z n s) → 0 < n
-  unfolding firstOf
-  first-some zero s h = h
-  first-some (suc n) s h = omega arith
 
 pub getD-pins : (ps : List HeldPin) (i : ℕ) → i < length ps → getD (pinsOf ps) i noPin ≡ pinOf (getD ps i blankPin)
 unfolding pinsOf

@@ -8,8 +8,8 @@ use Rattle.model.specs.declared.Mac.{Mac}
 use Rattle.model.specs.Meaning.{Pin, Net, Chip}
 use Rattle.model.specs.declared.Word.{Word}
 use Rattle.model.specs.declared.Word.the-variants as word
-use Rattle.grammar.specs.Words.{Item}
-use Rattle.chip.specs.Kind.{start, size, dieOf, fixOf, macOf, pinOf, withDie}
+use Rattle.grammar.specs.Words.{Item, size}
+use Rattle.chip.specs.Kind.{start, dieOf, fixOf, macOf, pinOf, withDie}
 use Rattle.chip.specs.Text.{fixItem, macItem, netItem, pinItem, endItem, netItems, chipItems}
 
 -- what lines say: pins before the first net, and a chip

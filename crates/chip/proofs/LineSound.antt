@@ -12,11 +12,11 @@ use borrow.Author.Tests.{leb-true, ltb-true}
 use Rattle.model.specs.Meaning.{blankFix, blankMac}
 use Rattle.model.specs.declared.Word.{Word}
 use Rattle.model.specs.declared.Word.the-variants as word
-use Rattle.grammar.specs.Words.{isWord, isIn}
+use Rattle.grammar.specs.Words.{isWord, isIn, size}
 use Rattle.grammar.specs.Reading.{next}
 use Rattle.grammar.proofs.Among.{is-word-equal}
 use Rattle.grammar.proofs.Items.{no-fault, check-next}
-use Rattle.chip.specs.Kind.{Part, start, followers, room, pinned, pinCount, size, fixInDie, clearOf, fixOf, macOf, netOf, pinOf, add}
+use Rattle.chip.specs.Kind.{Part, start, followers, room, pinned, pinCount, fixInDie, clearOf, fixOf, macOf, netOf, pinOf, add}
 use Rattle.chip.specs.Valid.{Between, ValidFix, ValidMac}
 use Rattle.chip.proofs.LineValues.{Ranges, die-valid, fix-valid, mac-valid, weight-valid, pin-valid}
 use Rattle.chip.proofs.NetsRead.{NetsRead, each-snoc, count-net, count-pin, length-pin, nets-more, net-read, pin-read}

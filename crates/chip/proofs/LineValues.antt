@@ -11,12 +11,12 @@ use Rattle.model.specs.Meaning.{Net}
 use Rattle.model.specs.declared.Word.{Word}
 use Rattle.model.specs.declared.Word.the-variants as word
 use Rattle.grammar.specs.Line.{Rule, got, inRange}
-use Rattle.grammar.specs.Words.{Item, rules}
+use Rattle.grammar.specs.Words.{Item, rules, size}
 use Rattle.grammar.proofs.FieldsText.{ranges, ranged-got}
 use Rattle.grammar.proofs.Items.{Formed, Within}
 use Rattle.grammar.proofs.Lacks.{and-left, and-right}
 use Rattle.grammar.proofs.Values.{heldOf, held-same}
-use Rattle.chip.specs.Kind.{size, fixOf, macOf, pinOf}
+use Rattle.chip.specs.Kind.{fixOf, macOf, pinOf}
 use Rattle.chip.specs.Valid.{Between, ValidFix, ValidMac, ValidPin}
 
 -- each value is in the range of its field

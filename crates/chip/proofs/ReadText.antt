@@ -1,10 +1,12 @@
--- An accepted text is the text of the chip that it was read as: `read-text`, `one-text`.
-use mathlib.Core.Path.{_≡_, refl}
+-- An accepted text is the text of the chip that it was read as: `read-text`, `one-text`. It has at most 16,384 bytes: `too-long`, `accepted-short`.
+use mathlib.Core.Path.{_≡_, refl, ap}
 use mathlib.Core.List.{List}
-use Prim.Native.Nat.{ℕ}
+use Prim.Native.Nat.{ℕ, _≤_, _<_}
+use lib.ListN.{length}
 use Rattle.model.specs.Meaning.{Chip}
 use Rattle.grammar.specs.Reading.{Reading, accepted, refused}
 use Rattle.grammar.proofs.Items.{no-refusal}
+use Rattle.grammar.proofs.Left.{text-too-long}
 use Rattle.grammar.proofs.Meaning as meaning
 use Rattle.chip.specs.Kind.{Part, start, chipKind}
 use Rattle.chip.specs.Text.{chipRead, readChip, chipItems, chipText}
@@ -16,6 +18,15 @@ chip-accepted (refused n l) c e = no-refusal e
 
 pub chip-means : meaning.Means chipKind start chipRead chipItems
 chip-means = record { meaning = λ s. s .chip; back = chip-accepted; run = run-items }
+
+-- a text of more than 16,384 bytes is refused
+pub too-long : (t : List ℕ) → 16384 < length t → refused 1 0 ≡ readChip t
+unfolding readChip
+too-long t h = ap chipRead (text-too-long chipKind start t h)
+
+pub accepted-short : (t : List ℕ) (c : Chip) → readChip t ≡ accepted c → length t ≤ 16384
+unfolding readChip
+accepted-short = meaning.read-short chip-means
 
 pub read-text : (t : List ℕ) (c : Chip) → readChip t ≡ accepted c → t ≡ chipText c
 unfolding readChip chipText

@@ -11,13 +11,13 @@ use lib.ListN.{length, length-append}
 use Rattle.model.specs.Meaning.{Chip}
 use Rattle.model.specs.declared.Word.{Word}
 use Rattle.model.specs.declared.Word.the-variants as word
-use Rattle.grammar.specs.Words.{Item}
+use Rattle.grammar.specs.Words.{Item, size}
 use Rattle.grammar.specs.Reading.{next, accepted}
 use Rattle.grammar.proofs.Every.{Every}
 use Rattle.grammar.proofs.Items.{WellFormed, runItems, check-next}
 use Rattle.grammar.proofs.Values.{heldOf, grows}
 use Rattle.grammar.proofs.Ready.{Stages, Staged, staged-next, staged-on, run-ready}
-use Rattle.chip.specs.Kind.{Part, start, followers, size, fixInDie, clearOf, dieOf, fixOf, macOf, netOf, pinOf, add, chipKind}
+use Rattle.chip.specs.Kind.{Part, start, followers, fixInDie, clearOf, dieOf, fixOf, macOf, netOf, pinOf, add, chipKind}
 use Rattle.chip.specs.Text.{chipItems}
 use Rattle.chip.proofs.Body.{body, nets-kept, body-end, body-pin, body-net, body-mac, body-fix, body-die}
 

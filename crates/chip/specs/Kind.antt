@@ -3,15 +3,15 @@ use Prim.Native.Nat.{ℕ, _+_}
 use mathlib.Core.List.{List, [], _∷_, _++_}
 use mathlib.Core.Bool.{Bool, true, not, _&&_, _||_}
 use lib.Dec.{leb, ltb}
-use lib.ListN.{length, getD}
-use lib.IntN.{ℤ, pos, natAbs}
+use lib.ListN.{length}
+use lib.IntN.{ℤ}
 use Rattle.model.specs.declared.Die.{Die}
 use Rattle.model.specs.declared.Fix.{Fix}
 use Rattle.model.specs.declared.Mac.{Mac}
 use Rattle.model.specs.Meaning.{Pin, Net, Chip}
 use Rattle.model.specs.declared.Word.{Word}
 use Rattle.model.specs.declared.Word.the-variants as word
-use Rattle.grammar.specs.Words.{isWord, isIn, chipWords}
+use Rattle.grammar.specs.Words.{isWord, isIn, chipWords, value, size}
 use Rattle.grammar.specs.Reading.{Kind, Step, next, fault, check}
 
 -- what has been read: the word of the last line (`Nothing` before the first) and the chip so far
@@ -19,6 +19,7 @@ pub record Part : Type 0 where
   pub last : Word
   pub chip : Chip
 
+-- before the first line: no word, and a chip with nothing in it
 abbrev pub start : Part
 start = record { last = word.Nothing; chip = record { die = record { w = 0; h = 0 }; fixes = []; macs = []; nets = [] } }
 
@@ -41,7 +42,7 @@ unfoldable pub pinCount : List Net → ℕ
 pinCount [] = 0
 pinCount (t ∷ ts) = length (t .pins) + pinCount ts
 
--- at most 8 fixes, 8 macros, 32 nets and 128 pins
+-- there is room for one more of the kind: a chip has at most 8 fixes, 8 macros, 32 nets and 128 pins
 abbrev pub room : Chip → Word → Bool
 room c word.Nothing = true
 room c word.Die = true
@@ -55,16 +56,9 @@ room c word.None = true
 room c word.At = true
 room c word.Done = true
 
--- a net has a pin: the line after it is a pin
+-- the net above, if the last line is one, has a pin: this line is a pin
 abbrev pub pinned : Word → Word → Bool
 pinned last w = not (isWord last word.Net) || isWord w word.Pin
-
--- value i of a line
-abbrev pub value : List ℤ → ℕ → ℤ
-value zs i = getD zs i (pos 0)
-
-abbrev pub size : List ℤ → ℕ → ℕ
-size zs i = natAbs (value zs i)
 
 -- a fix lies in the die
 abbrev pub fixInDie : Die → Fix → Bool
@@ -74,17 +68,18 @@ fixInDie d f = leb (f .x + f .w) (d .w) && leb (f .y + f .h) (d .h)
 abbrev pub fixesApart : Fix → Fix → Bool
 fixesApart a b = leb (a .x + a .w) (b .x) || (leb (b .x + b .w) (a .x) || (leb (a .y + a .h) (b .y) || leb (b .y + b .h) (a .y)))
 
--- a fix overlaps none of the earlier ones
+-- the fix f overlaps none of the others
 unfoldable pub clearOf : Fix → List Fix → Bool
 clearOf f [] = true
 clearOf f (g ∷ gs) = fixesApart f g && clearOf f gs
 
--- a pin belongs to the last net
+-- the nets with the pin p put last into the last net
 unfoldable pub addPin : Pin → List Net → List Net
 addPin p [] = []
 addPin p (t ∷ []) = record { weight = t .weight; pins = t .pins ++ (p ∷ []) } ∷ []
 addPin p (t ∷ (u ∷ ts)) = t ∷ addPin p (u ∷ ts)
 
+-- the die, fix, macro, net without pins, and pin with the values zs of its line
 abbrev pub dieOf : List ℤ → Die
 dieOf zs = record { w = size zs 0; h = size zs 1 }
 
@@ -100,6 +95,7 @@ netOf zs = record { weight = size zs 0; pins = [] }
 abbrev pub pinOf : List ℤ → Pin
 pinOf zs = record { m = size zs 0; x = value zs 1; y = value zs 2 }
 
+-- the chip with one more part: its die, or a last fix, macro, net, or pin
 abbrev pub withDie : Chip → Die → Chip
 withDie c d = record { die = d; fixes = c .fixes; macs = c .macs; nets = c .nets }
 
@@ -115,10 +111,11 @@ withNet c t = record { die = c .die; fixes = c .fixes; macs = c .macs; nets = c 
 abbrev pub withPin : Chip → Pin → Chip
 withPin c p = record { die = c .die; fixes = c .fixes; macs = c .macs; nets = addPin p (c .nets) }
 
+-- the chip c has been read, and w is the word of the last line
 abbrev pub after : Word → Chip → Step Part
 after w c = next (record { last = w; chip = c })
 
--- the last tests of a line and what it adds: no such macro 8; fix leaves the die 9; fix overlaps an earlier fix 10
+-- what a line with that word and the values zs adds, and its last tests: no such macro 8; fix leaves the die 9; fix overlaps an earlier fix 10
 abbrev pub add : Part → Word → List ℤ → Step Part
 add s word.Nothing zs = fault 2
 add s word.Die zs = after word.Die (withDie (s .chip) (dieOf zs))

@@ -8,9 +8,11 @@ use Rattle.chip.specs.Kind.{pinCount}
 use Rattle.chip.specs.Text.{readChip, chipText}
 use Rattle.chip.specs.Valid.{pinsBefore, Valid, Fine}
 
+-- the text of the chip is accepted, as the chip that the value means
 abbrev pub Accepted : HeldChip → Type 0
 Accepted c = accepted (chipOf c) ≡ readChip (chipText (chipOf c))
 
+-- the same, with what follows of an accepted chip
 pub record Passed (c : HeldChip) : Type 0 where
   pub read : Accepted c
   pub fine : Fine c

@@ -12,6 +12,7 @@ use Rattle.grammar.specs.Reading.{Reading, accepted, refused, readText}
 use Rattle.grammar.specs.Writing.{Written, writeText}
 use Rattle.chip.specs.Kind.{Part, start, chipKind}
 
+-- the chip that the lines of a text lead to, or their refusal
 abbrev pub chipRead : Reading Part → Reading Chip
 chipRead (accepted s) = accepted (s .chip)
 chipRead (refused n l) = refused n l
@@ -22,6 +23,7 @@ readChip text = chipRead (readText chipKind start text)
 
 -- ---- the lines of a chip
 
+-- the line of a die, a fix, a macro, a pin and a net, and the last line
 abbrev pub dieItem : Die → Item
 dieItem d = record { word = word.Die; values = pos (d .w) ∷ pos (d .h) ∷ [] }
 
@@ -40,10 +42,12 @@ netItem t = record { word = word.Net; values = pos (t .weight) ∷ [] }
 abbrev pub endItem : Item
 endItem = record { word = word.End; values = [] }
 
+-- the lines of nets, each with the lines of its pins
 unfoldable pub netItems : List Net → List Item
 netItems [] = []
 netItems (t ∷ ts) = netItem t ∷ (map pinItem (t .pins) ++ netItems ts)
 
+-- all lines of a chip in the order of the file
 unfoldable pub chipItems : Chip → List Item
 chipItems c = dieItem (c .die) ∷ (map fixItem (c .fixes) ++ (map macItem (c .macs) ++ (netItems (c .nets) ++ (endItem ∷ []))))
 

@@ -14,37 +14,44 @@ use Rattle.model.specs.Meaning.{Pin, Net, Chip, blankFix, blankMac, blankNet, b
 use Rattle.model.specs.Limits.{isWithin, pinPlace}
 use Rattle.chip.specs.Kind.{pinCount}
 
+-- v is from least to most
 pub record Between (least v most : ℕ) : Type 0 where
   pub low : least ≤ v
   pub high : v ≤ most
 
+-- a fix in its ranges
 pub record ValidFix (f : Fix) : Type 0 where
   pub x : f .x ≤ 1023
   pub y : f .y ≤ 1023
   pub w : Between 1 (f .w) 1024
   pub h : Between 1 (f .h) 1024
 
+-- a macro in its range
 pub record ValidMac (m : Mac) : Type 0 where
   pub w : Between 1 (m .w) 1024
   pub h : Between 1 (m .h) 1024
 
--- a pin of a chip with n macros
+-- a pin or a pad of a chip with n macros
 pub record ValidPin (n : ℕ) (p : Pin) : Type 0 where
   pub macro : p .m ≤ n
   pub x : isWithin pinPlace (p .x) ≡ true
   pub y : isWithin pinPlace (p .y) ≡ true
 
+-- the pin that stands for none, past the end of a list
 abbrev pub noPin : Pin
 noPin = record { m = 0; x = pos 0; y = pos 0 }
 
+-- a net of a chip with n macros: its weight in its range, and at least one pin
 pub record ValidNet (n : ℕ) (t : Net) : Type 0 where
   pub weight : Between 1 (t .weight) 1000
   pub some : 0 < length (t .pins)
   pub pin : (i : ℕ) → i < length (t .pins) → ValidPin n (getD (t .pins) i noPin)
 
+-- the net that stands for none, past the end of a list
 abbrev pub noNet : Net
 noNet = record { weight = 0; pins = [] }
 
+-- a chip: its die, its counts, and each of its parts
 pub record Valid (c : Chip) : Type 0 where
   pub dieW : Between 1 (c .die .w) 1024
   pub dieH : Between 1 (c .die .h) 1024
@@ -58,21 +65,24 @@ pub record Valid (c : Chip) : Type 0 where
 
 -- ---- the same of a chip held as a value
 
--- the pins of the first j nets
+-- how many pins the first j nets have
 unfoldable pub pinsBefore : ℕ → List HeldNet → ℕ
 pinsBefore zero ts = 0
 pinsBefore (suc j) [] = 0
 pinsBefore (suc j) (t ∷ ts) = t .pins + pinsBefore j ts
 
+-- a net held as a value
 pub record FineNet (t : HeldNet) : Type 0 where
   pub weight : Between 1 (t .weight) 1000
   pub some : 0 < t .pins
 
+-- a pin held as a value, of a chip with n macros: x and y are held 4,096 higher
 pub record FinePin (n : ℕ) (p : HeldPin) : Type 0 where
   pub macro : p .m ≤ n
   pub x : p .xup ≤ 8192
   pub y : p .yup ≤ 8192
 
+-- a chip held as a value: its die, its counts, and each of its parts
 pub record Fine (c : HeldChip) : Type 0 where
   pub dieW : Between 1 (c .die .w) 1024
   pub dieH : Between 1 (c .die .h) 1024

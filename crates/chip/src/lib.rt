@@ -7,7 +7,7 @@ ghost use lib.ListN.{take};
 ghost use lib.Dec.{leb};
 ghost use Rattle.chip.specs.Kind.{fixInDie, fixesApart, clearOf};
 
-// Whether a + size is at most end, for all numbers.
+// Whether a + size is at most end, also where that sum is too large to be held.
 fn ends_by(a: u64, size: u64, end: u64) -> bool
     ensures { λ r. ⌜ r ≡ leb (a + size) end ⌝ }
 {
@@ -17,7 +17,7 @@ fn ends_by(a: u64, size: u64, end: u64) -> bool
     size <= end - a
 }
 
-// A fix lies in the die.
+// Whether a fix lies in the die.
 pub fn fix_in_die(d: Die, f: Fix) -> bool
     ensures { λ r. ⌜ r ≡ fixInDie d f ⌝ }
 {
@@ -27,7 +27,7 @@ pub fn fix_in_die(d: Die, f: Fix) -> bool
     ends_by(f.y, f.h, d.h)
 }
 
-// One fix is left of, right of, below or above the other.
+// Whether one fix is left of, right of, below or above the other.
 fn fixes_apart(a: Fix, b: Fix) -> bool
     ensures { λ r. ⌜ r ≡ fixesApart a b ⌝ }
 {
@@ -43,7 +43,7 @@ fn fixes_apart(a: Fix, b: Fix) -> bool
     ends_by(b.y, b.h, a.y)
 }
 
-// A fix overlaps none of the first k fixes.
+// Whether a fix overlaps none of the first k fixes.
 pub fn clear_of_fixes(f: Fix, fixes: [Fix; 8], k: usize) -> bool
     ensures { λ r. ⌜ r ≡ clearOf f (take k fixes) ⌝ }
 {

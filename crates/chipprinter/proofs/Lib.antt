@@ -1,4 +1,3 @@
-pub mod Counted
 pub mod Printed
 pub mod Pins
 pub mod Nets

@@ -15,9 +15,9 @@ use Rattle.model.specs.Meaning.{Net, firstOf, blankNet, blankPin, pinsOf, netsO
 use Rattle.model.proofs.Nets.{taken, taken-snoc, nets-snoc}
 use Rattle.grammar.specs.Words.{Item, itemText, itemsText}
 use Rattle.chip.specs.Text.{pinItem, netItem, netItems}
-use Rattle.chipprinter.specs.Shown.{shownOf}
-use Rattle.chipprinter.proofs.Counted.{take-more, take-every}
-use Rattle.chipprinter.proofs.Printed.{items-none, items-then, then-line}
+use Rattle.linewriter.specs.Shown.{shownOf}
+use Rattle.linewriter.proofs.Counted.{take-more, take-every}
+use Rattle.linewriter.proofs.Items.{items-none, items-then, then-line}
 
 pub net-items-snoc : (ts : List Net) (t : Net) → netItems (ts ++ (t ∷ [])) ≡ netItems ts ++ (netItem t ∷ []) ++ map pinItem (t .pins)
 unfolding netItems

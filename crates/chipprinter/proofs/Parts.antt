@@ -8,7 +8,7 @@ use Rattle.model.specs.Meaning.{firstOf, blankFix, blankMac, blankNet, netsOf, 
 use Rattle.grammar.specs.Words.{Item, itemText, itemsText}
 use Rattle.chip.specs.Text.{dieItem, fixItem, macItem, netItems, endItem, chipItems, chipText}
 use Rattle.chipprinter.specs.Parts.{blockItems}
-use Rattle.chipprinter.proofs.Printed.{items-one, items-then, then-line}
+use Rattle.linewriter.proofs.Items.{items-one, items-then, then-line}
 
 module _ (c : HeldChip) (b m o a : List ℕ) (at i j r : ℕ) (h : length b < 2 ^ 64) where
   pub blocks-written : Wrote b m (itemText (dieItem (c .die))) at i → Wrote m o (itemsText (map fixItem (firstOf blankFix (c .k) (c .fixes)))) i j → Wrote o a (itemsText (map macItem (firstOf blankMac (c .n) (c .macs)))) j r → Wrote b a (itemsText (blockItems (chipOf c))) at r

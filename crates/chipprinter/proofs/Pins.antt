@@ -9,7 +9,7 @@ use Rattle.model.specs.declared.Pin.{Pin as HeldPin}
 use Rattle.model.specs.Meaning.{firstOf, blankPin, pinOf, pinsOf}
 use Rattle.grammar.specs.Words.{Item, itemText, itemsText}
 use Rattle.chip.specs.Text.{pinItem}
-use Rattle.chipprinter.specs.Shown.{shownOf}
+use Rattle.linewriter.specs.Shown.{shownOf}
 use Rattle.chipprinter.proofs.Printed.{line-more, lines-all}
 
 -- the line of a pin as it is held

@@ -1,4 +1,4 @@
-// The text of a chip, into a lent buffer.
+// Writing the text of a chip into a lent buffer.
 use model::Chip;
 use model::Fix;
 use model::Mac;
@@ -13,21 +13,9 @@ ghost use Rattle.decimal.specs.Held.{Wrote};
 ghost use Rattle.model.specs.Meaning.{firstOf, blankFix, blankMac, blankNet, blankPin, pinsOf, netsOf, chipOf};
 ghost use Rattle.grammar.specs.Words.{itemsText};
 ghost use Rattle.chip.specs.Text.{fixItem, macItem, pinItem, netItems, chipText};
-ghost use Rattle.chipprinter.specs.Shown.{shownOf};
 ghost use Rattle.chipprinter.specs.Parts.{blockItems};
 
-// How many items a count stands for: one too many where it is past the last.
-fn shown(count: usize, capacity: usize) -> usize
-    requires { ⌜ capacity ≤ 128 ⌝ }
-    ensures { λ r. ⌜ r ≡ shownOf count capacity ⌝ }
-{
-    if count <= capacity {
-        count
-    } else {
-        capacity + 1
-    }
-}
-
+// Fix i of the array, or a blank one past its end.
 fn fix_at(fixes: [Fix; 8], i: usize) -> Fix
     ensures { λ r. ⌜ r ≡ getD fixes i blankFix ⌝ }
 {
@@ -42,10 +30,11 @@ fn fix_at(fixes: [Fix; 8], i: usize) -> Fix
     }
 }
 
+// Writes the lines of the fixes that the count k means from `at` on, as far as the buffer goes, and answers the place after them.
 fn put_fixes(out: &mut [u8], at: usize, fixes: [Fix; 8], k: usize) -> usize
     ensures { λ r. ⌜ Wrote (now (out .entry)) (now (out .exit)) (itemsText (map fixItem (firstOf blankFix k fixes))) at r ⌝ }
 {
-    let n = shown(k, 8);
+    let n = linewriter::shown(k, 8);
     let mut a = at;
     let mut i: usize = 0;
     while i < n {
@@ -56,6 +45,7 @@ fn put_fixes(out: &mut [u8], at: usize, fixes: [Fix; 8], k: usize) -> usize
     a
 }
 
+// Macro i of the array, or a blank one past its end.
 fn mac_at(macs: [Mac; 8], i: usize) -> Mac
     ensures { λ r. ⌜ r ≡ getD macs i blankMac ⌝ }
 {
@@ -65,10 +55,11 @@ fn mac_at(macs: [Mac; 8], i: usize) -> Mac
     Mac { w: 0, h: 0 }
 }
 
+// The same for the lines of the macros.
 fn put_macs(out: &mut [u8], at: usize, macs: [Mac; 8], k: usize) -> usize
     ensures { λ r. ⌜ Wrote (now (out .entry)) (now (out .exit)) (itemsText (map macItem (firstOf blankMac k macs))) at r ⌝ }
 {
-    let n = shown(k, 8);
+    let n = linewriter::shown(k, 8);
     let mut a = at;
     let mut i: usize = 0;
     while i < n {
@@ -79,6 +70,7 @@ fn put_macs(out: &mut [u8], at: usize, macs: [Mac; 8], k: usize) -> usize
     a
 }
 
+// Pin i of the array, or a blank one past its end.
 fn pin_at(pins: [Pin; 128], i: usize) -> Pin
     ensures { λ r. ⌜ r ≡ getD pins i blankPin ⌝ }
 {
@@ -92,12 +84,12 @@ fn pin_at(pins: [Pin; 128], i: usize) -> Pin
     }
 }
 
-// The pins of a net, `count` of them from q on.
+// The same for the lines of the pins of a net, `count` of them from pin q on.
 fn put_pins(out: &mut [u8], at: usize, pins: [Pin; 128], q: usize, count: usize) -> usize
     requires { ⌜ q ≤ 128 ⌝ }
     ensures { λ r. ⌜ Wrote (now (out .entry)) (now (out .exit)) (itemsText (map pinItem (pinsOf (firstOf blankPin count (drop q pins))))) at r ⌝ }
 {
-    let n = shown(count, 128 - q);
+    let n = linewriter::shown(count, 128 - q);
     let mut a = at;
     let mut i: usize = 0;
     while i < n {
@@ -109,6 +101,7 @@ fn put_pins(out: &mut [u8], at: usize, pins: [Pin; 128], q: usize, count: usize)
     a
 }
 
+// Net i of the array, or a blank one past its end.
 fn net_at(nets: [Net; 32], i: usize) -> Net
     ensures { λ r. ⌜ r ≡ getD nets i blankNet ⌝ }
 {
@@ -118,10 +111,11 @@ fn net_at(nets: [Net; 32], i: usize) -> Net
     Net { weight: 0, pins: 0 }
 }
 
+// The same for the lines of the nets, each with its pins.
 fn put_nets(out: &mut [u8], at: usize, nets: [Net; 32], t: usize, pins: [Pin; 128]) -> usize
     ensures { λ r. ⌜ Wrote (now (out .entry)) (now (out .exit)) (itemsText (netItems (netsOf (firstOf blankNet t nets) pins))) at r ⌝ }
 {
-    let n = shown(t, 32);
+    let n = linewriter::shown(t, 32);
     let mut a = at;
     let mut q: usize = 0;
     let mut j: usize = 0;
@@ -136,7 +130,7 @@ fn put_nets(out: &mut [u8], at: usize, nets: [Net; 32], t: usize, pins: [Pin; 12
     a
 }
 
-// The place of the next net's pins.
+// The pin after `count` pins from pin q on, where the next net's pins begin; 128 past the end of the array.
 fn past(q: usize, count: usize) -> usize
     requires { ⌜ q ≤ 128 ⌝ }
     ensures { λ r. ⌜ r ≡ min (q + count) 128 ⌝ }
@@ -144,7 +138,7 @@ fn past(q: usize, count: usize) -> usize
     if count <= 128 - q { q + count } else { 128 }
 }
 
-// The lines before the nets: die, fixes, macros.
+// The same for the lines before the nets: die, fixes, macros.
 fn put_blocks(out: &mut [u8], at: usize, c: Chip) -> usize
     ensures { λ r. ⌜ Wrote (now (out .entry)) (now (out .exit)) (itemsText (blockItems (chipOf c))) at r ⌝ }
 {

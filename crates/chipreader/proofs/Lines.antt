@@ -12,13 +12,14 @@ use Rattle.model.specs.Meaning.{Chip, chipOf, firstOf, netsOf}
 use Rattle.model.proofs.Nets.{taken}
 use Rattle.grammar.specs.Words.{rank}
 use Rattle.grammar.specs.Reading.{Reading, refused, stepBytes, stepLine, ending}
-use Rattle.grammar.specs.Steps.{LineEnd, lineAt}
+use Rattle.grammar.specs.Steps.{lineEnd, lineAt}
 use Rattle.grammar.proofs.LineAt.{step-open, step-ended}
-use Rattle.grammar.proofs.Left.{Left, text-too-long, text-left, text-fails, text-goes-on, text-ends}
+use Rattle.grammar.proofs.Left.{Left, text-left, text-fails, text-goes-on, text-ends}
 use Rattle.chip.specs.Kind.{start, chipKind}
+use Rattle.chip.proofs.ReadText.{too-long}
 use Rattle.chip.specs.Text.{chipRead, readChip}
 use Rattle.chipreader.specs.declared.State.{State}
-use Rattle.chipreader.specs.declared.Fault.the-variants as held
+use Rattle.line.specs.declared.Fault.the-variants as held
 use Rattle.chipreader.specs.declared.Taken.{Taken}
 use Rattle.chipreader.specs.declared.ChipAnswer.the-variants as answer
 use Rattle.chipreader.specs.declared.ChipRead.{ChipRead}
@@ -30,9 +31,8 @@ refuses r n l read q e = rw e (record { meant = q; blank = refl })
 
 -- ---- before the first line
 
-pub too-long : (text : List ℕ) → 16384 < length text → refused 1 0 ≡ readChip text
-unfolding readChip
-too-long text h = ap chipRead (text-too-long chipKind start text h)
+pub too-long-read : (text : List ℕ) → 16384 < length text → (r : ChipRead) → r ≡ refusedAt 1 0 → ReadOk (readChip text) r
+too-long-read text h r e = refuses r 1 0 (readChip text) (too-long text h) e
 
 abbrev empty : HeldChip → State
 empty c = record { last = word.Nothing; pins = 0; chip = c }
@@ -57,7 +57,7 @@ module _ (c : HeldChip) (e : c ≡ blankChip) where
 
 -- ---- a line
 
-module _ (text : List ℕ) (a z : ℕ) (end : LineEnd text a z) (s : State) (t : Taken) where
+module _ (text : List ℕ) (a z : ℕ) (end : z ≡ lineEnd text a) (s : State) (t : Taken) where
   pub no-feed : Sound s → z ≡ length text → t ≡ withFault s 2 → TakenOk t (stepLine chipKind (partOf s) (lineAt text a z))
   no-feed sound q e = rw e (record { meant = step-open text a z end chipKind (partOf s) q; sound = sound })
 

@@ -21,7 +21,7 @@ use Rattle.grammar.specs.Steps.{Entered}
 use Rattle.line.specs.Held.{valuesOf}
 use Rattle.chip.specs.Kind.{Part, chipKind, add, addPin, after, withPin}
 use Rattle.chipreader.specs.declared.State.{State}
-use Rattle.chipreader.specs.declared.Fault.the-variants as held
+use Rattle.line.specs.declared.Fault.the-variants as held
 use Rattle.chipreader.specs.declared.Taken.{Taken}
 use Rattle.chipreader.specs.State.{Sound, partOf, withFault, TakenOk}
 use Rattle.chipreader.proofs.Values.{heldPin, pin-values}

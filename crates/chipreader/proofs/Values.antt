@@ -10,8 +10,9 @@ use Rattle.model.specs.declared.Mac.{Mac}
 use Rattle.model.specs.declared.Pin.{Pin as HeldPin}
 use Rattle.model.specs.declared.Word.the-variants as word
 use Rattle.model.specs.Meaning.{pinOf}
+use Rattle.grammar.specs.Words.{size}
 use Rattle.line.specs.Held.{loweredAll, valuesOf}
-use Rattle.chip.specs.Kind.{size, dieOf, fixOf, macOf, pinOf as pinIn}
+use Rattle.chip.specs.Kind.{dieOf, fixOf, macOf, pinOf as pinIn}
 
 pub by-four : (P : List ℕ → Type 0) → ((a b c d : ℕ) → P (a ∷ b ∷ c ∷ d ∷ [])) → (v : List ℕ) → length v ≡ 4 → P v
 by-four P h [] e = absurd (omega arith)

@@ -27,14 +27,16 @@ abbrev pub meant : ChipAnswer → HeldChip → Reading Chip
 meant answer.Accepted c = accepted (chipOf c)
 meant (answer.Refused f) c = refused (f .no) (f .line)
 
+-- the same, of the answer and the chip as one
 abbrev pub meantChip : ChipRead → Reading Chip
 meantChip r = meant (r .answer) (r .chip)
 
--- the chip that a refusal leaves
+-- the chip after a refusal; where there is none, a blank one
 abbrev pub afterRefusal : ChipAnswer → HeldChip → HeldChip
 afterRefusal answer.Accepted c = blankChip
 afterRefusal (answer.Refused f) c = c
 
+-- refusal n at line l, with a blank chip
 abbrev pub refusedAt : ℕ → ℕ → ChipRead
 refusedAt n l = record { answer = answer.Refused (record { no = n; line = l }); chip = blankChip }
 

@@ -12,12 +12,13 @@ use Rattle.model.specs.Meaning.{chipOf, firstOf, blankNet}
 use Rattle.model.proofs.Nets.{taken}
 use Rattle.grammar.specs.Words.{isWord}
 use Rattle.grammar.specs.Reading.{Step, next, fault as faulty}
+use Rattle.line.specs.declared.Fault.{Fault}
+use Rattle.line.specs.declared.Fault.the-variants as fault
 use Rattle.chip.specs.Kind.{Part}
 use Rattle.chipreader.specs.declared.State.{State}
-use Rattle.chipreader.specs.declared.Fault.{Fault}
-use Rattle.chipreader.specs.declared.Fault.the-variants as fault
 use Rattle.chipreader.specs.declared.Taken.{Taken}
 
+-- what has been read, as the rules of the chip file say it
 abbrev pub partOf : State → Part
 partOf s = record { last = s .last; chip = chipOf (s .chip) }
 
@@ -35,27 +36,31 @@ pub record Sound (s : State) : Type 0 where
   pub counted : taken (firstOf blankNet (s .chip .t) (s .chip .nets)) ≡ s .pins
   pub opened : (isWord (s .last) word.Net || isWord (s .last) word.Pin) ≡ true → 1 ≤ s .chip .t
 
--- by the rank of a word, the least and the greatest rank of the words after which it may stand
+-- by the rank of a word, the least and the greatest rank of the words after which it may stand (1 and 0: it may stand after none)
 abbrev pub leastLast : List ℕ
 leastLast = 1 ∷ 0 ∷ 1 ∷ 1 ∷ 1 ∷ 4 ∷ 1 ∷ 1 ∷ 1 ∷ 1 ∷ 1 ∷ []
 
 abbrev pub mostLast : List ℕ
 mostLast = 0 ∷ 0 ∷ 2 ∷ 3 ∷ 5 ∷ 5 ∷ 5 ∷ 0 ∷ 0 ∷ 0 ∷ 0 ∷ []
 
+-- a word of rank b may stand after one of rank a
 abbrev pub mayFollow : ℕ → ℕ → Bool
 mayFollow a b = leb (getD leastLast b 0) a && leb a (getD mostLast b 0)
 
+-- what a line leads to, by its fault
 abbrev pub stepOf : Fault → State → Step Part
 stepOf fault.Clear s = next (partOf s)
 stepOf (fault.No n) s = faulty n
 
+-- fault n, and what was read before
 abbrev pub withFault : State → ℕ → Taken
 withFault s n = record { fault = fault.No n; state = s }
 
+-- no fault: w is the word of the last line, and c the chip so far
 abbrev pub withChip : State → Word → Chip → Taken
 withChip s w c = record { fault = fault.Clear; state = record { last = w; pins = s .pins; chip = c } }
 
--- t is what the step means, and what is held is sound
+-- t means the step, and what has been read is sound
 pub record TakenOk (t : Taken) (step : Step Part) : Type 0 where
   pub meant : stepOf (t .fault) (t .state) ≡ step
   pub sound : Sound (t .state)

@@ -1,4 +1,5 @@
 // Reading a chip from its text.
+use line::Fault;
 use line::Fields;
 use model::Chip;
 use model::Die;
@@ -15,7 +16,7 @@ ghost use lib.ListN.{length};
 ghost use Rattle.grammar.specs.Words.{rules};
 ghost use Rattle.grammar.specs.Line.{fields};
 ghost use Rattle.grammar.specs.Reading.{stepBytes, stepFields, stepLine, ending};
-ghost use Rattle.grammar.specs.Steps.{entryFault, Entered, LineEnd, lineAt};
+ghost use Rattle.grammar.specs.Steps.{entryFault, Entered, lineEnd, lineAt};
 ghost use Rattle.line.specs.Held.{valuesOf};
 ghost use Rattle.chip.specs.Kind.{room, add, chipKind};
 ghost use Rattle.chip.specs.Text.{chipRead, readChip};
@@ -39,12 +40,6 @@ pub(crate) struct State {
     pub last: Word,
     pub pins: usize,
     pub chip: Chip,
-}
-
-// The fault of a line, if any.
-pub(crate) enum Fault {
-    Clear,
-    No(usize),
 }
 
 // What a line leads to: its fault, or what has been read with it.
@@ -78,17 +73,14 @@ fn blank_chip() -> Chip
     }
 }
 
-// Place: whether a word of rank b may stand after one of rank a. It may after the words from rank least[b] to rank most[b].
+// Place: whether a word of rank b may stand after one of rank a: it may where a is from least[b] to most[b].
 fn may_follow(a: usize, b: usize) -> bool
     requires { ⌜ b < 11 ⌝ }
     ensures { λ r. ⌜ r ≡ mayFollow a b ⌝ }
 {
     let least = [1, 0, 1, 1, 1, 4, 1, 1, 1, 1, 1];
     let most = [0, 0, 2, 3, 5, 5, 5, 0, 0, 0, 0];
-    if a < least[b] {
-        return false;
-    }
-    a <= most[b]
+    model::within(a as u64, least[b], most[b])
 }
 
 // Count: whether there is room for one more of the kind.
@@ -111,7 +103,7 @@ fn has_room(s: State, w: Word) -> bool
     }
 }
 
-// The first fault before the fields: word 2, place 5, count 6, net without a pin 7; or 0.
+// The first fault of a line before its fields: word 2, place 5, count 6, net without a pin 7; or 0.
 fn entry_fault(s: State, w: Word) -> usize
     requires { ⌜ Sound s ⌝ }
     ensures { λ r. ⌜ r ≡ entryFault chipKind (partOf s) w ⌝ }
@@ -160,7 +152,7 @@ fn with_chip(s: State, w: Word, chip: Chip) -> Taken
     }
 }
 
-// The die.
+// What a `die` line adds: the die.
 fn add_die(s: State, v: [u64; 4]) -> Taken
     requires { ⌜ Sound s ⌝ }
     ensures { λ r. ⌜ TakenOk r (add (partOf s) Word.Die (valuesOf Word.Die v)) ⌝ }
@@ -171,7 +163,7 @@ fn add_die(s: State, v: [u64; 4]) -> Taken
     with_chip(s, Word::Die, chip)
 }
 
-// A fix: fix leaves the die 9; fix overlaps an earlier fix 10.
+// What a `fix` line adds: a last fix. Fix leaves the die 9; fix overlaps an earlier fix 10.
 fn add_fix(s: State, v: [u64; 4]) -> Taken
     requires { ⌜ Sound s ⌝ }
     requires { ⌜ Entered chipKind (partOf s) Word.Fix ⌝ }
@@ -197,7 +189,7 @@ fn add_fix(s: State, v: [u64; 4]) -> Taken
     with_chip(s, Word::Fix, chip)
 }
 
-// A macro.
+// What a `mac` line adds: a last macro.
 fn add_mac(s: State, v: [u64; 4]) -> Taken
     requires { ⌜ Sound s ⌝ }
     requires { ⌜ Entered chipKind (partOf s) Word.Mac ⌝ }
@@ -210,7 +202,7 @@ fn add_mac(s: State, v: [u64; 4]) -> Taken
     with_chip(s, Word::Mac, chip)
 }
 
-// A net that has no pin yet.
+// What a `net` line adds: a last net, without pins.
 fn add_net(s: State, v: [u64; 4]) -> Taken
     requires { ⌜ Sound s ⌝ }
     requires { ⌜ Entered chipKind (partOf s) Word.Net ⌝ }
@@ -226,7 +218,7 @@ fn add_net(s: State, v: [u64; 4]) -> Taken
     with_chip(s, Word::Net, chip)
 }
 
-// A pin of the last net: no such macro 8.
+// What a `pin` line adds: a last pin of the last net. No such macro 8.
 fn add_pin(s: State, v: [u64; 4]) -> Taken
     requires { ⌜ Sound s ⌝ }
     requires { ⌜ Entered chipKind (partOf s) Word.Pin ⌝ }
@@ -259,7 +251,7 @@ fn add_pin(s: State, v: [u64; 4]) -> Taken
     }
 }
 
-// What a line whose fields are read adds.
+// What a line with the word w and the values v adds, or its fault.
 fn add_item(s: State, w: Word, v: [u64; 4]) -> Taken
     requires { ⌜ Sound s ⌝ }
     requires { ⌜ Entered chipKind (partOf s) w ⌝ }
@@ -280,7 +272,7 @@ fn add_item(s: State, w: Word, v: [u64; 4]) -> Taken
     }
 }
 
-// What a line leads to whose word passes, by the bytes after the word.
+// What a line leads to whose word passes the tests before the fields, by the bytes after the word.
 fn take_fields(rest: &[u8], s: State, w: Word, line: usize) -> Taken
     requires { ⌜ Sound s ⌝ }
     requires { ⌜ Entered chipKind (partOf s) w ⌝ }
@@ -295,7 +287,7 @@ fn take_fields(rest: &[u8], s: State, w: Word, line: usize) -> Taken
     }
 }
 
-// What a line with these bytes leads to, if it has its LF.
+// What a line with these bytes leads to, where it has its LF.
 fn take_line(bytes: &[u8], s: State, line: usize) -> Taken
     requires { ⌜ Sound s ⌝ }
     ensures { λ r. ⌜ TakenOk r (stepBytes chipKind (partOf s) (now (bytes .entry))) ⌝ }
@@ -309,19 +301,11 @@ fn take_line(bytes: &[u8], s: State, line: usize) -> Taken
     take_fields(&bytes[b..], s, w, line)
 }
 
-// The place of the first LF from a on, or the end of the text.
-fn line_end(text: &[u8], a: usize) -> usize
-    requires { ⌜ a ≤ length (now text) ⌝ }
-    ensures { λ r. ⌜ LineEnd (now (text .entry)) a r ⌝ }
-{
-    a + line::bytes_before(&text[a..], 10)
-}
-
 // What the line text[a..e] leads to: missing LF 2.
 fn next_line(text: &[u8], a: usize, e: usize, s: State, line: usize) -> Taken
     requires { ⌜ Sound s ⌝ }
     requires { ⌜ a ≤ length (now text) ⌝ }
-    requires { ⌜ LineEnd (now text) a e ⌝ }
+    requires { ⌜ e ≡ lineEnd (now text) a ⌝ }
     ensures { λ r. ⌜ TakenOk r (stepLine chipKind (partOf s) (lineAt (now (text .entry)) a e)) ⌝ }
 {
     if e == text.len() {
@@ -368,7 +352,7 @@ fn read_lines(text: &[u8]) -> ChipRead
     let mut a: usize = 0;
     let mut line: usize = 1;
     while a < text.len() {
-        let e = line_end(text, a);
+        let e = line::line_end(text, a);
         let taken = next_line(text, a, e, s, line);
         let fault = taken.fault;
         s = taken.state;

@@ -3,39 +3,27 @@ use mathlib.Core.Path.{_≡_, sym, ap, _∙_}
 use mathlib.Core.List.{List, [], _∷_}
 use Prim.{tt}
 use Prim.Native.Nat.{ℕ, _≤_, _<_}
-use native.Mathlib.Decide.{decLe}
 use native.Mathlib.Omega.{arith}
 use lib.ListN.{length}
-use borrow.Author.Tests.{lt-leb}
 use Rattle.model.specs.declared.Refusal.{Refusal}
 use Rattle.model.specs.declared.Tested.{Tested}
 use Rattle.model.specs.declared.Tested.the-variants as tested
 use Rattle.model.specs.declared.Chip.{Chip as HeldChip}
 use Rattle.model.specs.Meaning.{Chip, chipOf}
 use Rattle.decimal.specs.Held.{Wrote}
-use Rattle.grammar.specs.Reading.{accepted, refused, readText}
+use Rattle.grammar.specs.Reading.{accepted, refused}
 use Rattle.grammar.proofs.Every.{Every, every-append}
-use Rattle.grammar.proofs.Items.{Within, runItems, no-refusal}
+use Rattle.grammar.proofs.Items.{Within, runItems}
 use Rattle.grammar.proofs.Run.{run-keeps}
 use Rattle.chip.specs.Kind.{Part, start, chipKind}
 use Rattle.chip.specs.Text.{chipRead, readChip, chipItems, chipText}
 use Rattle.chip.proofs.ItemsRun.{items-formed, chip-run}
+use Rattle.chip.proofs.ReadText.{too-long}
 use Rattle.chip.proofs.TextRead.{text-read}
 use Rattle.chipwriter.specs.Tests.{ItemsAnswer}
 use Rattle.chipwriter.proofs.ChipRun.{items-accepted, items-refused}
 use Rattle.chipwriter.proofs.Lengths.{items-short}
 use Rattle.chipwriter.proofs.Counts.{few-items}
-
-text-long : (t : List ℕ) → 16384 < length t → refused 1 0 ≡ readChip t
-unfolding readChip readText
-text-long t h = rw (lt-leb (length t) 16384 h)
-
-pub accepted-short : (t : List ℕ) (c : Chip) → accepted c ≡ readChip t → length t ≤ 16384
-accepted-short t c e = by (decLe (length t) 16384)
-  where
-    by : Dec (length t ≤ 16384) → length t ≤ 16384
-    by (yes h) = h
-    by (no h) = no-refusal (text-long t (omega arith) ∙ sym e)
 
 -- the values of an accepted chip are in range
 all-within : (c : Chip) (s : Part) → runItems chipKind start 1 (chipItems c) ≡ accepted s → Every Within (chipItems c)
@@ -44,7 +32,7 @@ all-within c s e = run-keeps chipKind (λ t js. Every Within js) (λ t u js i f 
 module _ (c : HeldChip) where
   module _ (b m : List ℕ) (n : ℕ) (w : Wrote b m (chipText (chipOf c)) 0 n) where
     pub long-read : 16384 < n → refused 1 0 ≡ readChip (chipText (chipOf c))
-    long-read h = text-long (chipText (chipOf c)) (omega arith)
+    long-read h = too-long (chipText (chipOf c)) (omega arith)
 
     pub refused-read : (r : Tested) → ItemsAnswer c r → (f : Refusal) → r ≡ tested.Refused f → n ≤ 16384 → refused (f .no) (f .line) ≡ readChip (chipText (chipOf c))
     refused-read r a f p h = sym (chip-run (chipOf c) (omega arith) ∙ ap chipRead (items-refused c r a f p))

@@ -12,14 +12,8 @@ use borrow.Author.Tests.{le-leb, lt-leb, lt-ltb, le-ltb, not-true, not-false}
 use Rattle.model.specs.declared.Net.{Net as HeldNet}
 use Rattle.model.specs.Meaning.{blankNet}
 use Rattle.grammar.specs.Line.{field, inRange}
-use Rattle.chipwriter.specs.Tests.{need, bareBefore}
-
-module _ (v least most : ℕ) where
-  pub too-low : v < least → false ≡ (leb least v && leb v most)
-  too-low h = rw (lt-leb least v h)
-
-  pub not-low : least ≤ v → leb v most ≡ (leb least v && leb v most)
-  not-low h = rw (le-leb least v h)
+use Rattle.grammar.specs.Steps.{need}
+use Rattle.chipwriter.specs.Tests.{bareBefore}
 
 pub last-test : (p r : Bool) → r ≡ p → r ≡ (p && true)
 last-test p r e = e ∙ sym (and-true p)

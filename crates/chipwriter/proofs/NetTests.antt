@@ -16,7 +16,8 @@ use Rattle.model.specs.declared.Tested.the-variants as tested
 use Rattle.model.specs.declared.Net.{Net as HeldNet}
 use Rattle.model.specs.declared.Pin.{Pin as HeldPin}
 use Rattle.model.specs.Meaning.{blankNet}
-use Rattle.chipwriter.specs.Tests.{need, bareBefore, netFault, pinFault, onFault, thenTested, pinsTested, netTested, netsTested}
+use Rattle.grammar.specs.Steps.{need}
+use Rattle.chipwriter.specs.Tests.{bareBefore, netFault, pinFault, onFault, thenTested, pinsTested, netTested, netsTested}
 use Rattle.chipwriter.proofs.Tests.{refused-at, passed-fault, in-count, one-more, within-count}
 
 module _ (ts : List HeldNet) (ps : List HeldPin) (n line q j : ℕ) where

@@ -20,9 +20,10 @@ use Rattle.model.specs.Meaning.{Pin, Net, blankFix, blankMac, blankNet, blankPi
 use Rattle.grammar.specs.Words.{isWord, isIn}
 use Rattle.grammar.proofs.Every.{Every}
 use Rattle.grammar.proofs.Items.{itemStep}
+use Rattle.grammar.specs.Steps.{need}
 use Rattle.chip.specs.Kind.{Part, start, followers, pinCount, fixInDie, clearOf, addPin, chipKind}
 use Rattle.chip.specs.Text.{dieItem, fixItem, macItem, pinItem, endItem}
-use Rattle.chipwriter.specs.Tests.{dieFault, fixFault, macFault, bareBefore, weightItem, netFault, pinFault, need}
+use Rattle.chipwriter.specs.Tests.{dieFault, fixFault, macFault, bareBefore, weightItem, netFault, pinFault}
 use Rattle.chipwriter.proofs.Steps.{Steps, goes, steps-check, item-steps}
 
 -- the words ws may be next

@@ -9,7 +9,8 @@ use lib.Dec.{ltb}
 use borrow.Author.Tests.{le-ltb}
 use Rattle.model.specs.declared.Tested.{Tested}
 use Rattle.model.specs.declared.Tested.the-variants as tested
-use Rattle.chipwriter.specs.Tests.{need, onFault, tests}
+use Rattle.grammar.specs.Steps.{need}
+use Rattle.chipwriter.specs.Tests.{onFault, tests}
 
 pub refused-at : (a line : ℕ) (more : Tested) → (a ≡ 0 → ⊥) → tested.Refused (record { no = a; line = line }) ≡ onFault a line more
 refused-at zero line more h = absurd (h refl)

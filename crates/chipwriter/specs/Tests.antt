@@ -18,6 +18,7 @@ use Rattle.model.specs.declared.Word.the-variants as word
 use Rattle.model.specs.Meaning.{blankFix, blankMac, blankNet, blankPin, pinOf}
 use Rattle.grammar.specs.Line.{Rule, field, inRange}
 use Rattle.grammar.specs.Words.{byW, byH, rules, Item}
+use Rattle.grammar.specs.Steps.{need}
 use Rattle.chip.specs.Kind.{fixInDie, clearOf}
 use Rattle.chip.specs.Text.{dieItem, fixItem, macItem, pinItem}
 
@@ -27,22 +28,21 @@ inRanges [] zs = true
 inRanges (r ∷ rs) [] = true
 inRanges (r ∷ rs) (z ∷ zs) = inRange r z && inRanges rs zs
 
+-- the fields w and h with sides from least to most
 abbrev pub sideRules : ℕ → ℕ → List Rule
 sideRules least most = field byW (pos least) (pos most) ∷ field byH (pos least) (pos most) ∷ []
 
+-- every value of a line is in the range of its field
 abbrev pub inLimits : Item → Bool
 inLimits i = inRanges (rules (i .word)) (i .values)
 
--- ---- the first fault of an item
+-- ---- the number of an item's first fault, or 0
 
--- a test, the number where it fails, and the tests after it
-abbrev pub need : Bool → ℕ → ℕ → ℕ
-need true n more = more
-need false n more = n
-
+-- the die: range 4
 abbrev pub dieFault : Die → ℕ
 dieFault d = need (inLimits (dieItem d)) 4 0
 
+-- fix i: count 6, range 4, leaves the die 9, overlaps an earlier fix 10
 abbrev pub fixFault : Die → List Fix → ℕ → ℕ
 fixFault d fs i =
     need (ltb i 8) 6
@@ -50,6 +50,7 @@ fixFault d fs i =
     (need (fixInDie d (getD fs i blankFix)) 9
     (need (clearOf (getD fs i blankFix) (take i fs)) 10 0)))
 
+-- macro i: count 6, range 4
 abbrev pub macFault : List Mac → ℕ → ℕ
 macFault ms i = need (ltb i 8) 6 (need (inLimits (macItem (getD ms i blankMac))) 4 0)
 
@@ -58,16 +59,18 @@ abbrev pub bareBefore : List HeldNet → ℕ → Bool
 bareBefore ts zero = false
 bareBefore ts (suc j) = eqb (getD ts j blankNet .pins) 0
 
+-- the line of a net held as a value
 abbrev pub weightItem : HeldNet → Item
 weightItem t = record { word = word.Net; values = pos (t .weight) ∷ [] }
 
+-- net j: count 6, the net before it without a pin 7, range 4
 abbrev pub netFault : List HeldNet → ℕ → ℕ
 netFault ts j =
     need (ltb j 32) 6
     (need (not (bareBefore ts j)) 7
     (need (inLimits (weightItem (getD ts j blankNet))) 4 0))
 
--- pin i of a chip with n macros
+-- pin i of a chip with n macros: count 6, range 4, no such macro 8
 abbrev pub pinFault : List HeldPin → ℕ → ℕ → ℕ
 pinFault ps n i =
     need (ltb i 128) 6
@@ -76,20 +79,22 @@ pinFault ps n i =
 
 -- ---- the first refusal of items
 
+-- a fault on that line, or what follows where there is none (0)
 abbrev pub onFault : ℕ → ℕ → Tested → Tested
 onFault zero line more = more
 onFault (suc n) line more = tested.Refused (record { no = suc n; line = line })
 
+-- the first refusal of two tests
 abbrev pub thenTested : Tested → Tested → Tested
 thenTested tested.Passed more = more
 thenTested (tested.Refused f) more = tested.Refused f
 
--- n items from item i on; item 0 stands on the line given
+-- the items from item i on, n of them, with the faults f; item 0 stands on the line given
 unfoldable pub tests : (ℕ → ℕ) → ℕ → ℕ → ℕ → Tested
 tests f line i zero = tested.Passed
 tests f line i (suc n) = onFault (f i) (line + i) (tests f line (suc i) n)
 
--- `count` pins from pin q on
+-- the pins of one net, `count` of them from pin q on, the first on the line given; the chip has n macros
 abbrev pub pinsTested : List HeldPin → ℕ → ℕ → ℕ → ℕ → Tested
 pinsTested ps n q line count = tests (λ i. pinFault ps n (q + i)) line 0 count
 
@@ -97,14 +102,14 @@ pinsTested ps n q line count = tests (λ i. pinFault ps n (q + i)) line 0 count
 abbrev pub netTested : List HeldNet → List HeldPin → ℕ → ℕ → ℕ → ℕ → Tested
 netTested ts ps n line q j = onFault (netFault ts j) line (pinsTested ps n q (line + 1) (getD ts j blankNet .pins))
 
--- t nets from net j on with their pins from pin q on, and the end; net 0 stands on the line given
+-- the nets from net j on, t of them, with their pins from pin q on, and the last line; net 0 stands on the line `first`
 unfoldable pub netsTested : List HeldNet → List HeldPin → ℕ → ℕ → ℕ → ℕ → ℕ → Tested
 netsTested ts ps n first q j zero = onFault (need (not (bareBefore ts j)) 7 0) (first + j + q) tested.Passed
 netsTested ts ps n first q j (suc t) =
     thenTested (netTested ts ps n (first + j + q) q j)
     (netsTested ts ps n first (q + getD ts j blankNet .pins) (suc j) t)
 
--- all items of a chip, whatever the length of its text
+-- all items of a chip in the order of the file, whatever the length of its text
 unfoldable pub itemsTested : HeldChip → Tested
 itemsTested c =
     onFault (dieFault (c .die)) 1
@@ -112,7 +117,7 @@ itemsTested c =
     (thenTested (tests (macFault (c .macs)) (c .k + 2) 0 (c .n))
     (netsTested (c .nets) (c .pins) (c .n) (c .k + 2 + c .n) 0 0 (c .t))))
 
--- the answer to them, and that the arrays have their lengths
+-- r is the answer to them, and the arrays have their lengths
 pub record ItemsAnswer (c : HeldChip) (r : Tested) : Type 0 where
   pub answer : r ≡ itemsTested c
   pub fixes : length (c .fixes) ≡ 8

@@ -9,34 +9,22 @@ use model::Refusal;
 use model::Tested;
 use model::WriteAnswer;
 ghost use mathlib.Core.Path.{_≡_};
-ghost use mathlib.Core.Bool.{_&&_};
 ghost use mathlib.Core.List.{[], _∷_};
 ghost use Prim.Native.Nat.{_≤_};
-ghost use lib.Dec.{leb};
 ghost use lib.IntN.{pos};
 ghost use Rattle.model.specs.Meaning.{pinOf, chipOf};
 ghost use Rattle.grammar.specs.Writing.{testedAs, answerOf};
 ghost use Rattle.chip.specs.Text.{fixItem, pinItem, readChip, chipText, writeChip};
 ghost use Rattle.chipwriter.specs.Tests.{inRanges, sideRules, inLimits, dieFault, fixFault, macFault, bareBefore, netFault, pinFault, tests, pinsTested, netTested, netsTested, ItemsAnswer};
 
-// Whether v is within least..most.
-fn within(v: u64, least: u64, most: u64) -> bool
-    ensures { λ r. ⌜ r ≡ (leb least v && leb v most) ⌝ }
-{
-    if v < least {
-        return false;
-    }
-    v <= most
-}
-
-// Whether the sides of a box are within least..most.
+// Whether the sides of a die, a fix or a macro are within least..most.
 fn sides_within(w: u64, h: u64, least: u64, most: u64) -> bool
     ensures { λ r. ⌜ r ≡ inRanges (sideRules least most) (pos w ∷ pos h ∷ []) ⌝ }
 {
-    if !within(w, least, most) {
+    if !model::within(w, least, most) {
         return false;
     }
-    within(h, least, most)
+    model::within(h, least, most)
 }
 
 // The fault of the die, or 0: range 4.
@@ -134,10 +122,10 @@ fn pin_in_range(p: Pin) -> bool
     if Mac::COUNT < p.m {
         return false;
     }
-    if !within(p.xup, Pin::PLACE_LEAST_UP, Pin::PLACE_MOST_UP) {
+    if !model::within(p.xup, Pin::PLACE_LEAST_UP, Pin::PLACE_MOST_UP) {
         return false;
     }
-    within(p.yup, Pin::PLACE_LEAST_UP, Pin::PLACE_MOST_UP)
+    model::within(p.yup, Pin::PLACE_LEAST_UP, Pin::PLACE_MOST_UP)
 }
 
 // The fault of pin i of a chip with n macros, or 0: count 6, range 4, no such macro 8.
@@ -196,7 +184,7 @@ fn net_fault(nets: [Net; 32], j: usize) -> usize
         return 7;
     }
     let net = nets[j];
-    if !within(net.weight, Net::WEIGHT_LEAST, Net::WEIGHT_MOST) {
+    if !model::within(net.weight, Net::WEIGHT_LEAST, Net::WEIGHT_MOST) {
         return 4;
     }
     0

@@ -1,17 +1,13 @@
--- Texts written one after the other, and what a buffer then holds.
+-- Texts written one after the other into a buffer.
 use mathlib.Core.Path.{_≡_, refl, sym, ap, _∙_}
 use mathlib.Core.List.{List, [], _∷_, _++_}
 use Prim.Native.Nat.{ℕ, suc, _+_, _^_, _≤_, _<_}
-use native.Mathlib.Nat.{add-zero, zero-add}
 use native.Mathlib.Decide.{decLe}
 use native.Mathlib.Omega.{arith}
-use lib.ListN.{length, drop, set, length-append}
-use lib.Seq.{sets, sets-eq, set-out, length-sets}
+use lib.ListN.{length, length-append}
+use lib.Seq.{sets, set-out, length-sets}
+use Rattle.numbers.proofs.Stores.{sets-append}
 use Rattle.decimal.specs.Held.{lastPlace, Wrote}
-
-sets-append : (s t b : List ℕ) (i : ℕ) → sets b i (s ++ t) ≡ sets (sets b i s) (i + length s) t
-sets-append [] t b i = rw add-zero
-sets-append (x ∷ s) t b i = sets-append s t (set b i x) (suc i) ∙ ap (λ (j : ℕ). sets (sets (set b i x) (suc i) s) j t) (omega arith)
 
 -- nothing is written past the end
 sets-out : (t b : List ℕ) (i : ℕ) → length b ≤ i → sets b i t ≡ b
@@ -30,13 +26,3 @@ wrote-then b m a s t at k r f p q = record { place = rw (length-append s t) (ome
 
 pub wrote-length : (b a t : List ℕ) (at n : ℕ) → Wrote b a t at n → length a ≡ length b
 wrote-length b a t at n w = ap length (w .bytes) ∙ length-sets b at t
-
-module _ (b a t : List ℕ) (n : ℕ) where
-  pub wrote-all : length t ≤ length b → length b < lastPlace → Wrote b a t 0 n → (a ≡ t ++ drop (length t) b) × (n ≡ length t)
-  wrote-all h l w = (let q : sets b 0 t ≡ t ++ drop (0 + length t) b = sets-eq t b 0 (omega arith) in w .bytes ∙ (rw zero-add at q), omega arith)
-
-  pub wrote-short : length b < n → length b < lastPlace → Wrote b a t 0 n → length b < length t
-  wrote-short h l w = omega arith
-
-  pub wrote-long : n ≤ length b → length b < lastPlace → Wrote b a t 0 n → length t ≤ length b
-  wrote-long h l w = omega arith

@@ -10,7 +10,7 @@ use Rattle.decimal.specs.declared.Number.{Number}
 use Rattle.decimal.specs.declared.Number.the-variants as held
 use Rattle.decimal.specs.Number.{Numeral, number, noNumber}
 
--- above every range of document 01: numbers further from 0 are held as this one
+-- a number above every range of document 01: a magnitude above it is held as this one
 abbrev pub cap : ℕ
 cap = 1000000000
 
@@ -20,11 +20,11 @@ heldNumber (number (pos n)) = held.Value false (min cap n)
 heldNumber (number (negsuc n)) = held.Value true (min cap (suc n))
 heldNumber noNumber = held.Bad
 
--- the largest place that a machine word holds; every buffer is shorter
+-- the greatest place that the program can count to; every buffer is shorter
 abbrev pub lastPlace : ℕ
 lastPlace = 18446744073709551615
 
--- `text` was written from `at` on, as far as the buffer goes; `next` is the place after it
+-- writing `text` from place `at` on, as far as the buffer goes, turned the buffer `before` into `after`; `next` is the place after the text, or the greatest place where that is above it
 pub record Wrote (before after text : List ℕ) (at next : ℕ) : Type 0 where
   pub place : next ≡ min (at + length text) lastPlace
   pub bytes : after ≡ sets before at text

@@ -5,6 +5,7 @@ use mathlib.Core.Bool.{Bool, true, false, _&&_}
 use lib.Dec.{leb, ltb, eqb}
 use lib.IntN.{ℤ, pos, negsuc}
 
+-- the byte `-`
 abbrev pub minusSign : ℕ
 minusSign = 45
 
@@ -17,10 +18,11 @@ unfoldable pub allOf : (ℕ → Bool) → List ℕ → Bool
 allOf p [] = true
 allOf p (b ∷ s) = p b && allOf p s
 
+-- every byte of s is a digit
 abbrev pub allDigits : List ℕ → Bool
 allDigits s = allOf isDigit s
 
--- the value of the digits s that follow digits of the value a
+-- the value of digits: of s, after digits with the value a
 unfoldable pub valueFrom : ℕ → List ℕ → ℕ
 valueFrom a [] = a
 valueFrom a (b ∷ s) = valueFrom (a * 10 + (b - 48)) s
@@ -36,16 +38,18 @@ pub data Numeral : Type 0 where
   number : ℤ → Numeral
   noNumber : Numeral
 
+-- the number n, where the test of its bytes passes
 abbrev pub natural : Bool → ℕ → Numeral
 natural true n = number (pos n)
 natural false n = noNumber
 
--- -n, where n is above 0
+-- the number -n, where the test of its bytes passes and n is above 0 (`-0` is no number)
 abbrev pub negative : Bool → ℕ → Numeral
 negative true zero = noNumber
 negative true (suc n) = number (negsuc n)
 negative false n = noNumber
 
+-- the number of the bytes b and s, by whether b is the minus sign
 abbrev pub signed : Bool → ℕ → List ℕ → Numeral
 signed true b s = negative (plain s) (valueFrom 0 s)
 signed false b s = natural (plain (b ∷ s)) (valueFrom 0 (b ∷ s))

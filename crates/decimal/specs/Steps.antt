@@ -1,11 +1,11 @@
--- What the private functions of the number reader answer.
+-- What the private functions of the number reader promise.
 use Prim.Native.Nat.{ℕ, _+_, _-_, _*_, min}
 use mathlib.Core.List.{List}
 use Rattle.decimal.specs.declared.Number.{Number}
 use Rattle.decimal.specs.Number.{plain, valueFrom, natural}
 use Rattle.decimal.specs.Held.{cap, heldNumber}
 
--- the value a with the digit b after it, cut to the cap
+-- the value of digits with the value a and the digit b after them, at most the cap
 abbrev pub push : ℕ → ℕ → ℕ
 push a b = min cap (a * 10 + (b - 48))
 

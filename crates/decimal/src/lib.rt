@@ -7,13 +7,13 @@ ghost use Rattle.decimal.specs.Number.{numeralOf, digits, numberText};
 ghost use Rattle.decimal.specs.Held.{cap, heldNumber, Wrote};
 ghost use Rattle.decimal.specs.Steps.{push, heldNatural};
 
-// What a field holds: a sign (true: negative) and a magnitude cut to 1,000,000,000, or no number.
+// What a field holds: a sign (true: negative) and a magnitude, at most 1,000,000,000; or no number.
 pub enum Number {
     Value(bool, u64),
     Bad,
 }
 
-// One more digit, not above the cap.
+// The value of digits with the value v and the digit b after them, at most 1,000,000,000.
 fn with_digit(v: u64, b: u8) -> u64
     requires { ⌜ (v ≤ cap) × (48 ≤ b) × (b ≤ 57) ⌝ }
     ensures { λ r. ⌜ (r ≡ push v b) × (r ≤ cap) ⌝ }
@@ -98,7 +98,7 @@ pub fn put_bytes(out: &mut [u8], at: usize, s: &[u8]) -> usize
     k
 }
 
-// The same for the digits of n.
+// Writes the decimal digits of n from `at` on, as far as the buffer goes, and answers the place after them.
 pub fn put_natural(out: &mut [u8], at: usize, n: u64) -> usize
     ensures { λ r. ⌜ Wrote (now (out .entry)) (now (out .exit)) (digits n) at r ⌝ }
 {
@@ -109,7 +109,7 @@ pub fn put_natural(out: &mut [u8], at: usize, n: u64) -> usize
     put(out, k, (48 + n % 10) as u8)
 }
 
-// The same for the number n - shift.
+// Writes the text of the number n - shift from `at` on, as far as the buffer goes, and answers the place after it.
 pub fn put_number(out: &mut [u8], at: usize, n: u64, shift: u64) -> usize
     ensures { λ r. ⌜ Wrote (now (out .entry)) (now (out .exit)) (numberText (subℕ n shift)) at r ⌝ }
 {

@@ -1,9 +1,8 @@
 -- From the test of a chip to the answer of its fit: the refusals of the chip, 11, 12 and 15, and the counts of letters and slots.
-use Prim.Native.Nat.{ℕ, _+_, _-_, _*_, _/_, _≤_, _<_}
+use Prim.Native.Nat.{ℕ, _+_, _*_, _≤_, _<_}
 use mathlib.Core.Path.{_≡_, refl, sym, ap, subst, _∙_}
 use mathlib.Core.Bool.{Bool, true, false, not}
 use mathlib.Core.List.{List, []}
-use native.Mathlib.Nat.{mul-le-mul}
 use native.Mathlib.Omega.{arith}
 use lib.Dec.{eqb}
 use lib.ListN.{length}
@@ -21,6 +20,8 @@ use Rattle.chip.specs.Text.{readChip, chipText}
 use Rattle.chip.specs.Valid.{pinsBefore}
 use Rattle.chip.specs.Passed.{Passed}
 use Rattle.slots.specs.Fit.{Fit, refusedBy, areLetters, letterCount, slotCount, fitChip, fitLetters, Filled}
+use Rattle.pairs.specs.Count.{letterTotal}
+use Rattle.pairs.proofs.Counts.{chip-letters, chip-few}
 use Rattle.fit.specs.declared.FitAnswer.{FitAnswer}
 use Rattle.fit.specs.declared.FitOutcome.the-variants as outcome
 use Rattle.fit.specs.Answer.{padded, answerFor}
@@ -42,20 +43,12 @@ module _ (c : HeldChip) (s : List ℕ) (room : ℕ) where
 
 -- ---- a chip whose test is passed
 
-module _ (c : HeldChip) (p : ℕ) where
-  few-letters : c .n ≤ 8 → c .k ≤ 8 → p ≡ c .n * (c .n - 1) / 2 + c .n * c .k → p ≤ 96
-  few-letters h g e =
-      let o : c .n - 1 ≤ 7 = omega arith in
-      let a : c .n * (c .n - 1) ≤ 8 * 7 = mul-le-mul h o in
-      let b : c .n * c .k ≤ 8 * 8 = mul-le-mul h g in
-      omega arith
-
-module _ (c : HeldChip) (pass : Passed c) (p : ℕ) (ep : p ≡ c .n * (c .n - 1) / 2 + c .n * c .k) where
+module _ (c : HeldChip) (pass : Passed c) (p : ℕ) (ep : p ≡ letterTotal (c .n) (c .k)) where
   count-p : p ≡ letterCount (chipOf c)
-  count-p = ep ∙ rw (pass .macs, pass .fixes)
+  count-p = chip-letters c pass p ep
 
-  p-most : p ≤ 96
-  p-most = few-letters c p (pass .fine .macCount) (pass .fine .fixCount) ep
+  p-most : p ≤ 92
+  p-most = chip-few c pass p ep
 
   module _ (q : ℕ) (eq : q ≡ pinsBefore (c .t) (c .nets)) where
     abbrev m : ℕ

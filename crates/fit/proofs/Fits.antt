@@ -240,9 +240,6 @@ zeros-at zero t = refl
 zeros-at (suc k) zero = refl
 zeros-at (suc k) (suc t) = zeros-at k t
 
-pub zeros-below : Below16 (replicate 456 0)
-zeros-below = record { most = λ t. let e = zeros-at 456 t in omega arith }
-
 module _ (c : HeldChip) (s : List ℕ) (m : ℕ) (ask : Asking c s m) (fx fy entry : List ℕ) (lx : length fx ≡ 456) (ly : length fy ≡ 456) (room : m + m ≤ length entry) (exit : List ℕ) (ex : exit ≡ bothLists m fx fy entry) where
   module _ (ax ay : List ℕ) (wx : length ax ≡ 8) (wy : length ay ≡ 8) (sx : SolvedBy c s horizontal ax fx) (sy : SolvedBy c s vertical ay fy) (spots : List Spot) (es : spots ≡ spotsOf ax ay) (a : MeasureAnswer) (em : measuredAs a ≡ measurePositions (chipOf c) (firstOf blankSpot (c .n) spots)) where
     list-ok : Filled (chipOf c) s (fitting c s) entry exit

@@ -1,9 +1,9 @@
 -- Laws of the small functions of the fit, in the form of their needs.
-use Prim.Native.Nat.{ℕ, zero, suc, _+_, _-_, _*_, _/_, _≤_, _<_}
+use Prim.Native.Nat.{ℕ, zero, suc, _+_, _≤_, _<_}
 use mathlib.Core.Path.{_≡_, refl, sym, ap, _∙_}
 use mathlib.Core.Bool.{Bool, true, false, not, _&&_}
 use mathlib.Core.List.{List, [], _∷_}
-use native.Mathlib.Nat.{mul-le-mul, le-antisymm}
+use native.Mathlib.Nat.{le-antisymm}
 use native.Mathlib.Numerals.{add-one}
 use native.Mathlib.Decide.{ℕ-discrete}
 use native.Mathlib.Omega.{arith}
@@ -24,26 +24,6 @@ use Rattle.fit.specs.Lists.{Below16, spotsOf}
 use Rattle.fit.proofs.Corners.{spots-length}
 
 -- ---- letters
-
-pub no-letters : (n k : ℕ) → n ≡ 0 → 0 ≡ n * (n - 1) / 2 + n * k
-no-letters n k e = rw e (omega arith)
-
-module _ (n : ℕ) (h : n ≤ 8) where
-  few-pairs : n * (n - 1) ≤ 56
-  few-pairs = let l : n - 1 ≤ 7 = omega arith in mul-le-mul h l
-
-  pub pairs-fit : Fits w64 (n * (n - 1))
-  pairs-fit = let p = few-pairs in omega arith
-
-  module _ (k : ℕ) (l : k ≤ 8) where
-    few-fixed : n * k ≤ 64
-    few-fixed = mul-le-mul h l
-
-    pub fixed-fit : Fits w64 (n * k)
-    fixed-fit = let p = few-fixed in omega arith
-
-    pub letters-fit : Fits w64 (n * (n - 1) / 2 + n * k)
-    letters-fit = let p = few-pairs in let q = few-fixed in omega arith
 
 module _ (b : ℕ) where
   pub letter-l : b ≡ 76 → true ≡ isLetter b

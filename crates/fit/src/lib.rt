@@ -14,7 +14,7 @@ use model::Tested;
 use slots::Direction;
 ghost use mathlib.Core.Path.{_≡_};
 ghost use mathlib.Core.List.{[]};
-ghost use Prim.Native.Nat.{_+_, _-_, _*_, _/_, _≤_};
+ghost use Prim.Native.Nat.{_+_, _≤_};
 ghost use lib.ListN.{length, take};
 ghost use lib.Seq.{sets};
 ghost use Rattle.model.specs.Meaning.{chipOf};
@@ -60,18 +60,6 @@ fn refused(no: usize) -> FitAnswer
     ensures { λ r. ⌜ r ≡ answerFor (refusedBy no 0) ⌝ }
 {
     bare(FitOutcome::Refused(Refusal { no, line: 0 }))
-}
-
-// With n macros, k fixes there are n(n-1)/2 + n·k letters.
-fn letter_count(n: usize, k: usize) -> usize
-    requires { ⌜ n ≤ 8 ⌝ }
-    requires { ⌜ k ≤ 8 ⌝ }
-    ensures { λ r. ⌜ r ≡ n * (n - 1) / 2 + n * k ⌝ }
-{
-    if n == 0 {
-        return 0;
-    }
-    n * (n - 1) / 2 + n * k
 }
 
 // Whether a byte is L, R, B, A or the dot.
@@ -280,7 +268,7 @@ fn fit_passed(c: Chip, letters: &[u8], flow: &mut [u16]) -> FitAnswer
     ensures { λ r. ⌜ Answered c (now (letters .entry)) (fitLetters (chipOf c) (now (letters .entry)) (length (now (flow .entry)))) r (now (flow .entry)) (now (flow .exit)) ⌝ }
 {
     let nets = c.nets;
-    let p = letter_count(c.n, c.k);
+    let p = pairs::letter_count(c.n, c.k);
     if letters.len() != p {
         return refused(11);
     }

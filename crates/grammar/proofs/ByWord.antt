@@ -1,11 +1,11 @@
--- Words one by one, and by ranges of their ranks.
+-- Words one by one, by their ranks.
 use mathlib.Core.Path.{_≡_, refl, sym, ap, _∙_}
-use mathlib.Core.Bool.{true, false, _&&_}
+use mathlib.Core.Bool.{true}
 use mathlib.Core.List.{List, [], _∷_}
-use Prim.Native.Nat.{ℕ, _≤_, _<_}
-use lib.Dec.{leb, ltb}
+use Prim.Native.Nat.{_<_}
+use lib.Dec.{ltb}
 use lib.ListN.{getD}
-use borrow.Author.Tests.{le-leb, lt-leb, ltb-true}
+use borrow.Author.Tests.{ltb-true}
 use Rattle.model.specs.declared.Word.{Word}
 use Rattle.model.specs.declared.Word.the-variants as word
 use Rattle.grammar.specs.Words.{rank}
@@ -15,7 +15,7 @@ abbrev pub ofAll : {A : Type 0} → (Word → A) → List A
 ofAll h = h word.Nothing ∷ h word.Die ∷ h word.Fix ∷ h word.Mac ∷ h word.Net ∷ h word.Pin ∷ h word.End ∷ h word.Least ∷ h word.None ∷ h word.At ∷ h word.Done ∷ []
 
 module _ {A : Type 0} where
-  at-rank : (z : A) (h : Word → A) (w : Word) → getD (ofAll h) (rank w) z ≡ h w
+  pub at-rank : (z : A) (h : Word → A) (w : Word) → getD (ofAll h) (rank w) z ≡ h w
   at-rank z h word.Nothing = refl
   at-rank z h word.Die = refl
   at-rank z h word.Fix = refl
@@ -37,11 +37,3 @@ both-alike f g e w = alike (f w) (g w) (alike (λ u. ofAll (f u)) (λ u. ofAll (
 
 pub rank-below : (w : Word) → rank w < 11
 rank-below w = ltb-true (rank w) 11 (alike (λ u. ltb (rank u) 11) (λ u. true) refl w)
-
--- n against the range from lo to hi
-module _ (lo n hi : ℕ) where
-  pub below-range : n < lo → false ≡ (leb lo n && leb n hi)
-  below-range h = rw (lt-leb lo n h)
-
-  pub from-least : lo ≤ n → leb n hi ≡ (leb lo n && leb n hi)
-  from-least h = rw (le-leb lo n h)

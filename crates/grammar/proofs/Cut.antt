@@ -67,15 +67,6 @@ module _ (d : ℕ) where
     pub from-clean : from d (s ++ t) ≡ t
     from-clean = from-drop (s ++ t) ∙ rw up-to-clean (drop-append-seam s t)
 
-  module _ (s : List ℕ) (h : lacks d s ≡ true) where
-    pub up-to-whole : upTo d s ≡ s
-    unfolding upTo
-    up-to-whole = rw append-nil at (up-to-clean s [] h refl)
-
-    pub from-none : from d s ≡ []
-    unfolding upTo
-    from-none = rw append-nil at (from-clean s [] h refl)
-
 -- the text of lines
 abbrev pub feed : Bool → List ℕ
 feed true = lineFeed ∷ []

@@ -8,9 +8,9 @@ use Rattle.model.specs.declared.Word.{Word}
 use Rattle.model.specs.declared.Word.the-variants.{Nothing}
 use Rattle.grammar.specs.Words.{rank, isWord}
 use Rattle.grammar.specs.Reading.{Kind, Step, fault, check, stepWord}
-use Rattle.grammar.specs.Steps.{orFault, entryFault, Entered}
+use Rattle.grammar.specs.Steps.{need, entryFault, Entered}
 
-passes : (b : Bool) (n m : ℕ) → orFault b (suc n) m ≡ 0 → (b ≡ true) × (m ≡ 0)
+passes : (b : Bool) (n m : ℕ) → need b (suc n) m ≡ 0 → (b ≡ true) × (m ≡ 0)
 passes true n m e = (refl, e)
 passes false n m e = absurd (omega arith)
 
@@ -24,7 +24,7 @@ module _ {S : Type 0} where
   found-fault zero more h = absurd (h refl)
   found-fault (suc n) more h = refl
 
-  found-check : (b : Bool) (n m : ℕ) (k more : Step S) → k ≡ foundOr m more → check b (suc n) k ≡ foundOr (orFault b (suc n) m) more
+  found-check : (b : Bool) (n m : ℕ) (k more : Step S) → k ≡ foundOr m more → check b (suc n) k ≡ foundOr (need b (suc n) m) more
   found-check true n m k more e = e
   found-check false n m k more e = refl
 
@@ -36,7 +36,7 @@ module _ {S : Type 0} (k : Kind S) (s : S) (w : Word) where
   no-word h = rw h
 
   module _ (known : rank w ≡ 0 → ⊥) where
-    past-word : entryFault k s w ≡ orFault (k .inPlace s w) 5 (orFault (k .hasRoom s w) 6 (orFault (k .hasPin s w) 7 0))
+    past-word : entryFault k s w ≡ need (k .inPlace s w) 5 (need (k .hasRoom s w) 6 (need (k .hasPin s w) 7 0))
     unfolding entryFault
     past-word = rw (ne-eqb (rank w) 0 known)
 
@@ -57,7 +57,7 @@ module _ {S : Type 0} (k : Kind S) (s : S) (w : Word) where
   -- ---- a line that passes
 
   module _ (entered : Entered k s w) where
-    word-passes : orFault (k .inPlace s w) 5 (orFault (k .hasRoom s w) 6 (orFault (k .hasPin s w) 7 0)) ≡ 0
+    word-passes : need (k .inPlace s w) 5 (need (k .hasRoom s w) 6 (need (k .hasPin s w) 7 0)) ≡ 0
     unfolding entryFault
     word-passes = passes (not (isWord w Nothing)) 1 _ (entered .clear) .1
 

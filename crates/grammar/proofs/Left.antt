@@ -7,7 +7,7 @@ use lib.ListN.{length, drop, drop-of-length-le}
 use borrow.Author.Tests.{le-leb, lt-leb}
 use Rattle.grammar.specs.Line.{lines}
 use Rattle.grammar.specs.Reading.{Kind, Step, next, fault, refused, stepLine, readLines, onward, ending, readText}
-use Rattle.grammar.specs.Steps.{LineEnd, lineAt}
+use Rattle.grammar.specs.Steps.{lineEnd, lineAt}
 use Rattle.grammar.proofs.LineAt.{lines-from}
 
 module _ {S : Type 0} (k : Kind S) (start : S) (text : List ℕ) where
@@ -28,7 +28,7 @@ module _ {S : Type 0} (k : Kind S) (start : S) (text : List ℕ) where
   module _ (s : S) (a line : ℕ) (left : Left s a line) where
     -- ---- a line
 
-    module _ (z : ℕ) (end : LineEnd text a z) (h : a < length text) where
+    module _ (z : ℕ) (end : z ≡ lineEnd text a) (h : a < length text) where
       rest-lines : (t : Step S) → t ≡ stepLine k s (lineAt text a z) → readText k start text ≡ onward k t line (λ p. readLines k p (suc line) (lines (drop (suc z) text)))
       unfolding readLines
       rest-lines t e = left .rest ∙ rw (lines-from text a z end h, e)

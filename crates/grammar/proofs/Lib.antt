@@ -14,3 +14,4 @@ pub mod Entry
 pub mod OneLine
 pub mod LineAt
 pub mod Left
+pub mod Fit

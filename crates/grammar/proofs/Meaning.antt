@@ -1,11 +1,12 @@
--- What a text means, for a kind of text whose accepted items are those of the meaning: an accepted text is its meaning's text (`read-text`, `one-text`), and reading the text of a meaning gives that meaning where it is accepted (`text-read`).
+-- What a text means, for a kind of text whose accepted items are those of the meaning: an accepted text is its meaning's text (`read-text`, `one-text`) and not too long (`read-short`), and reading the text of a meaning gives that meaning where it is accepted (`text-read`).
 use mathlib.Core.Path.{_≡_, sym, ap, _∙_}
 use mathlib.Core.List.{List}
-use Prim.Native.Nat.{ℕ}
+use Prim.Native.Nat.{ℕ, _≤_}
+use lib.ListN.{length}
 use Rattle.grammar.specs.Line.{lines}
 use Rattle.grammar.specs.Words.{Item, itemsText}
 use Rattle.grammar.specs.Reading.{Kind, Reading, accepted, readLines, readText}
-use Rattle.grammar.proofs.Items.{WellFormed, runItems, read-items, items-read, read-text-lines}
+use Rattle.grammar.proofs.Items.{WellFormed, runItems, read-items, items-read, read-text-length, read-text-lines}
 
 -- texts of the kind k, read from start on, mean a, whose items are items a
 pub record Means {S A : Type 0} (k : Kind S) (start : S) (read : Reading S → Reading A) (items : A → List Item) : Type 0 where
@@ -17,6 +18,9 @@ module _ {S A : Type 0} {k : Kind S} {start : S} {read : Reading S → Reading A
   -- the lines of an accepted text lead to a state with its meaning
   accepted-lines : (t : List ℕ) (a : A) → read (readText k start t) ≡ accepted a → (s : S) × (readLines k start 1 (lines t) ≡ accepted s) × (m .meaning s ≡ a)
   accepted-lines t a e = let b = m .back (readText k start t) a e in (b .0, read-text-lines k start t (b .0) (b .1), b .2)
+
+  pub read-short : (t : List ℕ) (a : A) → read (readText k start t) ≡ accepted a → length t ≤ 16384
+  read-short t a e = let b = m .back (readText k start t) a e in read-text-length k start t (b .0) (b .1)
 
   pub read-text : (t : List ℕ) (a : A) → read (readText k start t) ≡ accepted a → t ≡ itemsText (items a)
   read-text t a e =

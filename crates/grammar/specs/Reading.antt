@@ -15,6 +15,7 @@ pub data Step (S : Type 0) : Type 0 where
   next : S → Step S
   fault : ℕ → Step S
 
+-- what follows where a test passes, or fault n
 abbrev pub check : {S : Type 0} → Bool → ℕ → Step S → Step S
 check true n k = k
 check false n k = fault n
@@ -24,7 +25,8 @@ pub data Reading (A : Type 0) : Type 0 where
   accepted : A → Reading A
   refused : ℕ → ℕ → Reading A
 
--- a kind of text, by what has been read so far
+-- a kind of text: its words and, by what has been read so far (S), whether a line of that word may stand here, whether there is room for one more of its kind,
+-- whether the net above it has a pin, what the line with its values adds or its fault (8, 9, 10), and whether the last line has been read
 pub record Kind (S : Type 0) : Type 0 where
   pub words : List Word
   pub inPlace : S → Word → Bool
@@ -34,12 +36,12 @@ pub record Kind (S : Type 0) : Type 0 where
   pub complete : S → Bool
 
 module _ {S : Type 0} (k : Kind S) where
-  -- 8, 9, 10 once the fields are read
+  -- what a line adds once its fields are read, or their fault
   abbrev pub stepFields : S → Word → Fields → Step S
   stepFields s w (got zs) = k .add s w zs
   stepFields s w (faulty n) = fault n
 
-  -- word 2, place 5, count 6, 7 (a net without a pin, on the line after it)
+  -- the tests before the fields: word 2, place 5, count 6, 7 (a net without a pin, on the line after it)
   abbrev pub stepWord : S → Word → Step S → Step S
   stepWord s w more =
       check (not (isWord w Nothing)) 2
@@ -47,20 +49,22 @@ module _ {S : Type 0} (k : Kind S) where
       (check (k .hasRoom s w) 6
       (check (k .hasPin s w) 7 more)))
 
-  -- the tests of a line that has its LF
+  -- what a line leads to that has its LF
   unfoldable pub stepBytes : S → List ℕ → Step S
   stepBytes s b =
       let w = wordIn (k .words) (upTo comma b) in
       stepWord s w (stepFields s w (fields (rules w) (from comma b)))
 
-  -- missing LF 2
+  -- what a line leads to; a missing LF is fault 2
   abbrev pub stepLine : S → Line → Step S
   stepLine s l = check (l .ended) 2 (stepBytes s (l .bytes))
 
+  -- the end of a text, where line n would begin: the last line must have been read, or refusal 5
   abbrev pub ending : Bool → S → ℕ → Reading S
   ending true s n = accepted s
   ending false s n = refused 5 n
 
+  -- what a line n leads to: the reading goes on, or the refusal of its fault
   abbrev pub onward : Step S → ℕ → (S → Reading S) → Reading S
   onward (next s) n more = more s
   onward (fault f) n more = refused f n
@@ -70,6 +74,7 @@ module _ {S : Type 0} (k : Kind S) where
   readLines s n [] = ending (k .complete s) s n
   readLines s n (l ∷ ls) = onward (stepLine s l) n (λ t. readLines t (suc n) ls)
 
+  -- refusal 1 where a text is too long
   abbrev pub sized : Bool → Reading S → Reading S
   sized true r = r
   sized false r = refused 1 0

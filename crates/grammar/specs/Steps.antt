@@ -1,5 +1,5 @@
 -- The steps of a reader: the tests of a line before its fields, and where a line stands in the text.
-use Prim.Native.Nat.{ℕ, _+_, _-_, _≤_}
+use Prim.Native.Nat.{ℕ, _+_, _-_, min}
 use mathlib.Core.Path.{_≡_}
 use mathlib.Core.List.{List}
 use mathlib.Core.Bool.{Bool, true, false, not}
@@ -11,28 +11,28 @@ use Rattle.grammar.specs.Line.{Line, lineFeed, upTo}
 use Rattle.grammar.specs.Words.{isWord}
 use Rattle.grammar.specs.Reading.{Kind}
 
-abbrev pub orFault : Bool → ℕ → ℕ → ℕ
-orFault true n more = more
-orFault false n more = n
+-- a test, the number where it fails, and what follows where it passes
+abbrev pub need : Bool → ℕ → ℕ → ℕ
+need true n more = more
+need false n more = n
 
 module _ {S : Type 0} (k : Kind S) (s : S) (w : Word) where
   -- the first fault before the fields of a line, or 0
   unfoldable pub entryFault : ℕ
   entryFault =
-      orFault (not (isWord w Nothing)) 2
-      (orFault (k .inPlace s w) 5
-      (orFault (k .hasRoom s w) 6
-      (orFault (k .hasPin s w) 7 0)))
+      need (not (isWord w Nothing)) 2
+      (need (k .inPlace s w) 5
+      (need (k .hasRoom s w) 6
+      (need (k .hasPin s w) 7 0)))
 
   -- w passes the tests before the fields
   pub record Entered : Type 0 where
     pub clear : entryFault ≡ 0
 
--- e is the place of the first LF from a on, or the end of the text
-pub record LineEnd (text : List ℕ) (a e : ℕ) : Type 0 where
-  pub place : e ≡ a + length (upTo lineFeed (drop a text))
-  pub within : e ≤ length text
+-- the place of the first LF from a on, or the end of the text
+abbrev pub lineEnd : List ℕ → ℕ → ℕ
+lineEnd text a = min (a + length (upTo lineFeed (drop a text))) (length text)
 
--- the line that begins at a and ends at e
+-- the line that begins at a and ends at e; the LF at e is missing where e is the end of the text
 abbrev pub lineAt : List ℕ → ℕ → ℕ → Line
 lineAt text a e = record { bytes = take (e - a) (drop a text); ended = ltb e (length text) }

@@ -3,7 +3,8 @@ use Prim.Native.Nat.{ℕ}
 use mathlib.Core.List.{List, [], _∷_, _++_}
 use mathlib.Core.Bool.{Bool, true, false, _&&_, _||_}
 use lib.Dec.{eqb}
-use lib.IntN.{ℤ}
+use lib.ListN.{getD}
+use lib.IntN.{ℤ, pos, natAbs}
 use Rattle.model.specs.Limits.{Range, dieSide, fixCorner, fixSide, macSide, netWeight, pinMacro, pinPlace, recordLength, placedMacro, placedCorner}
 use Rattle.model.specs.declared.Word.{Word}
 use Rattle.model.specs.declared.Word.the-variants.{Nothing, Die, Fix, Mac, Net, Pin, End, Least, None, At, Done}
@@ -37,31 +38,36 @@ rank None = 8
 rank At = 9
 rank Done = 10
 
+-- a and b are the same word
 abbrev pub isWord : Word → Word → Bool
 isWord a b = eqb (rank a) (rank b)
 
+-- w is among the words ws
 unfoldable pub isIn : Word → List Word → Bool
 isIn w [] = false
 isIn w (a ∷ ws) = isWord w a || isIn w ws
 
+-- two texts are the same bytes
 unfoldable pub same : List ℕ → List ℕ → Bool
 same [] [] = true
 same [] (b ∷ t) = false
 same (a ∷ s) [] = false
 same (a ∷ s) (b ∷ t) = eqb a b && same s t
 
--- the word of the list that s spells, or `Nothing`
+-- the word among ws that the bytes s spell, or `Nothing`
 unfoldable pub wordIn : List Word → List ℕ → Word
 wordIn [] s = Nothing
 wordIn (w ∷ ws) s = elim (same (spell w) s) [ true ↦ w | false ↦ wordIn ws s ]
 
+-- the words of chip files
 abbrev pub chipWords : List Word
 chipWords = Die ∷ Fix ∷ Mac ∷ Net ∷ Pin ∷ End ∷ []
 
+-- the words of records
 abbrev pub recordWords : List Word
 recordWords = Least ∷ None ∷ At ∷ Done ∷ []
 
--- field names
+-- the field names w, h, x, y, m and wl
 abbrev pub byW : List ℕ
 byW = 119 ∷ []
 
@@ -80,6 +86,7 @@ byM = 109 ∷ []
 abbrev pub byWl : List ℕ
 byWl = 119 ∷ 108 ∷ []
 
+-- a field with that name and range
 abbrev pub limited : List ℕ → Range → Rule
 limited name r = field name (r .least) (r .most)
 
@@ -97,14 +104,23 @@ rules None = []
 rules At = limited byM placedMacro ∷ limited byX placedCorner ∷ limited byY placedCorner ∷ []
 rules Done = []
 
--- a line as a word and its values, and its one text
+-- a line as a word and the values of its fields
 pub record Item : Type 0 where
   pub word : Word
   pub values : List ℤ
 
+-- value i of a line's values zs, and the same of a field that can't be negative
+abbrev pub value : List ℤ → ℕ → ℤ
+value zs i = getD zs i (pos 0)
+
+abbrev pub size : List ℤ → ℕ → ℕ
+size zs i = natAbs (value zs i)
+
+-- the text of a line
 unfoldable pub itemText : Item → List ℕ
 itemText i = spell (i .word) ++ (fieldsText (rules (i .word)) (i .values) ++ (lineFeed ∷ []))
 
+-- the text of lines
 unfoldable pub itemsText : List Item → List ℕ
 itemsText [] = []
 itemsText (i ∷ is) = itemText i ++ itemsText is

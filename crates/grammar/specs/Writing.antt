@@ -20,7 +20,7 @@ abbrev pub answerOf : WriteAnswer → Answer
 answerOf (write.Text n) = wrote n
 answerOf (write.Refused f) = notWritten (f .no) (f .line)
 
--- the same for a test: a that passes, or number and line
+-- the same for the answer of a test of the value a
 abbrev pub testedAs : {A : Type 0} → A → Tested → Reading A
 testedAs a tested.Passed = accepted a
 testedAs a (tested.Refused f) = refused (f .no) (f .line)
@@ -30,15 +30,16 @@ pub record Written : Type 0 where
   pub answer : Answer
   pub buffer : List ℕ
 
+-- refusal n at line l; the buffer keeps its bytes
 abbrev pub refuse : ℕ → ℕ → List ℕ → Written
 refuse n l out = record { answer = notWritten n l; buffer = out }
 
--- 15 where the buffer is shorter than the text
+-- a text written into a buffer, by whether it fits: the bytes after it stay, or refusal 15
 abbrev pub fit : Bool → List ℕ → List ℕ → Written
 fit true text out = record { answer = wrote (length text); buffer = text ++ drop (length text) out }
 fit false text out = refuse 15 0 out
 
--- a value whose text is read as r, written into out
+-- a value with that text, which is read as the first argument says, written into the buffer out
 abbrev pub writeText : {A : Type 0} → Reading A → List ℕ → List ℕ → Written
 writeText (accepted a) text out = fit (leb (length text) (length out)) text out
 writeText (refused n l) text out = refuse n l out

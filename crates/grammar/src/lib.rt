@@ -3,6 +3,7 @@ use model::Word;
 ghost use mathlib.Core.Path.{_≡_};
 ghost use Rattle.grammar.specs.Words.{rank};
 
+// A number for each word, to tell words apart.
 pub fn rank_of(w: Word) -> usize
     ensures { λ r. ⌜ r ≡ rank w ⌝ }
 {

@@ -15,7 +15,8 @@ use Rattle.line.specs.declared.Field.{Field}
 use Rattle.line.specs.declared.Field.the-variants as field
 use Rattle.line.specs.declared.Fields.the-variants as held
 use Rattle.line.specs.Held.{lowered, loweredAll, FieldsOk}
-use Rattle.line.specs.Steps.{rulesOf, upsOf, blankRule, LayoutOk, Got, Faulty, FieldOk}
+use Rattle.line.specs.Layout.{rulesOf, upsOf, blankRule, LayoutOk}
+use Rattle.line.specs.Steps.{Got, Faulty, FieldOk}
 use Rattle.line.proofs.Laid.{next-rule, next-up, rules-length, ups-length}
 
 -- the values zs in front of those that follow

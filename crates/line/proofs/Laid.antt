@@ -4,14 +4,14 @@ use mathlib.Core.Bool.{Bool, true, false, _&&_, false≢true}
 use mathlib.Core.List.{List, [], _∷_, map}
 use Prim.Native.Nat.{ℕ, zero, suc, _<_}
 use native.Mathlib.Omega.{arith}
-use lib.Dec.{leb, ltb}
+use lib.Dec.{leb, ltb, eqb}
 use lib.ListN.{length, getD, take, drop, length-take, length-map, List·getD-map}
 use lib.Seq.{getD-take, drop-cons}
-use borrow.Author.Tests.{leb-true, ltb-true}
+use borrow.Author.Tests.{leb-true, ltb-true, eqb-true}
 use Rattle.model.specs.declared.Word.{Word}
 use Rattle.decimal.specs.Held.{cap}
 use Rattle.line.specs.declared.Rule.{Rule as HeldRule}
-use Rattle.line.specs.Steps.{ruleOf, rulesOf, upsOf, blankRule, Sane, saneTest, allSane, LayoutOk}
+use Rattle.line.specs.Layout.{ruleOf, rulesOf, upsOf, blankRule, Sane, saneTest, allSane, LayoutOk}
 
 pub laid : (w w′ : Word) (n : ℕ) (a b c d a′ b′ c′ d′ : HeldRule) → w ≡ w′ → a ≡ a′ → b ≡ b′ → c ≡ c′ → d ≡ d′ → LayoutOk w′ n (a′ ∷ b′ ∷ c′ ∷ d′ ∷ []) → LayoutOk w n (a ∷ b ∷ c ∷ d ∷ [])
 laid w w′ n a b c d a′ b′ c′ d′ p q r s t ok = rw (p, q, r, s, t) ok
@@ -25,9 +25,10 @@ both false b e = absurd (false≢true e)
 
 sane-one : (r : HeldRule) → saneTest r ≡ true → Sane r
 sane-one r e =
-    let p = both (leb (r .size) 4) (leb (r .up) 4096 && ltb (r .most) cap) e in
-    let q = both (leb (r .up) 4096) (ltb (r .most) cap) (p .1) in
-    record { name = leb-true _ _ (p .0); shift = leb-true _ _ (q .0); top = ltb-true _ _ (q .1) }
+    let p = both (leb (r .size) 4) (eqb (length (r .mark)) 4 && (leb (r .up) 4096 && ltb (r .most) cap)) e in
+    let m = both (eqb (length (r .mark)) 4) (leb (r .up) 4096 && ltb (r .most) cap) (p .1) in
+    let q = both (leb (r .up) 4096) (ltb (r .most) cap) (m .1) in
+    record { name = leb-true _ _ (p .0); long = eqb-true _ _ (m .0); shift = leb-true _ _ (q .0); top = ltb-true _ _ (q .1) }
 
 sane-at : (rs : List HeldRule) (j : ℕ) → allSane rs ≡ true → j < length rs → Sane (getD rs j blankRule)
 sane-at [] j s h = absurd (omega arith)

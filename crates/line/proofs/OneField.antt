@@ -18,7 +18,8 @@ use Rattle.grammar.specs.Line.{Fields, comma, upTo, strip, ranged, formed, mark
 use Rattle.line.specs.declared.Rule.{Rule as HeldRule}
 use Rattle.line.specs.declared.Field.{Field}
 use Rattle.line.specs.Held.{lowered}
-use Rattle.line.specs.Steps.{Starts, markOf, ruleOf, Sane, ifInRange, within, Faulty, FieldOk}
+use Rattle.line.specs.Layout.{markOf, ruleOf, Sane}
+use Rattle.line.specs.Steps.{Starts, ifInRange, within, Faulty, FieldOk}
 use Rattle.grammar.proofs.Cut.{up-to-take, from-drop, up-to-short}
 use Rattle.line.proofs.Range.{never, no-number-held, positive-held, negative-held, below-held}
 

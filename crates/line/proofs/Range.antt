@@ -15,7 +15,8 @@ use Rattle.grammar.specs.Line.{Fields, faulty, inRange, ranged, formed}
 use Rattle.line.specs.declared.Rule.{Rule as HeldRule}
 use Rattle.line.specs.declared.Field.the-variants as field
 use Rattle.line.specs.Held.{lowered}
-use Rattle.line.specs.Steps.{ruleOf, outOfRange, ifInRange, within}
+use Rattle.line.specs.Layout.{ruleOf}
+use Rattle.line.specs.Steps.{outOfRange, ifInRange, within}
 
 module _ (r : HeldRule) (v b l : ℕ) where
   pub too-low : v < r .least → outOfRange l ≡ ifInRange (within r v) v b l

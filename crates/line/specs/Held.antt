@@ -12,7 +12,7 @@ use Rattle.grammar.specs.Line.{Fields, got, faulty, fields}
 use Rattle.grammar.specs.Words.{rules}
 use Rattle.grammar.specs.Reading.{Reading, accepted, refused}
 
--- a value that is held u higher
+-- the number that v means, held u higher
 abbrev pub lowered : ℕ → ℕ → ℤ
 lowered zero v = pos v
 lowered (suc u) v = subℕ v (suc u)
@@ -31,12 +31,13 @@ ups word.None = []
 ups word.At = 0 ∷ 0 ∷ 0 ∷ []
 ups word.Done = []
 
+-- the numbers that the values vs mean, each held higher by its number in us
 unfoldable pub loweredAll : List ℕ → List ℕ → List ℤ
 loweredAll [] vs = []
 loweredAll (u ∷ us) [] = []
 loweredAll (u ∷ us) (v ∷ vs) = lowered u v ∷ loweredAll us vs
 
--- the values of a line with that word
+-- the values of a line with the word w that the numbers vs hold
 abbrev pub valuesOf : Word → List ℕ → List ℤ
 valuesOf w vs = loweredAll (ups w) vs
 
@@ -45,18 +46,20 @@ abbrev pub located : ℕ → Fields → Reading (List ℤ)
 located l (got zs) = accepted zs
 located l (faulty n) = refused n l
 
+-- what the bytes s after the word w in line l mean
 abbrev pub readFields : Word → ℕ → List ℕ → Reading (List ℤ)
 readFields w l s = located l (fields (rules w) s)
 
--- the answer of the field reader for each case
+-- document 01's number and values for each case of the field reader's answer
 abbrev pub meant : Word → HeldFields → List ℕ → Reading (List ℤ)
 meant w held.Got vs = accepted (valuesOf w vs)
 meant w (held.Refused f) vs = refused (f .no) (f .line)
 
+-- the same, of the answer and the values as one
 abbrev pub meantFields : Word → FieldsRead → Reading (List ℤ)
 meantFields w r = meant w (r .answer) (r .values)
 
--- what a refusal leaves in the values
+-- the values after a refusal; where there is none, four zeros
 abbrev pub afterRefusal : HeldFields → List ℕ → List ℕ
 afterRefusal held.Got vs = 0 ∷ 0 ∷ 0 ∷ 0 ∷ []
 afterRefusal (held.Refused f) vs = vs

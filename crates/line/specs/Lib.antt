@@ -1,2 +1,4 @@
 pub mod Held
+pub mod Spelling
+pub mod Layout
 pub mod Steps

@@ -1,4 +1,4 @@
-// One line of a text: its word and its fields.
+// One line of a text: where it ends, its word and its fields.
 use decimal::Number;
 use model::Die;
 use model::Fix;
@@ -11,14 +11,20 @@ use model::Spot;
 use model::Word;
 ghost use mathlib.Core.Path.{_≡_};
 ghost use Prim.Native.Nat.{_<_, _≤_};
-ghost use lib.ListN.{length, drop};
+ghost use lib.ListN.{length, take, drop};
 ghost use Rattle.grammar.specs.Line.{upTo};
+ghost use Rattle.grammar.specs.Steps.{lineEnd};
 ghost use Rattle.grammar.specs.Words.{same, wordIn, chipWords, recordWords};
 ghost use Rattle.line.specs.Held.{FieldsOk};
-ghost use Rattle.line.specs.Steps.{Starts, shortRule, Sane, LayoutOk, ifInRange, within, FieldOk};
+ghost use Rattle.line.specs.Spelling.{Spells};
+ghost use Rattle.line.specs.Layout.{shortRule, Sane, LayoutOk};
+ghost use Rattle.line.specs.Steps.{Starts, ifInRange, within, FieldOk};
+
+// The spelling of a word: five bytes, and how many of them are the word's; the others are 0.
+pub struct Spelling(pub [u8; 5], pub usize);
 
 // A field: its name between two commas (the first `size` bytes of `mark`), how much higher its value is held, and its range, as held.
-pub(crate) struct Rule {
+pub struct Rule {
     pub mark: [u8; 4],
     pub size: usize,
     pub up: u64,
@@ -26,7 +32,8 @@ pub(crate) struct Rule {
     pub most: u64,
 }
 
-pub(crate) struct Layout {
+// The fields of a line: the first `count` of `rules`.
+pub struct Layout {
     pub count: usize,
     pub rules: [Rule; 4],
 }
@@ -37,19 +44,25 @@ pub(crate) enum Field {
     Refused(Refusal),
 }
 
-// What the fields of a line hold.
+// The fault of a line: none, or its number.
+pub enum Fault {
+    Clear,
+    No(usize),
+}
+
+// What reading the fields of a line answers.
 pub enum Fields {
     Got,
     Refused(Refusal),
 }
 
-// The fields' values, x and y of a pin held 4,096 higher; 0 where there is none, and after a refusal.
+// The answer with the values of the fields, x and y of a pin held 4,096 higher; 0 past the last field, and after a refusal.
 pub struct FieldsRead {
     pub answer: Fields,
     pub values: [u64; 4],
 }
 
-// The number of bytes before the first d, or of all.
+// The number of bytes before the first d, or of all where there is no d.
 pub fn bytes_before(s: &[u8], d: u8) -> usize
     ensures { λ r. ⌜ r ≡ length (upTo d (now (s .entry))) ⌝ }
 {
@@ -63,6 +76,17 @@ pub fn bytes_before(s: &[u8], d: u8) -> usize
     i
 }
 
+// The place of the first LF from a on, or the end of the text.
+pub fn line_end(text: &[u8], a: usize) -> usize
+    ensures { λ r. ⌜ r ≡ lineEnd (now (text .entry)) a ⌝ }
+{
+    if text.len() < a {
+        return text.len();
+    }
+    a + bytes_before(&text[a..], 10)
+}
+
+// Whether two texts are the same bytes.
 fn same_bytes(s: &[u8], t: &[u8]) -> bool
     ensures { λ r. ⌜ r ≡ same (now (s .entry)) (now (t .entry)) ⌝ }
 {
@@ -79,48 +103,79 @@ fn same_bytes(s: &[u8], t: &[u8]) -> bool
     true
 }
 
+// The spelling of a word. The table stands in the order of the words' ranks.
+pub fn spelling_of(w: Word) -> Spelling
+    ensures { λ r. ⌜ Spells w r ⌝ }
+{
+    let spellings = [
+        Spelling([0, 0, 0, 0, 0], 0),
+        Spelling([b'd', b'i', b'e', 0, 0], 3),
+        Spelling([b'f', b'i', b'x', 0, 0], 3),
+        Spelling([b'm', b'a', b'c', 0, 0], 3),
+        Spelling([b'n', b'e', b't', 0, 0], 3),
+        Spelling([b'p', b'i', b'n', 0, 0], 3),
+        Spelling([b'e', b'n', b'd', 0, 0], 3),
+        Spelling([b'l', b'e', b'a', b's', b't'], 5),
+        Spelling([b'n', b'o', b'n', b'e', 0], 4),
+        Spelling([b'a', b't', 0, 0, 0], 2),
+        Spelling([b'd', b'o', b'n', b'e', 0], 4),
+    ];
+    spellings[grammar::rank_of(w)]
+}
+
+// The first of the first `count` words that s spells, or Nothing.
+fn word_among(s: &[u8], words: [Word; 6], count: usize) -> Word
+    requires { ⌜ count ≤ 6 ⌝ }
+    ensures { λ r. ⌜ r ≡ wordIn (take count words) (now (s .entry)) ⌝ }
+{
+    let mut i: usize = 0;
+    while i < count {
+        let w = words[i];
+        let p = spelling_of(w);
+        let bytes = p.0;
+        let size = p.1;
+        if same_bytes(&bytes[..size], s) {
+            return w;
+        }
+        i += 1;
+    }
+    Word::Nothing
+}
+
 // The word of a chip file that s spells.
 pub fn chip_word(s: &[u8]) -> Word
     ensures { λ r. ⌜ r ≡ wordIn chipWords (now (s .entry)) ⌝ }
 {
-    if same_bytes(b"die", s) {
-        return Word::Die;
-    }
-    if same_bytes(b"fix", s) {
-        return Word::Fix;
-    }
-    if same_bytes(b"mac", s) {
-        return Word::Mac;
-    }
-    if same_bytes(b"net", s) {
-        return Word::Net;
-    }
-    if same_bytes(b"pin", s) {
-        return Word::Pin;
-    }
-    if same_bytes(b"end", s) {
-        return Word::End;
-    }
-    Word::Nothing
+    word_among(
+        s,
+        [
+            Word::Die,
+            Word::Fix,
+            Word::Mac,
+            Word::Net,
+            Word::Pin,
+            Word::End,
+        ],
+        6,
+    )
 }
 
 // The word of a record that s spells.
 pub fn record_word(s: &[u8]) -> Word
     ensures { λ r. ⌜ r ≡ wordIn recordWords (now (s .entry)) ⌝ }
 {
-    if same_bytes(b"least", s) {
-        return Word::Least;
-    }
-    if same_bytes(b"none", s) {
-        return Word::None;
-    }
-    if same_bytes(b"at", s) {
-        return Word::At;
-    }
-    if same_bytes(b"done", s) {
-        return Word::Done;
-    }
-    Word::Nothing
+    word_among(
+        s,
+        [
+            Word::Least,
+            Word::None,
+            Word::At,
+            Word::Done,
+            Word::Nothing,
+            Word::Nothing,
+        ],
+        4,
+    )
 }
 
 // A field whose name is the byte `name`.
@@ -136,8 +191,8 @@ fn short_rule(name: u8, up: u64, least: u64, most: u64) -> Rule
     }
 }
 
-// The fields of each line; unused places hold a field that is never read.
-pub(crate) fn layout_of(word: Word) -> Layout
+// The fields of a line with that word; places past `count` hold a field that is never read.
+pub fn layout_of(word: Word) -> Layout
     ensures { λ r. ⌜ LayoutOk word (r .count) (r .rules) ⌝ }
 {
     let none = short_rule(0, 0, 0, 0);
@@ -253,7 +308,7 @@ fn in_range(v: u64, b: usize, rule: Rule, line: usize) -> Field
     Field::Value(v, b)
 }
 
-// The field that begins at a with its first comma.
+// The field that begins in the text at a, with the comma before its name.
 pub(crate) fn read_field(text: &[u8], a: usize, rule: Rule, line: usize) -> Field
     requires { ⌜ (a ≤ length (now text)) × Sane rule ⌝ }
     ensures { λ r. ⌜ FieldOk (now (text .entry)) a rule line r ⌝ }

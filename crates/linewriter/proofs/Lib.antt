@@ -1,1 +1,4 @@
 pub mod Joined
+pub mod Fields
+pub mod Counted
+pub mod Items

@@ -1,98 +1,66 @@
-// Writing one line into a lent buffer.
+// Writing the lines of a text into a lent buffer.
+use line::Rule;
 use model::Word;
-ghost use mathlib.Core.List.{[], _∷_, _++_};
-ghost use lib.IntN.{pos, subℕ};
+ghost use mathlib.Core.Path.{_≡_};
+ghost use mathlib.Core.List.{_++_};
 ghost use Rattle.decimal.specs.Number.{numberText};
 ghost use Rattle.decimal.specs.Held.{Wrote};
 ghost use Rattle.grammar.specs.Line.{fieldsText};
 ghost use Rattle.grammar.specs.Words.{spell, rules, itemText};
-ghost use Rattle.line.specs.Held.{valuesOf};
+ghost use Rattle.line.specs.Held.{lowered, valuesOf};
+ghost use Rattle.line.specs.Layout.{markOf, Sane};
+ghost use Rattle.linewriter.specs.Shown.{shownOf};
 
+// How many items a count means, of an array of `capacity` items: one too many where it is above that.
+pub fn shown(count: usize, capacity: usize) -> usize
+    ensures { λ r. ⌜ r ≡ shownOf count capacity ⌝ }
+{
+    if count <= capacity {
+        count
+    } else {
+        capacity + 1
+    }
+}
+
+// Writes the spelling of a word from `at` on, as far as the buffer goes, and answers the place after it.
 fn put_word(out: &mut [u8], at: usize, w: Word) -> usize
     ensures { λ r. ⌜ Wrote (now (out .entry)) (now (out .exit)) (spell w) at r ⌝ }
 {
-    match w {
-        Word::Nothing => decimal::put_bytes(out, at, b""),
-        Word::Die => decimal::put_bytes(out, at, b"die"),
-        Word::Fix => decimal::put_bytes(out, at, b"fix"),
-        Word::Mac => decimal::put_bytes(out, at, b"mac"),
-        Word::Net => decimal::put_bytes(out, at, b"net"),
-        Word::Pin => decimal::put_bytes(out, at, b"pin"),
-        Word::End => decimal::put_bytes(out, at, b"end"),
-        Word::Least => decimal::put_bytes(out, at, b"least"),
-        Word::None => decimal::put_bytes(out, at, b"none"),
-        Word::At => decimal::put_bytes(out, at, b"at"),
-        Word::Done => decimal::put_bytes(out, at, b"done"),
-    }
+    let p = line::spelling_of(w);
+    let bytes = p.0;
+    let size = p.1;
+    decimal::put_bytes(out, at, &bytes[..size])
 }
 
-// A field: its name between two commas, then its value.
-fn put_field(out: &mut [u8], at: usize, mark: &[u8], v: u64) -> usize
-    ensures { λ r. ⌜ Wrote (now (out .entry)) (now (out .exit)) (now (mark .entry) ++ numberText (pos v)) at r ⌝ }
+// The same for a field: its name between two commas, then its value v, as held.
+fn put_field(out: &mut [u8], at: usize, rule: Rule, v: u64) -> usize
+    requires { ⌜ Sane rule ⌝ }
+    ensures { λ r. ⌜ Wrote (now (out .entry)) (now (out .exit)) (markOf rule ++ numberText (lowered (rule .up) v)) at r ⌝ }
 {
-    let next = decimal::put_bytes(out, at, mark);
-    decimal::put_natural(out, next, v)
+    let mark = rule.mark;
+    let size = rule.size;
+    let a = decimal::put_bytes(out, at, &mark[..size]);
+    decimal::put_number(out, a, v, rule.up)
 }
 
-// The same for a value that is held 4,096 higher.
-fn put_raised(out: &mut [u8], at: usize, mark: &[u8], v: u64) -> usize
-    ensures { λ r. ⌜ Wrote (now (out .entry)) (now (out .exit)) (now (mark .entry) ++ numberText (subℕ v 4096)) at r ⌝ }
-{
-    let next = decimal::put_bytes(out, at, mark);
-    decimal::put_number(out, next, v, 4096)
-}
-
-// Two fields, as of a die and of a macro.
-fn put_size(out: &mut [u8], at: usize, w: u64, h: u64) -> usize
-    ensures { λ r. ⌜ Wrote (now (out .entry)) (now (out .exit)) (fieldsText (rules Word.Mac) (pos w ∷ pos h ∷ [])) at r ⌝ }
-{
-    let a = put_field(out, at, b",w,", w);
-    put_field(out, a, b",h,", h)
-}
-
-fn put_fix(out: &mut [u8], at: usize, x: u64, y: u64, w: u64, h: u64) -> usize
-    ensures { λ r. ⌜ Wrote (now (out .entry)) (now (out .exit)) (fieldsText (rules Word.Fix) (pos x ∷ pos y ∷ pos w ∷ pos h ∷ [])) at r ⌝ }
-{
-    let a = put_field(out, at, b",x,", x);
-    let b = put_field(out, a, b",y,", y);
-    put_size(out, b, w, h)
-}
-
-fn put_pin(out: &mut [u8], at: usize, m: u64, x: u64, y: u64) -> usize
-    ensures { λ r. ⌜ Wrote (now (out .entry)) (now (out .exit)) (fieldsText (rules Word.Pin) (pos m ∷ subℕ x 4096 ∷ subℕ y 4096 ∷ [])) at r ⌝ }
-{
-    let a = put_field(out, at, b",m,", m);
-    let b = put_raised(out, a, b",x,", x);
-    put_raised(out, b, b",y,", y)
-}
-
-fn put_at(out: &mut [u8], at: usize, m: u64, x: u64, y: u64) -> usize
-    ensures { λ r. ⌜ Wrote (now (out .entry)) (now (out .exit)) (fieldsText (rules Word.At) (pos m ∷ pos x ∷ pos y ∷ [])) at r ⌝ }
-{
-    let a = put_field(out, at, b",m,", m);
-    let b = put_field(out, a, b",x,", x);
-    put_field(out, b, b",y,", y)
-}
-
+// The same for the fields of a line with the word w and the values v, as held.
 fn put_fields(out: &mut [u8], at: usize, w: Word, v: [u64; 4]) -> usize
     ensures { λ r. ⌜ Wrote (now (out .entry)) (now (out .exit)) (fieldsText (rules w) (valuesOf w v)) at r ⌝ }
 {
-    match w {
-        Word::Die => put_size(out, at, v[0], v[1]),
-        Word::Fix => put_fix(out, at, v[0], v[1], v[2], v[3]),
-        Word::Mac => put_size(out, at, v[0], v[1]),
-        Word::Net => put_field(out, at, b",w,", v[0]),
-        Word::Pin => put_pin(out, at, v[0], v[1], v[2]),
-        Word::Least => put_field(out, at, b",wl,", v[0]),
-        Word::At => put_at(out, at, v[0], v[1], v[2]),
-        Word::Nothing => decimal::put_bytes(out, at, b""),
-        Word::End => decimal::put_bytes(out, at, b""),
-        Word::None => decimal::put_bytes(out, at, b""),
-        Word::Done => decimal::put_bytes(out, at, b""),
+    let layout = line::layout_of(w);
+    let rules = layout.rules;
+    let count = layout.count;
+    let mut a = at;
+    let mut j: usize = 0;
+    while j < count {
+        let rule = rules[j];
+        a = put_field(out, a, rule, v[j]);
+        j += 1;
     }
+    a
 }
 
-// The line of the word w with the values v from `at` on, as far as the buffer goes, and the place after it.
+// Writes the line with the word w and the values v, as held, from `at` on, as far as the buffer goes, and answers the place after it.
 pub fn put_line(out: &mut [u8], at: usize, w: Word, v: [u64; 4]) -> usize
     ensures { λ r. ⌜ Wrote (now (out .entry)) (now (out .exit)) (itemText (record { word = w; values = valuesOf w v })) at r ⌝ }
 {

@@ -2,10 +2,11 @@
 use mathlib.Core.Path.{_≡_, refl, ap}
 use mathlib.Core.List.{List, [], _∷_, _++_}
 use Prim.Native.Nat.{ℕ, zero, suc, _+_, _≤_, _<_}
+use native.Mathlib.Decide.{decLe}
 use native.Mathlib.Nat.{le-of-suc-le-suc}
 use native.Mathlib.Numerals.{add-one}
 use native.Mathlib.Omega.{arith}
-use lib.ListN.{length, getD, take, set}
+use lib.ListN.{length, getD, take, set, length-append}
 use Rattle.model.specs.Meaning.{firstOf}
 
 module _ {A : Type 0} (z : A) where
@@ -51,3 +52,24 @@ module _ {A : Type 0} (z : A) where
   first-past zero s h = absurd (omega arith)
   first-past (suc n) [] h = refl
   first-past (suc n) (a ∷ s) h = ap (λ (t : List A). a ∷ t) (first-past n s (le-of-suc-le-suc h))
+
+  pub getD-first : (n : ℕ) (s : List A) (i : ℕ) → i < n → getD (firstOf z n s) i z ≡ getD s i z
+  unfolding firstOf
+  getD-first zero s i h = absurd (omega arith)
+  getD-first (suc n) [] zero h = refl
+  getD-first (suc n) [] (suc i) h = refl
+  getD-first (suc n) (a ∷ s) zero h = refl
+  getD-first (suc n) (a ∷ s) (suc i) h = getD-first n s i (le-of-suc-le-suc h)
+
+  -- a count past the items would make one item too many
+  pub first-within : (n : ℕ) (s : List A) → length (firstOf z n s) ≤ length s → n ≤ length s
+  first-within n s h = by (decLe n (length s))
+    where
+      by : Dec (n ≤ length s) → n ≤ length s
+      by (yes p) = p
+      by (no q) = let g : length s + 1 ≤ length s = rw (first-past n s (omega arith), length-append) at h in absurd (omega arith)
+
+  pub first-some : (n : ℕ) (s : List A) → 0 < length (firstOf z n s) → 0 < n
+  unfolding firstOf
+  first-some zero s h = h
+  first-some (suc n) s h = omega arith

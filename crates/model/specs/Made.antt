@@ -21,57 +21,70 @@ use Rattle.model.specs.declared.PinMade.the-variants as pin
 use Rattle.model.specs.Meaning.{Pin, pinOf}
 use Rattle.model.specs.Limits.{isWithin, dieSide, fixCorner, fixSide, macSide, netWeight, pinMacro, pinPlace}
 
+-- what making a thing answers: the thing, or the number of a refusal
 pub data Made (A : Type 0) : Type 0 where
   made : A → Made A
   refusedBy : ℕ → Made A
 
+-- refusal 4: a number is outside its range
 abbrev pub outOfRange : {A : Type 0} → Made A
 outOfRange = refusedBy 4
 
+-- the thing a, where its test passes
 abbrev pub ifWithin : {A : Type 0} → Bool → A → Made A
 ifWithin true a = made a
 ifWithin false a = outOfRange
 
+-- what each case of the constructor's answer means
 abbrev pub meantDie : DieMade → Made Die
 meantDie (die.Made d) = made d
 meantDie die.Outside = outOfRange
 
+-- a die of width w and height h
 abbrev pub makeDie : ℕ → ℕ → Made Die
 makeDie w h = ifWithin (isWithin dieSide (pos w) && isWithin dieSide (pos h)) (record { w = w; h = h })
 
+-- what each case of the constructor's answer means
 abbrev pub meantFix : FixMade → Made Fix
 meantFix (fix.Made f) = made f
 meantFix fix.Outside = outOfRange
 
+-- a fix with its corner at x,y, of width w and height h
 abbrev pub makeFix : ℕ → ℕ → ℕ → ℕ → Made Fix
 makeFix x y w h = ifWithin (isWithin fixCorner (pos x) && isWithin fixCorner (pos y) && isWithin fixSide (pos w) && isWithin fixSide (pos h)) (record { x = x; y = y; w = w; h = h })
 
+-- what each case of the constructor's answer means
 abbrev pub meantMac : MacMade → Made Mac
 meantMac (mac.Made m) = made m
 meantMac mac.Outside = outOfRange
 
+-- a macro of width w and height h
 abbrev pub makeMac : ℕ → ℕ → Made Mac
 makeMac w h = ifWithin (isWithin macSide (pos w) && isWithin macSide (pos h)) (record { w = w; h = h })
 
--- how many pins a net may have is the chip's matter
+-- what each case of the constructor's answer means
 abbrev pub meantNet : NetMade → Made Net
 meantNet (net.Made n) = made n
 meantNet net.Outside = outOfRange
 
+-- a net of that weight with that many pins; how many pins a net may have is tested with its chip
 abbrev pub makeNet : ℕ → ℕ → Made Net
 makeNet weight pins = ifWithin (isWithin netWeight (pos weight)) (record { weight = weight; pins = pins })
 
--- one place of a pin, held as a pin holds it
+-- what each case of the answer for x or y of a pin means; the value is held 4,096 higher
 abbrev pub meantPlace : Place → Made ℤ
 meantPlace (place.Up v) = made (pinOf (record { m = 0; xup = v; yup = 0 }) .x)
 meantPlace place.Outside = outOfRange
 
+-- x or y of a pin
 abbrev pub makePlace : ℤ → Made ℤ
 makePlace z = ifWithin (isWithin pinPlace z) z
 
+-- what each case of the constructor's answer means
 abbrev pub meantPin : PinMade → Made Pin
 meantPin (pin.Made p) = made (pinOf p)
 meantPin pin.Outside = outOfRange
 
+-- a pin of macro m, or a pad where m is 0, at x,y
 abbrev pub makePin : ℕ → ℤ → ℤ → Made Pin
 makePin m x y = ifWithin (isWithin pinMacro (pos m) && isWithin pinPlace x && isWithin pinPlace y) (record { m = m; x = x; y = y })

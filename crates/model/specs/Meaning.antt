@@ -39,12 +39,13 @@ pub data Record : Type 0 where
 
 -- ---- what a value held by the program means
 
--- the first n of the items s; past the last of them, n stands for one item too many, which is blank
+-- the items that a count n and an array of items s mean: the first n of s; a count above the length of s means all of s and one item too many, which is blank
 unfoldable pub firstOf {ℓ} : {A : Type ℓ} → A → ℕ → List A → List A
 firstOf blank zero s = []
 firstOf blank (suc n) [] = blank ∷ []
 firstOf blank (suc n) (a ∷ s) = a ∷ firstOf blank n s
 
+-- blank items: those with 0 in every field
 abbrev pub blankFix : Fix
 blankFix = record { x = 0; y = 0; w = 0; h = 0 }
 
@@ -60,19 +61,21 @@ blankPin = record { m = 0; xup = 0; yup = 0 }
 abbrev pub blankSpot : Spot
 blankSpot = record { x = 0; y = 0 }
 
--- x and y are held 4,096 higher
+-- the pin that a value means: x and y are held 4,096 higher
 abbrev pub pinOf : HeldPin → Pin
 pinOf p = record { m = p .m; x = subℕ (p .xup) 4096; y = subℕ (p .yup) 4096 }
 
+-- the pins that a list holds
 unfoldable pub pinsOf : List HeldPin → List Pin
 pinsOf [] = []
 pinsOf (p ∷ ps) = pinOf p ∷ pinsOf ps
 
--- each net takes its pins from the front of the list
+-- the nets that two lists mean, of nets and of pins: each net takes its pins from the front of the second list
 unfoldable pub netsOf : List HeldNet → List HeldPin → List Net
 netsOf [] ps = []
 netsOf (t ∷ ts) ps = record { weight = t .weight; pins = pinsOf (firstOf blankPin (t .pins) ps) } ∷ netsOf ts (drop (t .pins) ps)
 
+-- the chip that a value means
 unfoldable pub chipOf : HeldChip → Chip
 chipOf c = record {
   die = c .die;
@@ -81,9 +84,11 @@ chipOf c = record {
   nets = netsOf (firstOf blankNet (c .t) (c .nets)) (c .pins);
 }
 
+-- the record that an outcome and a list of corners mean
 abbrev pub outcomeOf : Outcome → List Spot → Record
 outcomeOf outcome.None s = none
 outcomeOf (outcome.Least wl n) s = least wl (firstOf blankSpot n s)
 
+-- the record that a value means
 unfoldable pub recordOf : HeldRecord → Record
 recordOf r = outcomeOf (r .outcome) (r .spots)

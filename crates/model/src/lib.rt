@@ -4,13 +4,13 @@ ghost use mathlib.Core.Bool.{_&&_};
 ghost use lib.Dec.{leb};
 ghost use Rattle.model.specs.Made.{meantDie, makeDie, meantFix, makeFix, meantMac, makeMac, meantNet, makeNet, meantPlace, makePlace, meantPin, makePin};
 
-// Why an input is refused: the number and the line of document 01's refusal table.
+// A refusal: its number in document 01's refusal table, and the line (0 where there is none).
 pub struct Refusal {
     pub no: usize,
     pub line: usize,
 }
 
-// What testing a value answers.
+// What testing a value answers: it passes, or the first refusal.
 pub enum Tested {
     Passed,
     Refused(Refusal),
@@ -37,8 +37,8 @@ pub enum Word {
     Done,
 }
 
-// A number is in the range from least to most.
-fn within(v: u64, least: u64, most: u64) -> bool
+// Whether v is within least..most.
+pub fn within(v: u64, least: u64, most: u64) -> bool
     ensures { λ r. ⌜ r ≡ (leb least v && leb v most) ⌝ }
 {
     if v < least {
@@ -47,23 +47,26 @@ fn within(v: u64, least: u64, most: u64) -> bool
     v <= most
 }
 
-// The die, with its lower left corner at 0,0.
+// The die: its width and its height; its lower left corner is at 0,0.
 pub struct Die {
     pub w: u64,
     pub h: u64,
 }
 
-// What a constructor answers: the thing, or that a number is outside its range.
+// What making a die answers: the die, or that a number is outside its range.
 pub enum DieMade {
     Made(Die),
     Outside,
 }
 
 impl Die {
+    // The least width and height.
     pub const SIDE_LEAST: u64 = 1;
 
+    // The greatest width and height.
     pub const SIDE_MOST: u64 = 1024;
 
+    // A die, where its sides are in their range.
     pub fn new(w: u64, h: u64) -> DieMade
         ensures { λ r. ⌜ meantDie r ≡ makeDie w h ⌝ }
     {
@@ -77,7 +80,7 @@ impl Die {
     }
 }
 
-// A blockage.
+// A blockage: its lower left corner at x,y, its width and its height.
 pub struct Fix {
     pub x: u64,
     pub y: u64,
@@ -85,20 +88,26 @@ pub struct Fix {
     pub h: u64,
 }
 
+// What making a fix answers: the fix, or that a number is outside its range.
 pub enum FixMade {
     Made(Fix),
     Outside,
 }
 
 impl Fix {
+    // How many fixes a chip has at most.
     pub const COUNT: usize = 8;
 
+    // The greatest x and y.
     pub const CORNER_MOST: u64 = 1023;
 
+    // The least width and height.
     pub const SIDE_LEAST: u64 = 1;
 
+    // The greatest width and height.
     pub const SIDE_MOST: u64 = 1024;
 
+    // A fix, where its corner and its sides are in their ranges.
     pub fn new(x: u64, y: u64, w: u64, h: u64) -> FixMade
         ensures { λ r. ⌜ meantFix r ≡ makeFix x y w h ⌝ }
     {
@@ -118,24 +127,29 @@ impl Fix {
     }
 }
 
-// A movable macro.
+// A movable macro: its width and its height.
 pub struct Mac {
     pub w: u64,
     pub h: u64,
 }
 
+// What making a macro answers: the macro, or that a number is outside its range.
 pub enum MacMade {
     Made(Mac),
     Outside,
 }
 
 impl Mac {
+    // How many macros a chip has at most.
     pub const COUNT: usize = 8;
 
+    // The least width and height.
     pub const SIDE_LEAST: u64 = 1;
 
+    // The greatest width and height.
     pub const SIDE_MOST: u64 = 1024;
 
+    // A macro, where its sides are in their range.
     pub fn new(w: u64, h: u64) -> MacMade
         ensures { λ r. ⌜ meantMac r ≡ makeMac w h ⌝ }
     {
@@ -155,18 +169,23 @@ pub struct Net {
     pub pins: usize,
 }
 
+// What making a net answers: the net, or that a number is outside its range.
 pub enum NetMade {
     Made(Net),
     Outside,
 }
 
 impl Net {
+    // How many nets a chip has at most.
     pub const COUNT: usize = 32;
 
+    // The least weight.
     pub const WEIGHT_LEAST: u64 = 1;
 
+    // The greatest weight.
     pub const WEIGHT_MOST: u64 = 1000;
 
+    // A net, where its weight is in its range.
     pub fn new(weight: u64, pins: usize) -> NetMade
         ensures { λ r. ⌜ meantNet r ≡ makeNet weight pins ⌝ }
     {
@@ -184,17 +203,19 @@ pub struct Pin {
     pub yup: u64,
 }
 
+// What making a pin answers: the pin, or that a number is outside its range.
 pub enum PinMade {
     Made(Pin),
     Outside,
 }
 
-// A place of a pin, held 4,096 higher, or that it is outside its range.
+// What holding x or y of a pin answers: the value, held 4,096 higher, or that it is outside its range.
 enum Place {
     Up(u64),
     Outside,
 }
 
+// x or y of a pin, held 4,096 higher, where it is in its range.
 fn raised(x: i64) -> Place
     ensures { λ r. ⌜ meantPlace r ≡ makePlace x ⌝ }
 {
@@ -209,14 +230,19 @@ fn raised(x: i64) -> Place
 }
 
 impl Pin {
+    // How many pins a chip has at most, in all nets.
     pub const COUNT: usize = 128;
 
+    // How much higher x and y are held.
     pub const UP: u64 = 4096;
 
+    // The least x and y, as held: -4,096.
     pub const PLACE_LEAST_UP: u64 = 0;
 
+    // The greatest x and y, as held: 4,096.
     pub const PLACE_MOST_UP: u64 = 8192;
 
+    // A pin or a pad, where m, x and y are in their ranges.
     pub fn new(m: usize, x: i64, y: i64) -> PinMade
         ensures { λ r. ⌜ meantPin r ≡ makePin m x y ⌝ }
     {
@@ -245,13 +271,14 @@ pub struct Chip {
     pub pins: [Pin; 128],
 }
 
-// A macro's corner.
+// A macro's lower left corner in a placement.
 pub struct Spot {
     pub x: u64,
     pub y: u64,
 }
 
 impl Spot {
+    // The greatest x and y.
     pub const MOST: u64 = 1024;
 }
 
@@ -268,5 +295,6 @@ pub struct Record {
 }
 
 impl Record {
+    // The greatest wirelength.
     pub const LENGTH_MOST: u64 = 589824000;
 }

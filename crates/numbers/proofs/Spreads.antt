@@ -55,11 +55,6 @@ unfolding spread
 spread-le b [] h = omega arith
 spread-le b (a ∷ s) h = let g = most-le b a s (first-at-most b a s h) (rest-at-most b a s h) in omega arith
 
--- one number has no spread
-pub spread-one : (a : ℕ) → spread (a ∷ []) ≡ 0
-unfolding spread most fewest
-spread-one a = omega arith
-
 -- every number of the list is at least b
 pub record AtLeast (b : ℕ) (s : List ℕ) : Type 0 where
   pub at : (i : ℕ) → i < length s → b ≤ getD s i 0

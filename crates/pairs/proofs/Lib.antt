@@ -1,3 +1,4 @@
 pub mod Cursors
 pub mod Stepping
 pub mod Places
+pub mod Counts

@@ -1,9 +1,8 @@
 -- A cursor at the place of a letter: the pairs from it on are those from that place on, so the pair at hand is the pair of that letter.
-use Prim.Native.Nat.{ℕ, _+_, _-_, _*_, _≤_, _<_}
+use Prim.Native.Nat.{ℕ, _+_, _≤_, _<_}
 use mathlib.Core.Path.{_≡_, refl, sym, ap, _∙_}
 use mathlib.Core.Bool.{Bool, true, false}
 use mathlib.Core.List.{List, []}
-use native.Mathlib.Nat.{mul-le-mul}
 use native.Mathlib.Numerals.{add-one}
 use native.Mathlib.Omega.{arith}
 use lib.ListN.{length, getD, take, drop, length-drop}
@@ -13,7 +12,7 @@ use Rattle.model.specs.declared.Mac.{Mac}
 use Rattle.model.specs.Meaning.{Chip, blankFix, blankMac}
 use Rattle.slots.specs.Slots.{Couple, couplesOf}
 use Rattle.slots.specs.Fit.{letterCount}
-use Rattle.slots.proofs.Counting.{letters-count}
+use Rattle.slots.proofs.Counting.{letters-count, few-letters}
 use Rattle.pairs.specs.declared.Cursor.{Cursor}
 use Rattle.pairs.specs.Order.{pairAt, coupleAt, restFrom, OnPair, Ready, First, nextOf}
 use Rattle.pairs.proofs.Cursors.{ready-on}
@@ -24,9 +23,7 @@ pub few-pairs : (ms : List Mac) (fs : List Fix) → length ms ≤ 8 → length f
 few-pairs ms fs a b =
     let c : Chip = record { die = record { w = 0; h = 0 }; fixes = fs; macs = ms; nets = [] } in
     let e : length (couplesOf ms fs) ≡ letterCount c = letters-count c in
-    let l : length ms - 1 ≤ 7 = omega arith in
-    let p : length ms * (length ms - 1) ≤ 8 * 7 = mul-le-mul a l in
-    let q : length ms * length fs ≤ 8 * 8 = mul-le-mul a b in
+    let l = few-letters (length ms) a (length fs) b in
     omega arith
 
 -- the pair read from lists that go on is the pair of their first n and k items

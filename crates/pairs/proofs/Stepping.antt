@@ -96,13 +96,6 @@ module _ (at : Cursor) (n k : ℕ) where
 
   -- ---- what that means
 
-  pub next-stays : (OnPair n k at → ⊥) → nextOf at n k ≡ at
-  next-stays off = sym (by (isOn n k (at .fix) (at .i) (at .j)) refl)
-    where
-      by : (b : Bool) → b ≡ isOn n k (at .fix) (at .i) (at .j) → at ≡ nextOf at n k
-      by false e = stays-off false e refl
-      by true e = absurd (off (is-on n k at (sym e)))
-
   module _ (on : OnPair n k at) where
     there : (r : Cursor) → r ≡ nextOf at n k → Next n k at r → Next n k at (nextOf at n k)
     there r e s = rw (← e) s

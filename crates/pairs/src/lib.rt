@@ -1,6 +1,7 @@
-// A cursor through the pairs of a chip, in the order of their letters.
+// The pairs of a chip, in the order of their letters: how many there are, and a cursor through them.
 ghost use mathlib.Core.Path.{_≡_};
 ghost use Rattle.pairs.specs.Order.{First, isOn, nextOf};
+ghost use Rattle.pairs.specs.Count.{letterTotal};
 
 // A pair in the order of letters: macros i and j, or macro i and fix j, counted from 0.
 pub struct Cursor {
@@ -80,4 +81,20 @@ pub fn next_pair(at: Cursor, n: usize, k: usize) -> Cursor
         i: 0,
         j: 0,
     }
+}
+
+// With n macros, k fixes there are n(n-1)/2 + n·k letters; 0 past 8 macros or 8 fixes, which no chip has.
+pub fn letter_count(n: usize, k: usize) -> usize
+    ensures { λ r. ⌜ r ≡ letterTotal n k ⌝ }
+{
+    if n == 0 {
+        return 0;
+    }
+    if 8 < n {
+        return 0;
+    }
+    if 8 < k {
+        return 0;
+    }
+    n * (n - 1) / 2 + n * k
 }

@@ -4,7 +4,7 @@ use Prim.Native.Nat.{ℕ, _≤_, _<_}
 use mathlib.Core.Path.{_≡_, refl, sym, ap, subst, _∙_}
 use mathlib.Core.Bool.{Bool, true, false, false≢true}
 use mathlib.Core.Logic.{_⊎_, inl, inr}
-use mathlib.Core.List.{List, [], _∷_, _++_, append-assoc, append-nil, List·Memᴰ, List·Memᴰ·head, List·Memᴰ·not-nil, List·Memᴰ·append-cases, List·Memᴰ·eq-of-singleton, Memᴰ·append-right}
+use mathlib.Core.List.{List, [], _∷_, _++_, append-assoc, append-nil, List·Memᴰ, List·Memᴰ·not-nil, List·Memᴰ·append-cases, List·Memᴰ·eq-of-singleton}
 use native.Mathlib.Omega.{arith}
 use borrow.Author.Tests.{ltb-true, ltb-false}
 use Rattle.model.specs.declared.Spot.{Spot}
@@ -99,8 +99,3 @@ module _ (c : Chip) (passes : List Spot → Bool) where
 
   pub first-least : (all : List (List Spot)) → Is c passes all (tryAll c passes all nothing)
   first-least all = tried all [] nothing (record { fails = λ qs m t. List·Memᴰ·not-nil m })
-
--- the placement found is one of the list
-module _ (c : Chip) (passes : List Spot → Bool) (all : List (List Spot)) (l : ℕ) (ps : List Spot) where
-  pub least-member : LeastAt c passes all l ps → List·Memᴰ ps all
-  least-member i = subst (λ (s : List (List Spot)). List·Memᴰ ps s) (sym (i .stands)) (Memᴰ·append-right (i .front) (List·Memᴰ·head refl))

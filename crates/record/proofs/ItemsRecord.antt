@@ -6,8 +6,8 @@ use Prim.Native.Nat.{ℕ, suc}
 use Rattle.model.specs.declared.Spot.{Spot}
 use Rattle.model.specs.declared.Word.the-variants as word
 use Rattle.model.specs.Meaning.{Record, none, least}
-use Rattle.grammar.specs.Words.{Item, isWord}
-use Rattle.record.specs.Kind.{size, spotOf}
+use Rattle.grammar.specs.Words.{Item, isWord, size}
+use Rattle.record.specs.Kind.{spotOf}
 use Rattle.record.specs.Text.{doneItem, atItems, recordItems}
 
 -- the spots that lines say

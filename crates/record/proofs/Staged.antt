@@ -12,13 +12,13 @@ use Rattle.model.specs.declared.Spot.{Spot}
 use Rattle.model.specs.Meaning.{Record, least}
 use Rattle.model.specs.declared.Word.{Word}
 use Rattle.model.specs.declared.Word.the-variants as word
-use Rattle.grammar.specs.Words.{Item}
+use Rattle.grammar.specs.Words.{Item, size}
 use Rattle.grammar.specs.Reading.{next, accepted}
 use Rattle.grammar.proofs.Every.{Every}
 use Rattle.grammar.proofs.Items.{WellFormed, runItems, check-next}
 use Rattle.grammar.proofs.Values.{heldOf, grows}
 use Rattle.grammar.proofs.Ready.{Stages, Staged, staged-next, staged-on, run-ready}
-use Rattle.record.specs.Kind.{Part, start, followers, size, spotsOf, spotOf, withSpot, after, add, recordKind}
+use Rattle.record.specs.Kind.{Part, start, followers, spotsOf, spotOf, withSpot, after, add, recordKind}
 use Rattle.record.specs.Text.{atItems, recordItems}
 use Rattle.record.proofs.Body.{body, body-done, body-at}
 

@@ -1,15 +1,15 @@
 -- The rules of the record (document 01, "The search and its record" and "Refusal table"), as a kind of text.
-use Prim.Native.Nat.{ℕ, suc}
+use Prim.Native.Nat.{suc}
 use mathlib.Core.List.{List, [], _∷_, _++_}
 use mathlib.Core.Bool.{Bool, true}
 use lib.Dec.{ltb, eqb}
-use lib.ListN.{length, getD}
-use lib.IntN.{ℤ, pos, natAbs}
+use lib.ListN.{length}
+use lib.IntN.{ℤ}
 use Rattle.model.specs.declared.Spot.{Spot}
 use Rattle.model.specs.declared.Word.{Word}
 use Rattle.model.specs.declared.Word.the-variants as word
 use Rattle.model.specs.Meaning.{Record, none, least}
-use Rattle.grammar.specs.Words.{isWord, isIn, recordWords}
+use Rattle.grammar.specs.Words.{isWord, isIn, recordWords, size}
 use Rattle.grammar.specs.Reading.{Kind, Step, next, fault, check}
 
 -- what has been read: the word of the last line (`Nothing` before the first) and the record so far
@@ -17,6 +17,7 @@ pub record Part : Type 0 where
   pub last : Word
   pub result : Record
 
+-- before the first line: no word, and the record `none`
 abbrev pub start : Part
 start = record { last = word.Nothing; result = none }
 
@@ -34,11 +35,12 @@ followers word.None = word.Done ∷ []
 followers word.At = word.At ∷ word.Done ∷ []
 followers word.Done = []
 
+-- the macros' corners of a record
 abbrev pub spotsOf : Record → List Spot
 spotsOf none = []
 spotsOf (least wl ps) = ps
 
--- at most 8 macros
+-- there is room for one more of the kind: a record has at most 8 macros
 abbrev pub room : Record → Word → Bool
 room r word.Nothing = true
 room r word.Die = true
@@ -52,21 +54,20 @@ room r word.None = true
 room r word.At = ltb (length (spotsOf r)) 8
 room r word.Done = true
 
--- value i of a line
-abbrev pub size : List ℤ → ℕ → ℕ
-size zs i = natAbs (getD zs i (pos 0))
-
+-- the corner with the values zs of an `at` line
 abbrev pub spotOf : List ℤ → Spot
 spotOf zs = record { x = size zs 1; y = size zs 2 }
 
+-- the record with one more corner
 abbrev pub withSpot : Record → Spot → Record
 withSpot none p = none
 withSpot (least wl ps) p = least wl (ps ++ (p ∷ []))
 
+-- the record r has been read, and w is the word of the last line
 abbrev pub after : Word → Record → Step Part
 after w r = next (record { last = w; result = r })
 
--- m in turn, or 8; and what a line adds
+-- what a line with that word and the values zs adds, and its last test: m out of turn 8
 abbrev pub add : Part → Word → List ℤ → Step Part
 add s word.Nothing zs = fault 2
 add s word.Die zs = fault 2

@@ -10,6 +10,7 @@ use Rattle.grammar.specs.Reading.{Reading, accepted, refused, readText}
 use Rattle.grammar.specs.Writing.{Written, writeText}
 use Rattle.record.specs.Kind.{Part, start, recordKind}
 
+-- the record that the lines of a text lead to, or their refusal
 abbrev pub recordRead : Reading Part → Reading Record
 recordRead (accepted s) = accepted (s .result)
 recordRead (refused n l) = refused n l
@@ -20,6 +21,7 @@ readRecord text = recordRead (readText recordKind start text)
 
 -- ---- the lines of a record
 
+-- the first line of a record with a placement, or without one, and the last line
 abbrev pub leastItem : ℕ → Item
 leastItem wl = record { word = word.Least; values = pos wl ∷ [] }
 
@@ -29,15 +31,16 @@ noneItem = record { word = word.None; values = [] }
 abbrev pub doneItem : Item
 doneItem = record { word = word.Done; values = [] }
 
--- macro m at p
+-- the line of macro m with its corner at p
 abbrev pub atItem : ℕ → Spot → Item
 atItem m p = record { word = word.At; values = pos m ∷ pos (p .x) ∷ pos (p .y) ∷ [] }
 
--- macros m, m + 1 and so on
+-- the lines of macros m, m + 1 and so on
 unfoldable pub atItems : ℕ → List Spot → List Item
 atItems m [] = []
 atItems m (p ∷ ps) = atItem m p ∷ atItems (suc m) ps
 
+-- all lines of a record
 unfoldable pub recordItems : Record → List Item
 recordItems none = noneItem ∷ (doneItem ∷ [])
 recordItems (least wl ps) = leastItem wl ∷ (atItems 1 ps ++ (doneItem ∷ []))

@@ -1,4 +1,4 @@
--- What a line adds: the length, no placement, a spot, the end.
+-- What a line adds: the length, a spot, the end.
 use mathlib.Core.Path.{_≡_, refl, sym, _∙_}
 use mathlib.Core.Bool.{true, false, false≢true}
 use mathlib.Core.List.{List}
@@ -12,10 +12,11 @@ use Rattle.model.specs.declared.Word.the-variants as word
 use Rattle.model.specs.Meaning.{firstOf, blankSpot}
 use Rattle.model.proofs.FirstOf.{first-set}
 use Rattle.grammar.specs.Steps.{Entered}
+use Rattle.grammar.specs.Words.{size}
 use Rattle.line.specs.Held.{valuesOf}
-use Rattle.record.specs.Kind.{recordKind, add, size, spotsOf}
+use Rattle.record.specs.Kind.{recordKind, add, spotsOf}
 use Rattle.recordreader.specs.declared.State.{State}
-use Rattle.recordreader.specs.declared.Fault.the-variants as held
+use Rattle.line.specs.declared.Fault.the-variants as held
 use Rattle.recordreader.specs.declared.Taken.{Taken}
 use Rattle.recordreader.specs.State.{Sound, partOf, withFault, TakenOk}
 use Rattle.recordreader.proofs.Values.{heldSpot, least-values, at-values}
@@ -32,9 +33,6 @@ module _ (s : State) (v : List ℕ) (sound : Sound s) where
         meant = rw (least-values v);
         sound = record { few = omega arith; long = sound .long; blank = λ e. refl; opened = λ o. refl };
       }
-
-  pub none-added : TakenOk (taken (record { last = word.None; found = false; wl = 0; count = 0; spots = s .spots })) (add (partOf s) word.None (valuesOf word.None v))
-  none-added = record { meant = refl; sound = record { few = omega arith; long = sound .long; blank = λ e. refl; opened = λ o. absurd (false≢true o) } }
 
   pub done-added : TakenOk (taken (record { last = word.Done; found = s .found; wl = s .wl; count = s .count; spots = s .spots })) (add (partOf s) word.Done (valuesOf word.Done v))
   done-added = record { meant = refl; sound = record { few = sound .few; long = sound .long; blank = sound .blank; opened = λ o. absurd (false≢true o) } }

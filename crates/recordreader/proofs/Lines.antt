@@ -13,13 +13,13 @@ use Rattle.model.specs.declared.Word.the-variants as word
 use Rattle.model.specs.Meaning.{Record, recordOf, blankSpot}
 use Rattle.grammar.specs.Words.{rank}
 use Rattle.grammar.specs.Reading.{Reading, refused, stepBytes, stepLine, ending}
-use Rattle.grammar.specs.Steps.{LineEnd, lineAt}
+use Rattle.grammar.specs.Steps.{lineEnd, lineAt}
 use Rattle.grammar.proofs.LineAt.{step-open, step-ended}
-use Rattle.grammar.proofs.Left.{Left, text-too-long, text-fails, text-goes-on, text-ends}
+use Rattle.grammar.proofs.Left.{Left, text-fails, text-goes-on, text-ends}
 use Rattle.record.specs.Kind.{start, recordKind}
 use Rattle.record.specs.Text.{recordRead, readRecord}
 use Rattle.recordreader.specs.declared.State.{State}
-use Rattle.recordreader.specs.declared.Fault.the-variants as held
+use Rattle.line.specs.declared.Fault.the-variants as held
 use Rattle.recordreader.specs.declared.Taken.{Taken}
 use Rattle.recordreader.specs.declared.RecordAnswer.the-variants as answer
 use Rattle.recordreader.specs.declared.RecordRead.{RecordRead}
@@ -31,17 +31,13 @@ refuses r n l read q e = rw e (record { meant = q; blank = refl })
 
 -- ---- before the first line
 
-pub too-long : (text : List ℕ) → 16384 < length text → refused 1 0 ≡ readRecord text
-unfolding readRecord
-too-long text h = ap recordRead (text-too-long recordKind start text h)
-
 module _ (ps : List Spot) (e : ps ≡ replicate 8 blankSpot) where
   pub empty-sound : Sound (record { last = word.Nothing; found = false; wl = 0; count = 0; spots = ps })
   empty-sound = record { few = omega arith; long = ap length e; blank = λ f. refl; opened = λ o. absurd (false≢true o) }
 
 -- ---- a line
 
-module _ (text : List ℕ) (a z : ℕ) (end : LineEnd text a z) (s : State) (t : Taken) where
+module _ (text : List ℕ) (a z : ℕ) (end : z ≡ lineEnd text a) (s : State) (t : Taken) where
   pub no-feed : Sound s → z ≡ length text → t ≡ withFault s 2 → TakenOk t (stepLine recordKind (partOf s) (lineAt text a z))
   no-feed sound q e = rw e (record { meant = step-open text a z end recordKind (partOf s) q; sound = sound })
 

@@ -5,8 +5,9 @@ use Prim.Native.Nat.{ℕ}
 use lib.ListN.{getD}
 use Rattle.model.specs.declared.Spot.{Spot}
 use Rattle.model.specs.declared.Word.the-variants as word
+use Rattle.grammar.specs.Words.{size}
 use Rattle.line.specs.Held.{loweredAll, valuesOf}
-use Rattle.record.specs.Kind.{size, spotOf}
+use Rattle.record.specs.Kind.{spotOf}
 
 -- the spot that the program makes of the numbers v
 abbrev pub heldSpot : List ℕ → Spot

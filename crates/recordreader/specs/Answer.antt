@@ -19,14 +19,16 @@ abbrev pub meant : RecordAnswer → HeldRecord → Reading Record
 meant answer.Accepted r = accepted (recordOf r)
 meant (answer.Refused f) r = refused (f .no) (f .line)
 
+-- the same, of the answer and the record as one
 abbrev pub meantRecord : RecordRead → Reading Record
 meantRecord r = meant (r .answer) (r .record)
 
--- the record that a refusal leaves
+-- the record after a refusal; where there is none, a blank one
 abbrev pub afterRefusal : RecordAnswer → HeldRecord → HeldRecord
 afterRefusal answer.Accepted r = blankRecord
 afterRefusal (answer.Refused f) r = r
 
+-- refusal n at line l, with a blank record
 abbrev pub refusedAt : ℕ → ℕ → RecordRead
 refusedAt n l = record { answer = answer.Refused (record { no = n; line = l }); «record» = blankRecord }
 

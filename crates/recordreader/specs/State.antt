@@ -10,10 +10,10 @@ use Rattle.model.specs.declared.Spot.{Spot}
 use Rattle.model.specs.Meaning.{Record, none, least, firstOf, blankSpot}
 use Rattle.grammar.specs.Words.{isWord}
 use Rattle.grammar.specs.Reading.{Step, next, fault as faulty}
+use Rattle.line.specs.declared.Fault.{Fault}
+use Rattle.line.specs.declared.Fault.the-variants as fault
 use Rattle.record.specs.Kind.{Part}
 use Rattle.recordreader.specs.declared.State.{State}
-use Rattle.recordreader.specs.declared.Fault.{Fault}
-use Rattle.recordreader.specs.declared.Fault.the-variants as fault
 use Rattle.recordreader.specs.declared.Taken.{Taken}
 
 -- the record so far, by whether there is a `least` line
@@ -21,6 +21,7 @@ abbrev pub resultOf : Bool → ℕ → ℕ → List Spot → Record
 resultOf false wl n ps = none
 resultOf true wl n ps = least wl (firstOf blankSpot n ps)
 
+-- what has been read, as the rules of the record say it
 abbrev pub partOf : State → Part
 partOf s = record { last = s .last; result = resultOf (s .found) (s .wl) (s .count) (s .spots) }
 
@@ -31,24 +32,27 @@ pub record Sound (s : State) : Type 0 where
   pub blank : s .found ≡ false → s .count ≡ 0
   pub opened : (isWord (s .last) word.Least || isWord (s .last) word.At) ≡ true → s .found ≡ true
 
--- by the rank of a word, the least and the greatest rank of the words that may stand after it
+-- by the rank of a word, the least and the greatest rank of the words that may stand after it (1 and 0: none may)
 abbrev pub leastNext : List ℕ
 leastNext = 7 ∷ 1 ∷ 1 ∷ 1 ∷ 1 ∷ 1 ∷ 1 ∷ 9 ∷ 10 ∷ 9 ∷ 1 ∷ []
 
 abbrev pub mostNext : List ℕ
 mostNext = 8 ∷ 0 ∷ 0 ∷ 0 ∷ 0 ∷ 0 ∷ 0 ∷ 10 ∷ 10 ∷ 10 ∷ 0 ∷ []
 
+-- a word of rank b may stand after one of rank a
 abbrev pub mayFollow : ℕ → ℕ → Bool
 mayFollow a b = leb (getD leastNext a 0) b && leb b (getD mostNext a 0)
 
+-- what a line leads to, by its fault
 abbrev pub stepOf : Fault → State → Step Part
 stepOf fault.Clear s = next (partOf s)
 stepOf (fault.No n) s = faulty n
 
+-- fault n, and what was read before
 abbrev pub withFault : State → ℕ → Taken
 withFault s n = record { fault = fault.No n; state = s }
 
--- t is what the step means, and what is held is sound
+-- t means the step, and what has been read is sound
 pub record TakenOk (t : Taken) (step : Step Part) : Type 0 where
   pub meant : stepOf (t .fault) (t .state) ≡ step
   pub sound : Sound (t .state)

@@ -1,4 +1,5 @@
 // Reading a record from its text.
+use line::Fault;
 use line::Fields;
 use model::Mac;
 use model::Outcome;
@@ -13,7 +14,7 @@ ghost use Rattle.model.specs.Meaning.{recordOf, blankSpot};
 ghost use Rattle.grammar.specs.Words.{rules};
 ghost use Rattle.grammar.specs.Line.{fields};
 ghost use Rattle.grammar.specs.Reading.{stepBytes, stepFields, stepLine, ending};
-ghost use Rattle.grammar.specs.Steps.{entryFault, Entered, LineEnd, lineAt};
+ghost use Rattle.grammar.specs.Steps.{entryFault, Entered, lineEnd, lineAt};
 ghost use Rattle.line.specs.Held.{valuesOf};
 ghost use Rattle.record.specs.Kind.{add, recordKind};
 ghost use Rattle.record.specs.Text.{recordRead, readRecord};
@@ -32,7 +33,7 @@ pub struct RecordRead {
     pub record: Record,
 }
 
-// What has been read: the word of the last line, whether there is a `least` line, its length, and the spots so far.
+// What has been read: the word of the last line, whether there is a `least` line, its wirelength, and the spots so far with their count.
 pub(crate) struct State {
     pub last: Word,
     pub found: bool,
@@ -41,39 +42,30 @@ pub(crate) struct State {
     pub spots: [Spot; 8],
 }
 
-// The fault of a line, if any.
-pub(crate) enum Fault {
-    Clear,
-    No(usize),
-}
-
 // What a line leads to: its fault, or what has been read with it.
 pub(crate) struct Taken {
     pub fault: Fault,
     pub state: State,
 }
 
-// Spots that hold nothing.
+// Blank spots: 0,0 each.
 fn blank_spots() -> [Spot; 8]
     ensures { λ r. ⌜ r ≡ replicate 8 blankSpot ⌝ }
 {
     [Spot { x: 0, y: 0 }; 8]
 }
 
-// Place: whether a word of rank b may stand after one of rank a. It may if b is from least[a] to most[a].
+// Place: whether a word of rank b may stand after one of rank a: it may where b is from least[a] to most[a].
 fn may_follow(a: usize, b: usize) -> bool
     requires { ⌜ a < 11 ⌝ }
     ensures { λ r. ⌜ r ≡ mayFollow a b ⌝ }
 {
     let least = [7, 1, 1, 1, 1, 1, 1, 9, 10, 9, 1];
     let most = [8, 0, 0, 0, 0, 0, 0, 10, 10, 10, 0];
-    if b < least[a] {
-        return false;
-    }
-    b <= most[a]
+    model::within(b as u64, least[a], most[a])
 }
 
-// The first fault before the fields: word 2, place 5, count 6; or 0.
+// The first fault of a line before its fields: word 2, place 5, count 6; or 0.
 fn entry_fault(s: State, w: Word) -> usize
     requires { ⌜ Sound s ⌝ }
     ensures { λ r. ⌜ r ≡ entryFault recordKind (partOf s) w ⌝ }
@@ -105,7 +97,7 @@ fn with_fault(s: State, no: usize) -> Taken
     }
 }
 
-// The length, with no spot yet.
+// What a `least` line adds: the wirelength, with no spot yet.
 fn add_least(s: State, v: [u64; 4]) -> Taken
     requires { ⌜ Sound s ⌝ }
     ensures { λ r. ⌜ TakenOk r (add (partOf s) Word.Least (valuesOf Word.Least v)) ⌝ }
@@ -123,7 +115,7 @@ fn add_least(s: State, v: [u64; 4]) -> Taken
     }
 }
 
-// No placement.
+// What a `none` line adds: that there is no placement.
 fn add_none(s: State, v: [u64; 4]) -> Taken
     requires { ⌜ Sound s ⌝ }
     ensures { λ r. ⌜ TakenOk r (add (partOf s) Word.None (valuesOf Word.None v)) ⌝ }
@@ -141,7 +133,7 @@ fn add_none(s: State, v: [u64; 4]) -> Taken
     }
 }
 
-// The spot of macro m: m out of turn 8.
+// What an `at` line adds: the spot of macro m. m out of turn 8.
 fn add_at(s: State, v: [u64; 4]) -> Taken
     requires { ⌜ Sound s ⌝ }
     requires { ⌜ Entered recordKind (partOf s) Word.At ⌝ }
@@ -166,7 +158,7 @@ fn add_at(s: State, v: [u64; 4]) -> Taken
     }
 }
 
-// The last line.
+// What the `done` line adds: nothing.
 fn add_done(s: State, v: [u64; 4]) -> Taken
     requires { ⌜ Sound s ⌝ }
     ensures { λ r. ⌜ TakenOk r (add (partOf s) Word.Done (valuesOf Word.Done v)) ⌝ }
@@ -184,7 +176,7 @@ fn add_done(s: State, v: [u64; 4]) -> Taken
     }
 }
 
-// What a line whose fields are read adds.
+// What a line with the word w and the values v adds, or its fault.
 fn add_item(s: State, w: Word, v: [u64; 4]) -> Taken
     requires { ⌜ Sound s ⌝ }
     requires { ⌜ Entered recordKind (partOf s) w ⌝ }
@@ -205,7 +197,7 @@ fn add_item(s: State, w: Word, v: [u64; 4]) -> Taken
     }
 }
 
-// What a line leads to whose word passes, by the bytes after the word.
+// What a line leads to whose word passes the tests before the fields, by the bytes after the word.
 fn take_fields(rest: &[u8], s: State, w: Word, line: usize) -> Taken
     requires { ⌜ Sound s ⌝ }
     requires { ⌜ Entered recordKind (partOf s) w ⌝ }
@@ -220,7 +212,7 @@ fn take_fields(rest: &[u8], s: State, w: Word, line: usize) -> Taken
     }
 }
 
-// What a line with these bytes leads to, if it has its LF.
+// What a line with these bytes leads to, where it has its LF.
 fn take_line(bytes: &[u8], s: State, line: usize) -> Taken
     requires { ⌜ Sound s ⌝ }
     ensures { λ r. ⌜ TakenOk r (stepBytes recordKind (partOf s) (now (bytes .entry))) ⌝ }
@@ -234,19 +226,11 @@ fn take_line(bytes: &[u8], s: State, line: usize) -> Taken
     take_fields(&bytes[b..], s, w, line)
 }
 
-// The place of the first LF from a on, or the end of the text.
-fn line_end(text: &[u8], a: usize) -> usize
-    requires { ⌜ a ≤ length (now text) ⌝ }
-    ensures { λ r. ⌜ LineEnd (now (text .entry)) a r ⌝ }
-{
-    a + line::bytes_before(&text[a..], 10)
-}
-
 // What the line text[a..e] leads to: missing LF 2.
 fn next_line(text: &[u8], a: usize, e: usize, s: State, line: usize) -> Taken
     requires { ⌜ Sound s ⌝ }
     requires { ⌜ a ≤ length (now text) ⌝ }
-    requires { ⌜ LineEnd (now text) a e ⌝ }
+    requires { ⌜ e ≡ lineEnd (now text) a ⌝ }
     ensures { λ r. ⌜ TakenOk r (stepLine recordKind (partOf s) (lineAt (now (text .entry)) a e)) ⌝ }
 {
     if e == text.len() {
@@ -316,7 +300,7 @@ fn read_lines(text: &[u8]) -> RecordRead
     let mut a: usize = 0;
     let mut line: usize = 1;
     while a < text.len() {
-        let e = line_end(text, a);
+        let e = line::line_end(text, a);
         let taken = next_line(text, a, e, s, line);
         let fault = taken.fault;
         s = taken.state;

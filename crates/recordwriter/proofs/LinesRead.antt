@@ -4,7 +4,7 @@ use mathlib.Core.List.{List}
 use Prim.Native.Nat.{ℕ, _≤_, _<_}
 use native.Mathlib.Omega.{arith}
 use lib.ListN.{length}
-use borrow.Author.Tests.{lt-leb, le-leb}
+use borrow.Author.Tests.{le-leb}
 use Rattle.decimal.specs.Held.{Wrote}
 use Rattle.model.specs.declared.Outcome.the-variants as outcome
 use Rattle.model.specs.declared.Record.{Record as HeldRecord}
@@ -15,11 +15,10 @@ use Rattle.grammar.specs.Words.{isIn}
 use Rattle.grammar.specs.Reading.{accepted, refused, readText}
 use Rattle.grammar.specs.Writing.{testedAs}
 use Rattle.grammar.proofs.FieldsText.{ranges}
-use Rattle.grammar.proofs.Items.{itemStep, runItems, read-text-length}
-use Rattle.record.specs.Kind.{start, recordKind}
+use Rattle.grammar.proofs.Items.{itemStep, runItems}
 use Rattle.record.specs.Text.{recordItems, readRecord, recordText}
 use Rattle.record.proofs.ItemsRun.{lines-run}
-use Rattle.record.proofs.ReadText.{record-means}
+use Rattle.record.proofs.ReadText.{too-long as over-long, accepted-short}
 use Rattle.recordwriter.specs.Parts.{linesRead}
 
 -- ---- the lines
@@ -41,13 +40,11 @@ module _ (x : HeldRecord) where
 
 module _ (x : Record) (b a : List ℕ) (n : ℕ) (w : Wrote b a (recordText x) 0 n) where
   pub too-long : 16384 < n → refused 1 0 ≡ readRecord (recordText x)
-  unfolding readRecord readText
-  too-long h = rw (lt-leb (length (recordText x)) 16384 (omega (arith, w .place)))
+  too-long h = over-long (recordText x) (omega (arith, w .place))
 
   pub not-long : n ≤ 16384 → (t : Tested) → testedAs x t ≡ linesRead x → testedAs x t ≡ readRecord (recordText x)
   unfolding readRecord readText linesRead
   not-long h t e = rw (le-leb (length (recordText x)) 16384 (omega (arith, w .place))) e
 
 pub passed-short : (x : Record) (t : Tested) → t ≡ tested.Passed → testedAs x t ≡ readRecord (recordText x) → length (recordText x) ≤ 16384
-unfolding readRecord
-passed-short x t q e = let b = record-means .back (readText recordKind start (recordText x)) x (sym e ∙ ap (testedAs x) q) in read-text-length recordKind start (recordText x) (b .0) (b .1)
+passed-short x t q e = accepted-short (recordText x) x (sym e ∙ ap (testedAs x) q)

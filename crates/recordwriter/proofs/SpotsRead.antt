@@ -22,10 +22,11 @@ use Rattle.grammar.specs.Words.{isIn}
 use Rattle.grammar.specs.Reading.{Step, next, fault, Reading, accepted, refused, stepFields, onward}
 use Rattle.grammar.proofs.FieldsText.{ranges}
 use Rattle.grammar.proofs.Items.{itemStep, runItems}
+use Rattle.grammar.specs.Steps.{need}
 use Rattle.record.specs.Kind.{Part, followers, recordKind}
 use Rattle.record.specs.Text.{doneItem, atItem, atItems, recordItems, recordRead}
 use Rattle.record.proofs.ItemsRun.{lines-run}
-use Rattle.recordwriter.specs.Parts.{need, spotFault, linesRead}
+use Rattle.recordwriter.specs.Parts.{spotFault, linesRead}
 
 -- the word of the line before macro i + 1
 abbrev lastOf : ℕ → Word

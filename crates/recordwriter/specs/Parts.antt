@@ -1,22 +1,17 @@
--- What the parts of testing and writing a record answer.
+-- What the private functions that test a record promise.
 use Prim.Native.Nat.{ℕ}
 use mathlib.Core.List.{List}
-use mathlib.Core.Bool.{Bool, true, false}
 use lib.Dec.{leb, ltb}
 use lib.ListN.{getD}
 use Rattle.model.specs.declared.Spot.{Spot}
 use Rattle.model.specs.Meaning.{Record, blankSpot}
 use Rattle.grammar.specs.Line.{lines}
 use Rattle.grammar.specs.Reading.{Reading, readLines}
+use Rattle.grammar.specs.Steps.{need}
 use Rattle.record.specs.Kind.{start, recordKind}
 use Rattle.record.specs.Text.{recordRead, recordText}
 
--- a test, the number where it fails, and the tests after it
-abbrev pub need : Bool → ℕ → ℕ → ℕ
-need true n more = more
-need false n more = n
-
--- the first fault of macro i's spot, or 0
+-- the number of the first fault of macro i's spot, or 0: count 6, range 4
 abbrev pub spotFault : List Spot → ℕ → ℕ
 spotFault s i =
     need (ltb i 8) 6

@@ -8,7 +8,7 @@ use model::Tested;
 use model::Word;
 use model::WriteAnswer;
 ghost use mathlib.Core.Path.{_≡_};
-ghost use Prim.Native.Nat.{_≤_, min};
+ghost use Prim.Native.Nat.{_≤_};
 ghost use lib.Dec.{leb};
 ghost use lib.ListN.{length, getD};
 ghost use Rattle.decimal.specs.Held.{Wrote};
@@ -36,7 +36,7 @@ fn spot_fault(spots: [Spot; 8], i: usize) -> usize
     0
 }
 
-// A wirelength and the spots of n macros, the spots from line 2 on.
+// The lines of a record with a placement: its wirelength on line 1, and the spots of n macros from line 2 on.
 fn test_least(wl: u64, n: usize, spots: [Spot; 8]) -> Tested
     ensures { λ t. ⌜ testedAs (least wl (firstOf blankSpot n spots)) t ≡ linesRead (least wl (firstOf blankSpot n spots)) ⌝ }
 {
@@ -66,13 +66,7 @@ fn test_lines(r: Record) -> Tested
     }
 }
 
-// How many macros a count stands for: one too many where it is past the last.
-fn shown(n: usize) -> usize
-    ensures { λ r. ⌜ r ≡ min n 9 ⌝ }
-{
-    if n <= Mac::COUNT { n } else { Mac::COUNT + 1 }
-}
-
+// Spot i of the array, or a blank one past its end.
 fn spot_at(spots: [Spot; 8], i: usize) -> Spot
     ensures { λ r. ⌜ r ≡ getD spots i blankSpot ⌝ }
 {
@@ -82,11 +76,11 @@ fn spot_at(spots: [Spot; 8], i: usize) -> Spot
     Spot { x: 0, y: 0 }
 }
 
-// The lines of n macros.
+// Writes the lines of the n macros from `at` on, as far as the buffer goes, and answers the place after them.
 fn put_spots(out: &mut [u8], at: usize, spots: [Spot; 8], n: usize) -> usize
     ensures { λ k. ⌜ Wrote (now (out .entry)) (now (out .exit)) (itemsText (atItems 1 (firstOf blankSpot n spots))) at k ⌝ }
 {
-    let last = shown(n);
+    let last = linewriter::shown(n, Mac::COUNT);
     let mut a = at;
     let mut i: usize = 0;
     while i < last {
@@ -98,7 +92,7 @@ fn put_spots(out: &mut [u8], at: usize, spots: [Spot; 8], n: usize) -> usize
     a
 }
 
-// The lines before `done`.
+// The same for all lines before `done`.
 fn put_body(out: &mut [u8], at: usize, r: Record) -> usize
     ensures { λ k. ⌜ Wrote (now (out .entry)) (now (out .exit)) (itemsText (body (recordOf r))) at k ⌝ }
 {
@@ -113,7 +107,7 @@ fn put_body(out: &mut [u8], at: usize, r: Record) -> usize
     }
 }
 
-// Writes the text of the record from `at` on, as far as the buffer goes, and answers the place after it.
+// The same for the whole text of the record.
 fn put_record(out: &mut [u8], at: usize, r: Record) -> usize
     ensures { λ k. ⌜ Wrote (now (out .entry)) (now (out .exit)) (recordText (recordOf r)) at k ⌝ }
 {

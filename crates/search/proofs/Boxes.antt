@@ -1,5 +1,5 @@
 -- Two boxes: when they overlap, and how large their score may become.
-use Prim.Native.Nat.{ℕ, _+_, _-_, _*_, _≤_, _<_, min, max}
+use Prim.Native.Nat.{ℕ, _+_, _*_, _≤_, _<_, min, max}
 use mathlib.Core.Path.{_≡_, refl, sym, _∙_}
 use mathlib.Core.Bool.{Bool, true, false, not, _||_, true≢false}
 use mathlib.Core.List.{List}
@@ -89,14 +89,25 @@ module _ (a b : Box) (r : Bool) (e : r ≡ overlaps a b) where
     some-score v = lt-ltb 0 (v + 1) (omega arith) ∙ sym (sym e ∙ not-false r h)
 
   module _ (v w : ℕ) (hv : v ≤ 4194304) (hw : w ≤ 32000) where
-    product-small : v * (w + 1) ≤ 4194304 * 32001
-    product-small = let q : w + 1 ≤ 32001 = omega arith in mul-le-mul hv q
+    product-small : v * w ≤ 4194304 * 32000
+    product-small = mul-le-mul hv hw
 
-    pub product-fits : Fits w64 (v * (w + 1))
+    pub product-fits : Fits w64 (v * w)
     product-fits = let q = product-small in omega arith
 
-    pub score-fits : Fits w64 (v * (w + 1) + 1)
-    score-fits = let q = product-small in omega arith
+    pub scaled-fits : Fits w64 (v * w * 1024)
+    scaled-fits = let q = product-small in omega arith
+
+    module _ (u : ℕ) (hu : u ≤ 3) where
+      pub urgent-fits : Fits w64 (u * 1125899906842624 + v * w * 1024)
+      urgent-fits = let q = product-small in omega arith
+
+      module _ (early : ℕ) (h : early ≤ 1023) where
+        pub early-fits : Fits w64 (u * 1125899906842624 + v * w * 1024 + early)
+        early-fits = let q = product-small in omega arith
+
+        pub score-fits : Fits w64 (u * 1125899906842624 + v * w * 1024 + early + 1)
+        score-fits = let q = product-small in omega arith
 
 -- ---- the distances
 

@@ -12,8 +12,7 @@ use Rattle.model.specs.declared.Outcome.{Outcome}
 use Rattle.model.specs.declared.Outcome.the-variants as outcome
 use Rattle.model.specs.declared.Spot.{Spot}
 use Rattle.model.specs.Meaning.{Chip, chipOf, firstOf, blankSpot, outcomeOf, recordOf}
-use Rattle.model.proofs.FirstOf.{first-take}
-use Rattle.chip.proofs.HeldNets.{getD-first}
+use Rattle.model.proofs.FirstOf.{first-take, getD-first}
 use Rattle.chip.specs.Passed.{Passed}
 use Rattle.placement.specs.Letters.{Letter, dot, keepsLetters}
 use Rattle.placement.specs.Least.{found, fitOf}

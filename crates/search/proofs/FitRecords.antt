@@ -1,5 +1,5 @@
 -- The fit as a record: what the fit answers for one letter for each pair of a chip whose test is passed, held in a record.
-use Prim.Native.Nat.{ℕ, _-_, _≤_}
+use Prim.Native.Nat.{ℕ, _≤_}
 use mathlib.Core.Path.{_≡_, refl, sym, ap, subst, _∙_}
 use mathlib.Core.List.{List}
 use native.Mathlib.Omega.{arith}

@@ -1,12 +1,8 @@
 -- From the test or the reading of a chip to its record, and to what is written: in the form of the needs of the services.
-use Prim.Native.Nat.{ℕ, _+_, _-_, _*_, _/_, _≤_}
+use Prim.Native.Nat.{ℕ, _≤_}
 use mathlib.Core.Path.{_≡_, refl, sym, ap, _∙_}
 use mathlib.Core.List.{List}
-use native.Mathlib.Nat.{mul-le-mul}
-use native.Mathlib.Omega.{arith}
 use lib.ListN.{length, replicate, length-map}
-use mir.Syntax.{w64}
-use mir.Val.{Fits}
 use Rattle.model.specs.declared.Spot.{Spot}
 use Rattle.model.specs.declared.Chip.{Chip as HeldChip}
 use Rattle.model.specs.declared.Record.{Record as HeldRecord}
@@ -28,6 +24,8 @@ use Rattle.slots.specs.Slots.{couples}
 use Rattle.slots.specs.Fit.{letterCount}
 use Rattle.slots.proofs.Counting.{letters-count}
 use Rattle.slots.proofs.Pairs.{pairOf, pairs-couples}
+use Rattle.pairs.specs.Count.{letterTotal}
+use Rattle.pairs.proofs.Counts.{chip-letters, chip-few}
 use Rattle.branches.specs.Branch.{better, underLetters}
 use Rattle.branches.proofs.Betters.{nothing-better}
 use Rattle.branches.proofs.Branching.{all-dots}
@@ -39,39 +37,14 @@ use Rattle.search.proofs.Rests.{no-best}
 use Rattle.search.proofs.Records.{none-counted}
 use Rattle.search.proofs.RecordsRead.{chip-record-read}
 
--- ---- how many letters
-
-pub no-letters : (n k : ℕ) → n ≡ 0 → 0 ≡ n * (n - 1) / 2 + n * k
-no-letters n k e = rw e (omega arith)
-
-module _ (n : ℕ) (h : n ≤ 8) where
-  few-pairs : n * (n - 1) ≤ 56
-  few-pairs = let l : n - 1 ≤ 7 = omega arith in mul-le-mul h l
-
-  pub pairs-fit : Fits w64 (n * (n - 1))
-  pairs-fit = let p = few-pairs in omega arith
-
-  module _ (k : ℕ) (l : k ≤ 8) where
-    few-fixed : n * k ≤ 64
-    few-fixed = mul-le-mul h l
-
-    pub fixed-fit : Fits w64 (n * k)
-    fixed-fit = let p = few-fixed in omega arith
-
-    pub letters-fit : Fits w64 (n * (n - 1) / 2 + n * k)
-    letters-fit = let p = few-pairs in let q = few-fixed in omega arith
-
-    few-letters : n * (n - 1) / 2 + n * k ≤ 92
-    few-letters = let p = few-pairs in let q = few-fixed in omega arith
-
 -- ---- the record of a chip whose test is passed
 
-module _ (c : HeldChip) (p : ℕ) (ok : Passed c) (e : p ≡ c .n * (c .n - 1) / 2 + c .n * c .k) where
+module _ (c : HeldChip) (p : ℕ) (ok : Passed c) (e : p ≡ letterTotal (c .n) (c .k)) where
   count : p ≡ letterCount (chipOf c)
-  count = e ∙ rw (ok .macs, ok .fixes)
+  count = chip-letters c ok p e
 
   few : p ≤ 92
-  few = let q = few-letters (c .n) (ok .fine .macCount) (c .k) (ok .fine .fixCount) in omega arith
+  few = chip-few c ok p e
 
   pub dots-lettered : Lettered c (replicate 92 46) p
   dots-lettered = record { count = count; few = few; bytes = dots-are 92 p }

@@ -9,12 +9,12 @@ use lib.ListN.{length, getD, length-append}
 use borrow.Author.Tests.{le-leb}
 use Rattle.model.specs.declared.Spot.{Spot}
 use Rattle.model.specs.Meaning.{Chip, Record, none, least, blankSpot, recordOf}
+use Rattle.model.proofs.FirstOf.{getD-first}
 use Rattle.grammar.specs.Reading.{accepted}
 use Rattle.grammar.proofs.Every.{Every}
 use Rattle.grammar.proofs.FieldsText.{ranges}
 use Rattle.grammar.proofs.Items.{Within}
 use Rattle.chip.specs.Valid.{Valid}
-use Rattle.chip.proofs.HeldNets.{getD-first}
 use Rattle.chipwriter.proofs.Lengths.{items-short}
 use Rattle.record.specs.Text.{leastItem, noneItem, doneItem, atItem, atItems, recordItems, readRecord, recordRead, recordText}
 use Rattle.record.proofs.ItemsRun.{lines-run, record-run}

@@ -168,7 +168,7 @@ pub(crate) fn search(
         return best;
     }
     let spots = here.spots;
-    let s = choose(c, p, weights, spots);
+    let s = choose(c, p, weights, letters, spots, best);
     if s == p {
         return replaced(best, here);
     }

@@ -1,15 +1,23 @@
-// The pair to branch on: an overlapping one, of those the one with the greatest score. The score is what moving the two apart would cost, in the two cheapest ways, times the weight of their nets.
+// The pair to branch on: an overlapping one; while no placement is found, one with at most two open letters first; of those the one with the greatest score. The score is what moving the two apart would cost, in the two cheapest ways, times the weight of their nets; among equal scores the pair of the first macros.
+use crate::ranges::Open;
+use crate::ranges::Ranges;
+use crate::ranges::open_letters;
+use crate::ranges::ranges_across;
+use crate::ranges::ranges_up;
+use crate::ranges::urgency;
 use model::Chip;
 use model::Fix;
 use model::Mac;
 use model::Net;
+use model::Outcome;
 use model::Pin;
+use model::Record;
 use model::Spot;
 use pairs::Cursor;
 use pairs::first_pair;
 use pairs::next_pair;
 ghost use mathlib.Core.Path.{_≡_};
-ghost use Prim.Native.Nat.{_+_, _*_, _≤_, _<_, min, max};
+ghost use Prim.Native.Nat.{_+_, _≤_, _<_, min, max};
 ghost use lib.Dec.{ltb};
 ghost use lib.ListN.{take};
 ghost use Rattle.model.specs.Meaning.{chipOf};
@@ -92,27 +100,49 @@ fn two_least(left: u64, right: u64, down: u64, up: u64) -> u64
     lesser(x, y) * lesser(greater(x, y), far)
 }
 
+// A distance, or 2,048 where its letter is not open.
+fn way(open: bool, distance: u64) -> u64
+    requires { ⌜ distance ≤ 2048 ⌝ }
+    ensures { λ r. ⌜ r ≤ 2048 ⌝ }
+{
+    if open {
+        return distance;
+    }
+    2048
+}
+
 // How far a has to move to stand left of, right of, below or above b, in the two shortest ways.
-fn push(a: Fix, b: Fix) -> u64
+fn push(a: Fix, b: Fix, open: Open) -> u64
     requires { ⌜ Small a × Small b × Meet a b ⌝ }
     ensures { λ r. ⌜ r ≤ 4194304 ⌝ }
 {
-    let left = a.x + a.w - b.x;
-    let right = b.x + b.w - a.x;
-    let down = a.y + a.h - b.y;
-    let up = b.y + b.h - a.y;
+    let left = way(open.left, a.x + a.w - b.x);
+    let right = way(open.right, b.x + b.w - a.x);
+    let down = way(open.below, a.y + a.h - b.y);
+    let up = way(open.above, b.y + b.h - a.y);
     two_least(left, right, down, up)
 }
 
-// 0 where the two are apart, else one more than their score with a weight.
-fn score(a: Fix, b: Fix, weight: u64) -> u64
-    requires { ⌜ Small a × Small b × (weight ≤ 32000) ⌝ }
+// 0 where the two are apart, else above 0: first their urgency, then their score with a weight, then how early they are.
+fn score(a: Fix, b: Fix, open: Open, urgent: u64, weight: u64, early: u64) -> u64
+    requires { ⌜ Small a × Small b × (urgent ≤ 3) × (weight ≤ 32000) × (early ≤ 1023) ⌝ }
     ensures { λ r. ⌜ ltb 0 r ≡ overlaps a b ⌝ }
 {
     if !overlap(a, b) {
         return 0;
     }
-    push(a, b) * (weight + 1) + 1
+    urgent * 1125899906842624 + push(a, b, open) * weight * 1024 + early + 1
+}
+
+// How early a pair is decided among equal scores: the pairs of a macro come after those of the macros before it, its fixes first.
+fn earliness(fix: bool, i: usize, j: usize) -> u64
+    requires { ⌜ (i < 8) × (j < 8) ⌝ }
+    ensures { λ r. ⌜ r ≤ 1023 ⌝ }
+{
+    if fix {
+        return 1023 - (i * 64 + j) as u64;
+    }
+    1023 - (j * 64 + 32 + i) as u64
 }
 
 // The weight of the nets of a pair: the lesser of its macros' weights.
@@ -133,6 +163,9 @@ fn pair_score(
     fixes: [Fix; 8],
     spots: [Spot; 8],
     weights: [u64; 8],
+    x: Ranges,
+    y: Ranges,
+    found: bool,
     at: Cursor,
 ) -> u64
     requires { ⌜ Near macs fixes spots at × SmallWeights weights ⌝ }
@@ -143,7 +176,15 @@ fn pair_score(
     let j = at.j;
     let a = box_at(macs, spots, i);
     let b = second_box(macs, fixes, spots, fix, j);
-    score(a, b, pair_weight(weights, fix, i, j))
+    let open = open_letters(x, y, fix, i, j);
+    score(
+        a,
+        b,
+        open,
+        urgency(found, open),
+        pair_weight(weights, fix, i, j),
+        earliness(fix, i, j),
+    )
 }
 
 // The place of an overlapping pair of the p pairs of n macros and k fixes, or p where each two are apart.
@@ -154,6 +195,9 @@ fn choose_pair(
     k: usize,
     p: usize,
     weights: [u64; 8],
+    x: Ranges,
+    y: Ranges,
+    found: bool,
     spots: [Spot; 8],
 ) -> usize
     requires { ⌜ Laid macs n fixes k spots p × SmallWeights weights ⌝ }
@@ -164,7 +208,7 @@ fn choose_pair(
     let mut at = first_pair(n);
     let mut s: usize = 0;
     while s < p {
-        let v = pair_score(macs, fixes, spots, weights, at);
+        let v = pair_score(macs, fixes, spots, weights, x, y, found, at);
         let here = s;
         at = next_pair(at, n, k);
         s += 1;
@@ -176,14 +220,43 @@ fn choose_pair(
     best
 }
 
-// The same of a chip that is held as a value.
-pub(crate) fn choose(c: Chip, p: usize, weights: [u64; 8], spots: [Spot; 8]) -> usize
+// Whether a record holds a placement.
+fn is_found(best: Record) -> bool {
+    let outcome = best.outcome;
+    match outcome {
+        Outcome::Least(_, _) => true,
+        Outcome::None => false,
+    }
+}
+
+// The same of a chip that is held as a value, with the ranges that its letters leave; best is the best so far.
+pub(crate) fn choose(
+    c: Chip,
+    p: usize,
+    weights: [u64; 8],
+    letters: [u8; 92],
+    spots: [Spot; 8],
+    best: Record,
+) -> usize
     requires { ⌜ Fine c × (p ≡ letterCount (chipOf c)) × SmallSpots (c .n) spots × SmallWeights weights ⌝ }
     ensures { λ r. ⌜ Chosen (chipOf c) (take (c .n) spots) p r ⌝ }
 {
     let macs = c.macs;
     let fixes = c.fixes;
-    choose_pair(macs, c.n, fixes, c.k, p, weights, spots)
+    let x = ranges_across(c, letters, p);
+    let y = ranges_up(c, letters, p);
+    choose_pair(
+        macs,
+        c.n,
+        fixes,
+        c.k,
+        p,
+        weights,
+        x,
+        y,
+        is_found(best),
+        spots,
+    )
 }
 
 // Whether a pin of macro m stands among count pins from place q on.

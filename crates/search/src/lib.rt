@@ -2,4 +2,5 @@
 mod best;
 mod branch;
 mod choose;
+mod ranges;
 pub mod service;

@@ -9,23 +9,11 @@ use model::Record;
 use model::Tested;
 use model::WriteAnswer;
 ghost use mathlib.Core.Path.{_≡_};
-ghost use Prim.Native.Nat.{_+_, _-_, _*_, _/_, _≤_};
 ghost use Rattle.model.specs.Meaning.{chipOf, recordOf};
 ghost use Rattle.grammar.specs.Writing.{answerOf};
 ghost use Rattle.chip.specs.Passed.{Passed};
 ghost use Rattle.placement.specs.Least.{chipRecord};
 ghost use Rattle.search.specs.Place.{searchChip, placeText};
-
-// With n macros, k fixes there are n(n-1)/2 + n·k letters.
-fn letter_count(n: usize, k: usize) -> usize
-    requires { ⌜ (n ≤ 8) × (k ≤ 8) ⌝ }
-    ensures { λ r. ⌜ r ≡ n * (n - 1) / 2 + n * k ⌝ }
-{
-    if n == 0 {
-        return 0;
-    }
-    n * (n - 1) / 2 + n * k
-}
 
 // The record of a chip whose test is passed: the search from dots alone, with no placement so far.
 fn chip_record(c: Chip) -> Record
@@ -33,7 +21,7 @@ fn chip_record(c: Chip) -> Record
     ensures { λ r. ⌜ recordOf r ≡ chipRecord (chipOf c) ⌝ }
 {
     let letters = [46u8; 92];
-    let p = letter_count(c.n, c.k);
+    let p = pairs::letter_count(c.n, c.k);
     let weights = all_weights(c);
     let root = fit_record(c, letters, p);
     search(c, weights, letters, p, root, no_record())

@@ -1,7 +1,8 @@
 -- How many letters and slots a chip has.
-use Prim.Native.Nat.{ℕ, zero, suc, _+_, _-_, _*_, _/_}
+use Prim.Native.Nat.{ℕ, zero, suc, _+_, _-_, _*_, _/_, _≤_}
 use mathlib.Core.Path.{_≡_, refl, _∙_}
 use mathlib.Core.List.{List, [], _∷_, map}
+use native.Mathlib.Nat.{mul-le-mul}
 use native.Mathlib.Omega.{arith}
 use lib.ListN.{length, length-map, length-append}
 use Rattle.model.specs.declared.Fix.{Fix}
@@ -15,7 +16,7 @@ use Rattle.bounds.specs.Listed.{listed}
 use Rattle.bounds.proofs.Counts.{length-listed}
 use Rattle.slots.specs.declared.Direction.{Direction}
 use Rattle.slots.specs.Slots.{macSide, Couple, macFix, couplesWith, macCouples, fixCouples, couplesOf, couples, slotsOn}
-use Rattle.slots.specs.Fit.{letterCount}
+use Rattle.slots.specs.Fit.{lettersFor, letterCount}
 use Rattle.slots.specs.Axes.{axisPin, axisNet, heldSlots, axisFor}
 use Rattle.slots.proofs.Matches.{same-slots, same-length}
 
@@ -53,6 +54,18 @@ letters-count c =
     let q = half (length (c .macs)) (length (macCouples 1 (c .macs))) (mac-count 1 (c .macs)) in
     let r = fix-count 1 (c .macs) (c .fixes) in
     omega arith
+
+-- 8 macros and 8 fixes have 92 letters
+module _ (n : ℕ) (h : n ≤ 8) where
+  pub mac-product : n * (n - 1) ≤ 56
+  mac-product = let l : n - 1 ≤ 7 = omega arith in mul-le-mul h l
+
+  module _ (k : ℕ) (l : k ≤ 8) where
+    pub fix-product : n * k ≤ 64
+    fix-product = mul-le-mul h l
+
+    pub few-letters : lettersFor n k ≤ 92
+    few-letters = let p = mac-product in let q = fix-product in omega arith
 
 pub held-count : (d : Direction) (ls : List Letter) (qs : List Couple) → length ls ≡ length qs → length (heldSlots d ls qs) ≡ length ls
 unfolding heldSlots

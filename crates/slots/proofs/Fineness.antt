@@ -1,10 +1,9 @@
 -- The axes of a valid chip are within the solver's limits.
 use Prim.{tt}
-use Prim.Native.Nat.{ℕ, zero, suc, _+_, _-_, _*_, _/_, _≤_, _<_}
+use Prim.Native.Nat.{ℕ, zero, suc, _+_, _≤_, _<_}
 use mathlib.Core.Path.{_≡_, sym, subst}
 use mathlib.Core.Bool.{true}
 use mathlib.Core.List.{List, [], _∷_, map}
-use native.Mathlib.Nat.{mul-le-mul}
 use native.Mathlib.Omega.{arith}
 use lib.IntN.{ℤ, pos, negsuc}
 use lib.Signed.{leZ}
@@ -25,10 +24,9 @@ use Rattle.slots.specs.declared.Direction.the-variants.{Horizontal as ho
 use Rattle.slots.specs.declared.Asked.{Asked}
 use Rattle.slots.specs.declared.Asked.the-variants.{Before as before, After as after, Nothing as nothing}
 use Rattle.slots.specs.Slots.{dieSide, macSide, fixSide, fixCorner, pinPlace, asked, Couple, twoMacs, macFix, couplesWith, macCouples, fixCouples, couplesOf, couples}
-use Rattle.slots.specs.Fit.{letterCount}
 use Rattle.slots.specs.Axes.{raised, axisPin, axisNet, heldSlot, heldSlots, axisFor}
 use Rattle.slots.proofs.Lengths.{raised-low}
-use Rattle.slots.proofs.Counting.{letters-count, held-count, pins-count}
+use Rattle.slots.proofs.Counting.{letters-count, held-count, pins-count, few-letters}
 
 -- ---- sides
 
@@ -138,16 +136,6 @@ pub die-most : (d : Direction) (c : Chip) → Valid c → dieSide d (c .die) ≤
 die-most horizontal c v = v .dieW .high
 die-most vertical c v = v .dieH .high
 
-few-letters : (c : Chip) → Valid c → letterCount c ≤ 92
-few-letters c v = few (length (c .macs)) (length (c .fixes)) (v .macCount) (v .fixCount)
-  where
-    few : (n k : ℕ) → n ≤ 8 → k ≤ 8 → n * (n - 1) / 2 + n * k ≤ 92
-    few n k a b =
-        let l : n - 1 ≤ 7 = omega arith in
-        let p : n * (n - 1) ≤ 8 * 7 = mul-le-mul a l in
-        let q : n * k ≤ 8 * 8 = mul-le-mul a b in
-        omega arith
-
 pub axis-fine : (d : Direction) (c : Chip) (ls : List Letter) → Valid c → length ls ≡ length (couples c) → Fine (axisFor d c ls)
 unfolding axisFor
 axis-fine d c ls v el =
@@ -156,7 +144,7 @@ axis-fine d c ls v el =
     let ep = held-count d ls (couples c) el in
     let eq = pins-count d (c .nets) in
     let lc = letters-count c in
-    let fl = few-letters c v in
+    let fl = few-letters (length (c .macs)) (v .macCount) (length (c .fixes)) (v .fixCount) in
     let md = die-most d c v in
     let vm = v .macCount in let vn = v .netCount in let vp = v .pins in
     record {

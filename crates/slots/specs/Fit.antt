@@ -38,9 +38,12 @@ letterOf b = pick (eqb b 76) left (pick (eqb b 82) right (pick (eqb b 66) low (p
 abbrev pub lettersOf : List ℕ → List Letter
 lettersOf s = map letterOf s
 
--- with n macros, k fixes there are n(n-1)/2 + n·k letters
+-- "With n macros, k fixes there are p = n(n−1)/2 + n·k letters"
+abbrev pub lettersFor : ℕ → ℕ → ℕ
+lettersFor n k = n * (n - 1) / 2 + n * k
+
 abbrev pub letterCount : Chip → ℕ
-letterCount c = length (c .macs) * (length (c .macs) - 1) / 2 + length (c .macs) * length (c .fixes)
+letterCount c = lettersFor (length (c .macs)) (length (c .fixes))
 
 -- 2n + p + 2q slots for each of the two directions
 abbrev pub slotCount : Chip → ℕ

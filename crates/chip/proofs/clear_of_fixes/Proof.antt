@@ -10,43 +10,33 @@ Inv-loop f k fixes i₀ i = (i ≤ 8) × Left f fixes k i
 abbrev μ-loop : tie.MeasureT-loop
 μ-loop f k fixes i₀ i = 8 - i
 
--- src/lib.rt:50:5
 loop-holds : tie.Need-loop-holds Inv-loop μ-loop
 loop-holds c = (search needs, search none-tested)
 
--- src/lib.rt:52:13
 returns : tie.Need-returns Inv-loop μ-loop
 returns c = search past-last
 
--- src/lib.rt:54:17
 mul-g : tie.Need-mul-g Inv-loop μ-loop
 mul-g c = search needs
 
--- src/lib.rt:54:17
 array-copy-out-g : tie.Need-array-copy-out-g Inv-loop μ-loop
 array-copy-out-g c = search needs
 
--- src/lib.rt:55:13
 fixes-apart-requires : tie.Need-fixes-apart-requires Inv-loop μ-loop
 fixes-apart-requires c κs = search needs
 
--- src/lib.rt:56:13
 returns-2 : tie.Need-returns-2 Inv-loop μ-loop
 returns-2 c = search (needs, overlap-found)
 
--- src/lib.rt:58:9
 add-i : tie.Need-add-i Inv-loop μ-loop
 add-i c = search needs
 
--- src/lib.rt:50:5
 loop-less : tie.Need-loop-less Inv-loop μ-loop
 loop-less c = search needs
 
--- src/lib.rt:50:5
 loop-again : tie.Need-loop-again Inv-loop μ-loop
 loop-again c = (search needs, search (needs, one-clear))
 
--- src/lib.rt:46:1
 returns-3 : tie.Need-returns-3 Inv-loop μ-loop
 returns-3 c = search all-tested
 

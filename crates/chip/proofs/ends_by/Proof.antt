@@ -2,11 +2,9 @@ use Rattle.chip.proofs.Fixes.{starts-past, rest-of}
 use Rattle.chip.proofs.ends_by.Statement.{statement}
 use Rattle.chip.proofs.ends_by.Tie as tie
 
--- src/lib.rt:14:9
 returns : tie.Need-returns
 returns c = search starts-past
 
--- src/lib.rt:10:1
 returns-2 : tie.Need-returns-2
 returns-2 c = search rest-of
 

@@ -3,19 +3,15 @@ use borrow.Author.Needs.{needs}
 use Rattle.chip.proofs.fix_in_die.Statement.{statement}
 use Rattle.chip.proofs.fix_in_die.Tie as tie
 
--- src/lib.rt:23:9
 ends-by-requires : tie.Need-ends-by-requires
 ends-by-requires c κs = search needs
 
--- src/lib.rt:24:9
 returns : tie.Need-returns
 returns c = search and-fails
 
--- src/lib.rt:26:5
 ends-by-requires-2 : tie.Need-ends-by-requires-2
 ends-by-requires-2 c κs = search needs
 
--- src/lib.rt:20:1
 returns-2 : tie.Need-returns-2
 returns-2 c = search and-rest
 

@@ -3,35 +3,27 @@ use borrow.Author.Needs.{needs}
 use Rattle.chip.proofs.fixes_apart.Statement.{statement}
 use Rattle.chip.proofs.fixes_apart.Tie as tie
 
--- src/lib.rt:33:8
 ends-by-requires : tie.Need-ends-by-requires
 ends-by-requires c κs = search needs
 
--- src/lib.rt:34:9
 returns : tie.Need-returns
 returns c = search or-holds
 
--- src/lib.rt:36:8
 ends-by-requires-2 : tie.Need-ends-by-requires-2
 ends-by-requires-2 c κs = search needs
 
--- src/lib.rt:37:9
 returns-2 : tie.Need-returns-2
 returns-2 c = search (or-holds, or-rest)
 
--- src/lib.rt:39:8
 ends-by-requires-3 : tie.Need-ends-by-requires-3
 ends-by-requires-3 c κs = search needs
 
--- src/lib.rt:40:9
 returns-3 : tie.Need-returns-3
 returns-3 c = search (or-holds, or-rest)
 
--- src/lib.rt:42:5
 ends-by-requires-4 : tie.Need-ends-by-requires-4
 ends-by-requires-4 c κs = search needs
 
--- src/lib.rt:30:1
 returns-4 : tie.Need-returns-4
 returns-4 c = search or-rest
 

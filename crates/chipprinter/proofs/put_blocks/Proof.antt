@@ -4,23 +4,18 @@ use borrow.Author.Needs.{needs}
 use Rattle.chipprinter.proofs.put_blocks.Statement.{statement}
 use Rattle.chipprinter.proofs.put_blocks.Tie as tie
 
--- src/lib.rt:153:9
 put-line-requires : tie.Need-put-line-requires
 put-line-requires c κs = search needs
 
--- src/lib.rt:154:9
 put-fixes-requires : tie.Need-put-fixes-requires
 put-fixes-requires c κs = search needs
 
--- src/lib.rt:155:5
 put-macs-requires : tie.Need-put-macs-requires
 put-macs-requires c κs = search needs
 
--- src/lib.rt:147:1
 same-length : tie.Need-same-length
 same-length c = search needs
 
--- src/lib.rt:147:1
 returns : tie.Need-returns
 unfolding loweredAll
 returns c = search (needs, blocks-written)

@@ -4,23 +4,18 @@ use borrow.Author.Needs.{needs}
 use Rattle.chipprinter.proofs.put_chip.Statement.{statement}
 use Rattle.chipprinter.proofs.put_chip.Tie as tie
 
--- src/lib.rt:164:9
 put-blocks-requires : tie.Need-put-blocks-requires
 put-blocks-requires c κs = search needs
 
--- src/lib.rt:165:9
 put-nets-requires : tie.Need-put-nets-requires
 put-nets-requires c κs = search needs
 
--- src/lib.rt:166:5
 put-line-requires : tie.Need-put-line-requires
 put-line-requires c κs = search needs
 
--- src/lib.rt:159:1
 same-length : tie.Need-same-length
 same-length c = search needs
 
--- src/lib.rt:159:1
 returns : tie.Need-returns
 unfolding loweredAll
 returns c = search (needs, chip-written)

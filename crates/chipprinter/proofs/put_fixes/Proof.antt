@@ -9,7 +9,8 @@ use Rattle.model.specs.Meaning.{firstOf, blankFix}
 use Rattle.grammar.specs.Words.{itemsText}
 use Rattle.line.specs.Held.{loweredAll}
 use Rattle.chip.specs.Text.{fixItem}
-use Rattle.chipprinter.proofs.Printed.{items-none, line-more, lines-all}
+use Rattle.linewriter.proofs.Items.{items-none}
+use Rattle.chipprinter.proofs.Printed.{line-more, lines-all}
 use Rattle.chipprinter.proofs.put_fixes.Statement.{statement}
 use Rattle.chipprinter.proofs.put_fixes.Tie as tie
 
@@ -19,40 +20,31 @@ Inv-loop out₀ at fixes k n a₀ i₀ out a i = (i ≤ n) × Wrote out₀ out (
 abbrev μ-loop : tie.MeasureT-loop
 μ-loop out₀ at fixes k n a₀ i₀ out a i = n - i
 
--- src/lib.rt:43:9
 shown-requires : tie.Need-shown-requires Inv-loop μ-loop
 shown-requires c κs = search needs
 
--- src/lib.rt:46:5
 loop-holds : tie.Need-loop-holds Inv-loop μ-loop
 loop-holds c = (search needs, search (needs, items-none))
 
--- src/lib.rt:47:13
 fix-at-requires : tie.Need-fix-at-requires Inv-loop μ-loop
 fix-at-requires c κs = search needs
 
--- src/lib.rt:48:9
 put-line-requires : tie.Need-put-line-requires Inv-loop μ-loop
 put-line-requires c κs = search needs
 
--- src/lib.rt:49:9
 add-i : tie.Need-add-i Inv-loop μ-loop
 add-i c = search needs
 
--- src/lib.rt:46:5
 loop-less : tie.Need-loop-less Inv-loop μ-loop
 loop-less c = search needs
 
--- src/lib.rt:46:5
 loop-again : tie.Need-loop-again Inv-loop μ-loop
 unfolding loweredAll
 loop-again c = (search needs, search (needs, line-more blankFix fixItem))
 
--- src/lib.rt:40:1
 same-length : tie.Need-same-length Inv-loop μ-loop
 same-length c = search (needs, wrote-length)
 
--- src/lib.rt:40:1
 returns : tie.Need-returns Inv-loop μ-loop
 returns c = search (needs, lines-all blankFix fixItem)
 

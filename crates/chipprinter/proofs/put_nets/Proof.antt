@@ -15,48 +15,37 @@ Inv-loop out₀ at nets t pins n a₀ q₀ j₀ out a q j = (j ≤ n) × (q ≡ 
 abbrev μ-loop : tie.MeasureT-loop
 μ-loop out₀ at nets t pins n a₀ q₀ j₀ out a q j = n - j
 
--- src/lib.rt:119:9
 shown-requires : tie.Need-shown-requires Inv-loop μ-loop
 shown-requires c κs = search needs
 
--- src/lib.rt:123:5
 loop-holds : tie.Need-loop-holds Inv-loop μ-loop
 loop-holds c = (search needs, search pins-none, search (needs, nets-none))
 
--- src/lib.rt:124:13
 net-at-requires : tie.Need-net-at-requires Inv-loop μ-loop
 net-at-requires c κs = search needs
 
--- src/lib.rt:126:9
 put-line-requires : tie.Need-put-line-requires Inv-loop μ-loop
 put-line-requires c κs = search needs
 
--- src/lib.rt:127:9
 put-pins-requires : tie.Need-put-pins-requires Inv-loop μ-loop
 put-pins-requires c κs = search needs
 
--- src/lib.rt:128:9
 past-requires : tie.Need-past-requires Inv-loop μ-loop
 past-requires c κs = search needs
 
--- src/lib.rt:129:9
 add-j : tie.Need-add-j Inv-loop μ-loop
 add-j c = search needs
 
--- src/lib.rt:123:5
 loop-less : tie.Need-loop-less Inv-loop μ-loop
 loop-less c = search needs
 
--- src/lib.rt:123:5
 loop-again : tie.Need-loop-again Inv-loop μ-loop
 unfolding loweredAll
 loop-again c = (search needs, search (needs, pins-more), search (needs, net-more))
 
--- src/lib.rt:116:1
 same-length : tie.Need-same-length Inv-loop μ-loop
 same-length c = search (needs, wrote-length)
 
--- src/lib.rt:116:1
 returns : tie.Need-returns Inv-loop μ-loop
 returns c = search (needs, nets-all)
 

@@ -8,8 +8,8 @@ use Rattle.decimal.proofs.Wrote.{wrote-length}
 use Rattle.model.specs.Meaning.{firstOf, blankPin}
 use Rattle.grammar.specs.Words.{itemsText}
 use Rattle.line.specs.Held.{loweredAll}
+use Rattle.linewriter.proofs.Items.{items-none}
 use Rattle.chipprinter.proofs.Pins.{heldItem, pin-more, pins-all}
-use Rattle.chipprinter.proofs.Printed.{items-none}
 use Rattle.chipprinter.proofs.put_pins.Statement.{statement}
 use Rattle.chipprinter.proofs.put_pins.Tie as tie
 
@@ -19,48 +19,37 @@ Inv-loop out₀ at pins q count n a₀ i₀ out a i = (i ≤ n) × Wrote out₀ 
 abbrev μ-loop : tie.MeasureT-loop
 μ-loop out₀ at pins q count n a₀ i₀ out a i = n - i
 
--- src/lib.rt:95:26
 sub-shown : tie.Need-sub-shown Inv-loop μ-loop
 sub-shown c = search needs
 
--- src/lib.rt:95:9
 shown-requires : tie.Need-shown-requires Inv-loop μ-loop
 shown-requires c κs = search needs
 
--- src/lib.rt:98:5
 loop-holds : tie.Need-loop-holds Inv-loop μ-loop
 loop-holds c = (search needs, search (needs, items-none))
 
--- src/lib.rt:99:30
 add-pin-at : tie.Need-add-pin-at Inv-loop μ-loop
 add-pin-at c = search needs
 
--- src/lib.rt:99:13
 pin-at-requires : tie.Need-pin-at-requires Inv-loop μ-loop
 pin-at-requires c κs = search needs
 
--- src/lib.rt:101:9
 put-line-requires : tie.Need-put-line-requires Inv-loop μ-loop
 put-line-requires c κs = search needs
 
--- src/lib.rt:102:9
 add-i : tie.Need-add-i Inv-loop μ-loop
 add-i c = search needs
 
--- src/lib.rt:98:5
 loop-less : tie.Need-loop-less Inv-loop μ-loop
 loop-less c = search needs
 
--- src/lib.rt:98:5
 loop-again : tie.Need-loop-again Inv-loop μ-loop
 unfolding loweredAll
 loop-again c = (search needs, search (needs, pin-more))
 
--- src/lib.rt:91:1
 same-length : tie.Need-same-length Inv-loop μ-loop
 same-length c = search (needs, wrote-length)
 
--- src/lib.rt:91:1
 returns : tie.Need-returns Inv-loop μ-loop
 returns c = search (needs, pins-all)
 

@@ -3,19 +3,15 @@ use borrow.Author.Needs.{needs}
 use Rattle.chipreader.proofs.add_die.Statement.{statement}
 use Rattle.chipreader.proofs.add_die.Tie as tie
 
--- src/lib.rt:180:24
 array-read-t8 : tie.Need-array-read-t8
 array-read-t8 c = search needs
 
--- src/lib.rt:180:33
 array-read-t11 : tie.Need-array-read-t11
 array-read-t11 c = search needs
 
--- src/lib.rt:182:5
 with-chip-requires : tie.Need-with-chip-requires
 with-chip-requires c κs = search needs
 
--- src/lib.rt:175:1
 returns : tie.Need-returns
 returns c = search (needs, die-added)
 

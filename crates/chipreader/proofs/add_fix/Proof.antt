@@ -4,63 +4,48 @@ use borrow.Author.Needs.{needs}
 use Rattle.chipreader.proofs.add_fix.Statement.{statement}
 use Rattle.chipreader.proofs.add_fix.Tie as tie
 
--- src/lib.rt:192:12
 array-read-t10 : tie.Need-array-read-t10
 array-read-t10 c = search needs
 
--- src/lib.rt:193:12
 array-read-t13 : tie.Need-array-read-t13
 array-read-t13 c = search needs
 
--- src/lib.rt:194:12
 array-read-t16 : tie.Need-array-read-t16
 array-read-t16 c = search needs
 
--- src/lib.rt:195:12
 array-read-t19 : tie.Need-array-read-t19
 array-read-t19 c = search needs
 
--- src/lib.rt:200:9
 fix-in-die-requires : tie.Need-fix-in-die-requires
 fix-in-die-requires c κs = search needs
 
--- src/lib.rt:201:9
 with-fault-requires : tie.Need-with-fault-requires
 with-fault-requires c κs = search needs
 
--- src/lib.rt:201:9
 returns : tie.Need-returns
 returns c = search (needs, fix-leaves)
 
--- src/lib.rt:203:9
 clear-of-fixes-requires : tie.Need-clear-of-fixes-requires
 clear-of-fixes-requires c κs = search needs
 
--- src/lib.rt:204:9
 with-fault-requires-2 : tie.Need-with-fault-requires-2
 with-fault-requires-2 c κs = search needs
 
--- src/lib.rt:204:9
 returns-2 : tie.Need-returns-2
 returns-2 c = search (needs, fix-overlaps)
 
--- src/lib.rt:206:5
 mul-f : tie.Need-mul-f
 mul-f c = search needs
 
--- src/lib.rt:206:5
 element-set-from-f : tie.Need-element-set-from-f
 element-set-from-f c = search fix-fits
 
--- src/lib.rt:207:14
 add-chip : tie.Need-add-chip
 add-chip c = search needs
 
--- src/lib.rt:208:5
 with-chip-requires : tie.Need-with-chip-requires
 with-chip-requires c κs = search needs
 
--- src/lib.rt:186:1
 returns-3 : tie.Need-returns-3
 returns-3 c = search (needs, fix-added)
 

@@ -4,135 +4,102 @@ use borrow.Author.Needs.{needs}
 use Rattle.chipreader.proofs.add_item.Statement.{statement}
 use Rattle.chipreader.proofs.add_item.Tie as tie
 
--- src/lib.rt:278:22
 enum-told : tie.Need-enum-told
 enum-told c = search needs
 
--- src/lib.rt:278:22
 add-die-requires : tie.Need-add-die-requires
 add-die-requires c κs = search needs
 
--- src/lib.rt:279:22
 enum-told-2 : tie.Need-enum-told-2
 enum-told-2 c = search needs
 
--- src/lib.rt:279:22
 add-fix-requires : tie.Need-add-fix-requires
 add-fix-requires c κs = (search needs, search entered-as)
 
--- src/lib.rt:280:22
 enum-told-3 : tie.Need-enum-told-3
 enum-told-3 c = search needs
 
--- src/lib.rt:280:22
 add-mac-requires : tie.Need-add-mac-requires
 add-mac-requires c κs = (search needs, search entered-as)
 
--- src/lib.rt:281:22
 enum-told-4 : tie.Need-enum-told-4
 enum-told-4 c = search needs
 
--- src/lib.rt:281:22
 add-net-requires : tie.Need-add-net-requires
 add-net-requires c κs = (search needs, search entered-as)
 
--- src/lib.rt:282:22
 enum-told-5 : tie.Need-enum-told-5
 enum-told-5 c = search needs
 
--- src/lib.rt:282:22
 add-pin-requires : tie.Need-add-pin-requires
 add-pin-requires c κs = (search needs, search entered-as)
 
--- src/lib.rt:283:35
 enum-told-6 : tie.Need-enum-told-6
 enum-told-6 c = search needs
 
--- src/lib.rt:283:22
 with-chip-requires : tie.Need-with-chip-requires
 with-chip-requires c κs = search needs
 
--- src/lib.rt:284:26
 enum-told-7 : tie.Need-enum-told-7
 enum-told-7 c = search needs
 
--- src/lib.rt:284:26
 with-fault-requires : tie.Need-with-fault-requires
 with-fault-requires c κs = search needs
 
--- src/lib.rt:285:24
 enum-told-8 : tie.Need-enum-told-8
 enum-told-8 c = search needs
 
--- src/lib.rt:285:24
 with-fault-requires-2 : tie.Need-with-fault-requires-2
 with-fault-requires-2 c κs = search needs
 
--- src/lib.rt:286:23
 enum-told-9 : tie.Need-enum-told-9
 enum-told-9 c = search needs
 
--- src/lib.rt:286:23
 with-fault-requires-3 : tie.Need-with-fault-requires-3
 with-fault-requires-3 c κs = search needs
 
--- src/lib.rt:287:21
 enum-told-10 : tie.Need-enum-told-10
 enum-told-10 c = search needs
 
--- src/lib.rt:287:21
 with-fault-requires-4 : tie.Need-with-fault-requires-4
 with-fault-requires-4 c κs = search needs
 
--- src/lib.rt:288:23
 enum-told-11 : tie.Need-enum-told-11
 enum-told-11 c = search needs
 
--- src/lib.rt:288:23
 with-fault-requires-5 : tie.Need-with-fault-requires-5
 with-fault-requires-5 c κs = search needs
 
--- src/lib.rt:272:1
 returns : tie.Need-returns
 returns c = search taken-as
 
--- src/lib.rt:272:1
 returns-2 : tie.Need-returns-2
 returns-2 c = search taken-as
 
--- src/lib.rt:272:1
 returns-3 : tie.Need-returns-3
 returns-3 c = search taken-as
 
--- src/lib.rt:272:1
 returns-4 : tie.Need-returns-4
 returns-4 c = search taken-as
 
--- src/lib.rt:272:1
 returns-5 : tie.Need-returns-5
 returns-5 c = search taken-as
 
--- src/lib.rt:272:1
 returns-6 : tie.Need-returns-6
 returns-6 c = search end-taken
 
--- src/lib.rt:272:1
 returns-7 : tie.Need-returns-7
 returns-7 c = search not-taken
 
--- src/lib.rt:272:1
 returns-8 : tie.Need-returns-8
 returns-8 c = search not-taken
 
--- src/lib.rt:272:1
 returns-9 : tie.Need-returns-9
 returns-9 c = search not-taken
 
--- src/lib.rt:272:1
 returns-10 : tie.Need-returns-10
 returns-10 c = search not-taken
 
--- src/lib.rt:272:1
 returns-11 : tie.Need-returns-11
 returns-11 c = search not-taken
 

@@ -4,27 +4,21 @@ use borrow.Author.Needs.{needs}
 use Rattle.chipreader.proofs.add_net.Statement.{statement}
 use Rattle.chipreader.proofs.add_net.Tie as tie
 
--- src/lib.rt:231:17
 array-read-t8 : tie.Need-array-read-t8
 array-read-t8 c = search needs
 
--- src/lib.rt:230:5
 mul-t10 : tie.Need-mul-t10
 mul-t10 c = search needs
 
--- src/lib.rt:230:5
 element-set-from-chip : tie.Need-element-set-from-chip
 element-set-from-chip c = search net-fits
 
--- src/lib.rt:234:14
 add-chip : tie.Need-add-chip
 add-chip c = search needs
 
--- src/lib.rt:235:5
 with-chip-requires : tie.Need-with-chip-requires
 with-chip-requires c κs = search needs
 
--- src/lib.rt:223:1
 returns : tie.Need-returns
 returns c = search (needs, net-added)
 

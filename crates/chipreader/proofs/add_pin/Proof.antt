@@ -4,63 +4,48 @@ use borrow.Author.Needs.{needs}
 use Rattle.chipreader.proofs.add_pin.Statement.{statement}
 use Rattle.chipreader.proofs.add_pin.Tie as tie
 
--- src/lib.rt:244:13
 array-read-m : tie.Need-array-read-m
 array-read-m c = search needs
 
--- src/lib.rt:247:9
 with-fault-requires : tie.Need-with-fault-requires
 with-fault-requires c κs = search needs
 
--- src/lib.rt:247:9
 returns : tie.Need-returns
 returns c = search (needs, no-macro)
 
--- src/lib.rt:249:16
 sub-last : tie.Need-sub-last
 sub-last c = search net-open
 
--- src/lib.rt:251:15
 mul-net : tie.Need-mul-net
 mul-net c = search needs
 
--- src/lib.rt:251:15
 element-copy-out-net : tie.Need-element-copy-out-net
 element-copy-out-net c = search needs
 
--- src/lib.rt:254:15
 add-t12 : tie.Need-add-t12
 add-t12 c = search net-fits-one
 
--- src/lib.rt:252:5
 mul-t17 : tie.Need-mul-t17
 mul-t17 c = search needs
 
--- src/lib.rt:252:5
 element-set-from-chip : tie.Need-element-set-from-chip
 element-set-from-chip c = search needs
 
--- src/lib.rt:258:14
 array-read-t11 : tie.Need-array-read-t11
 array-read-t11 c = search needs
 
--- src/lib.rt:259:14
 array-read-t24 : tie.Need-array-read-t24
 array-read-t24 c = search needs
 
--- src/lib.rt:256:5
 mul-t17-2 : tie.Need-mul-t17-2
 mul-t17-2 c = search needs
 
--- src/lib.rt:256:5
 element-set-from-chip-2 : tie.Need-element-set-from-chip-2
 element-set-from-chip-2 c = search pin-fits
 
--- src/lib.rt:265:19
 add-t12-2 : tie.Need-add-t12-2
 add-t12-2 c = search needs
 
--- src/lib.rt:239:1
 returns-2 : tie.Need-returns-2
 returns-2 c = search (needs, pin-added)
 

@@ -3,43 +3,33 @@ use borrow.Author.Needs.{needs}
 use Rattle.chipreader.proofs.entry_fault.Statement.{statement}
 use Rattle.chipreader.proofs.entry_fault.Tie as tie
 
--- src/lib.rt:119:9
 rank-of-requires : tie.Need-rank-of-requires
 rank-of-requires c κs = search needs
 
--- src/lib.rt:120:9
 rank-of-requires-2 : tie.Need-rank-of-requires-2
 rank-of-requires-2 c κs = search needs
 
--- src/lib.rt:122:9
 returns : tie.Need-returns
 returns c = search no-word
 
--- src/lib.rt:124:9
 may-follow-requires : tie.Need-may-follow-requires
 may-follow-requires c κs = search rank-fits
 
--- src/lib.rt:125:9
 returns-2 : tie.Need-returns-2
 returns-2 c = search no-place
 
--- src/lib.rt:127:9
 has-room-requires : tie.Need-has-room-requires
 has-room-requires c κs = search needs
 
--- src/lib.rt:128:9
 returns-3 : tie.Need-returns-3
 returns-3 c = search no-space
 
--- src/lib.rt:132:13
 returns-4 : tie.Need-returns-4
 returns-4 c = search no-pin
 
--- src/lib.rt:114:1
 returns-5 : tie.Need-returns-5
 returns-5 c = search own-pin
 
--- src/lib.rt:114:1
 returns-6 : tie.Need-returns-6
 returns-6 c = search no-net
 

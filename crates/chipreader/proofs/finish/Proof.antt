@@ -3,19 +3,15 @@ use borrow.Author.Needs.{needs}
 use Rattle.chipreader.proofs.finish.Statement.{statement}
 use Rattle.chipreader.proofs.finish.Tie as tie
 
--- src/lib.rt:343:8
 rank-of-requires : tie.Need-rank-of-requires
 rank-of-requires c κs = search needs
 
--- src/lib.rt:344:9
 refused-requires : tie.Need-refused-requires
 refused-requires c κs = search needs
 
--- src/lib.rt:344:9
 returns : tie.Need-returns
 returns c = search (refuses, not-complete)
 
--- src/lib.rt:338:1
 returns-2 : tie.Need-returns-2
 returns-2 c = search complete
 

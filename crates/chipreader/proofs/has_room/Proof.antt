@@ -3,91 +3,69 @@ use borrow.Author.Needs.{needs}
 use Rattle.chipreader.proofs.has_room.Statement.{statement}
 use Rattle.chipreader.proofs.has_room.Tie as tie
 
--- src/lib.rt:113:22
 enum-told : tie.Need-enum-told
 enum-told c = search needs
 
--- src/lib.rt:114:22
 enum-told-2 : tie.Need-enum-told-2
 enum-told-2 c = search needs
 
--- src/lib.rt:115:22
 enum-told-3 : tie.Need-enum-told-3
 enum-told-3 c = search needs
 
--- src/lib.rt:116:22
 enum-told-4 : tie.Need-enum-told-4
 enum-told-4 c = search needs
 
--- src/lib.rt:117:26
 enum-told-5 : tie.Need-enum-told-5
 enum-told-5 c = search needs
 
--- src/lib.rt:118:22
 enum-told-6 : tie.Need-enum-told-6
 enum-told-6 c = search needs
 
--- src/lib.rt:119:22
 enum-told-7 : tie.Need-enum-told-7
 enum-told-7 c = search needs
 
--- src/lib.rt:120:24
 enum-told-8 : tie.Need-enum-told-8
 enum-told-8 c = search needs
 
--- src/lib.rt:121:23
 enum-told-9 : tie.Need-enum-told-9
 enum-told-9 c = search needs
 
--- src/lib.rt:122:21
 enum-told-10 : tie.Need-enum-told-10
 enum-told-10 c = search needs
 
--- src/lib.rt:123:23
 enum-told-11 : tie.Need-enum-told-11
 enum-told-11 c = search needs
 
--- src/lib.rt:108:1
 returns : tie.Need-returns
 returns c = search room-fix
 
--- src/lib.rt:108:1
 returns-2 : tie.Need-returns-2
 returns-2 c = search room-mac
 
--- src/lib.rt:108:1
 returns-3 : tie.Need-returns-3
 returns-3 c = search room-net
 
--- src/lib.rt:108:1
 returns-4 : tie.Need-returns-4
 returns-4 c = search room-pin
 
--- src/lib.rt:108:1
 returns-5 : tie.Need-returns-5
 returns-5 c = search needs
 
--- src/lib.rt:108:1
 returns-6 : tie.Need-returns-6
 returns-6 c = search needs
 
--- src/lib.rt:108:1
 returns-7 : tie.Need-returns-7
 returns-7 c = search needs
 
--- src/lib.rt:108:1
 returns-8 : tie.Need-returns-8
 returns-8 c = search needs
 
--- src/lib.rt:108:1
 returns-9 : tie.Need-returns-9
 returns-9 c = search needs
 
--- src/lib.rt:108:1
 returns-10 : tie.Need-returns-10
 returns-10 c = search needs
 
--- src/lib.rt:108:1
 returns-11 : tie.Need-returns-11
 returns-11 c = search needs
 

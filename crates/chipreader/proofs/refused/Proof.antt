@@ -2,11 +2,9 @@ use borrow.Author.Needs.{needs}
 use Rattle.chipreader.proofs.refused.Statement.{statement}
 use Rattle.chipreader.proofs.refused.Tie as tie
 
--- src/lib.rt:327:15
 blank-chip-requires : tie.Need-blank-chip-requires
 blank-chip-requires c κs = search needs
 
--- src/lib.rt:322:1
 returns : tie.Need-returns
 returns c = rw (c .blank-chip .ensures)
 

@@ -3,19 +3,15 @@ use borrow.Author.Needs.{needs}
 use Rattle.chipwriter.proofs.fix_in_range.Statement.{statement}
 use Rattle.chipwriter.proofs.fix_in_range.Tie as tie
 
--- src/lib.rt:48:9
 returns : tie.Need-returns
 returns c = search too-high
 
--- src/lib.rt:51:9
 returns-2 : tie.Need-returns-2
 returns-2 c = search (not-high, too-high)
 
--- src/lib.rt:53:5
 sides-within-requires : tie.Need-sides-within-requires
 sides-within-requires c κs = search needs
 
--- src/lib.rt:44:1
 returns-3 : tie.Need-returns-3
 returns-3 c = search not-high
 

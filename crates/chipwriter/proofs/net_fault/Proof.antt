@@ -3,35 +3,27 @@ use borrow.Author.Needs.{needs}
 use Rattle.chipwriter.proofs.net_fault.Statement.{statement}
 use Rattle.chipwriter.proofs.net_fault.Tie as tie
 
--- src/lib.rt:181:9
 returns : tie.Need-returns
 returns c = search no-room
 
--- src/lib.rt:183:8
 bare-before-requires : tie.Need-bare-before-requires
 bare-before-requires c κs = search needs
 
--- src/lib.rt:184:9
 returns-2 : tie.Need-returns-2
 returns-2 c = search (room-rest, bare-fails)
 
--- src/lib.rt:186:15
 mul-net : tie.Need-mul-net
 mul-net c = search needs
 
--- src/lib.rt:186:15
 array-copy-out-net : tie.Need-array-copy-out-net
 array-copy-out-net c = search needs
 
--- src/lib.rt:187:9
 within-requires : tie.Need-within-requires
 within-requires c κs = search needs
 
--- src/lib.rt:188:9
 returns-3 : tie.Need-returns-3
 returns-3 c = search (room-rest, bare-rest, need-fails, last-test)
 
--- src/lib.rt:177:1
 returns-4 : tie.Need-returns-4
 returns-4 c = search (room-rest, bare-rest, need-rest, last-test)
 

@@ -3,31 +3,24 @@ use borrow.Author.Needs.{needs}
 use Rattle.chipwriter.proofs.pin_fault.Statement.{statement}
 use Rattle.chipwriter.proofs.pin_fault.Tie as tie
 
--- src/lib.rt:136:9
 returns : tie.Need-returns
 returns c = search no-room
 
--- src/lib.rt:138:13
 mul-p : tie.Need-mul-p
 mul-p c = search needs
 
--- src/lib.rt:138:13
 array-copy-out-p : tie.Need-array-copy-out-p
 array-copy-out-p c = search needs
 
--- src/lib.rt:139:9
 pin-in-range-requires : tie.Need-pin-in-range-requires
 pin-in-range-requires c κs = search needs
 
--- src/lib.rt:140:9
 returns-2 : tie.Need-returns-2
 returns-2 c = search (room-rest, need-fails)
 
--- src/lib.rt:143:9
 returns-3 : tie.Need-returns-3
 returns-3 c = search (room-rest, need-rest, no-such)
 
--- src/lib.rt:132:1
 returns-4 : tie.Need-returns-4
 returns-4 c = search (room-rest, need-rest, such-rest)
 

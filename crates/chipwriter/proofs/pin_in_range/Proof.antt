@@ -4,23 +4,18 @@ use borrow.Author.Needs.{needs}
 use Rattle.chipwriter.proofs.pin_in_range.Statement.{statement}
 use Rattle.chipwriter.proofs.pin_in_range.Tie as tie
 
--- src/lib.rt:123:9
 returns : tie.Need-returns
 returns c = search too-high
 
--- src/lib.rt:125:9
 within-requires : tie.Need-within-requires
 within-requires c κs = search needs
 
--- src/lib.rt:126:9
 returns-2 : tie.Need-returns-2
 returns-2 c = search (not-high, and-fails, held-place)
 
--- src/lib.rt:128:5
 within-requires-2 : tie.Need-within-requires-2
 within-requires-2 c κs = search needs
 
--- src/lib.rt:119:1
 returns-3 : tie.Need-returns-3
 returns-3 c = search (not-high, and-rest, held-place, last-test)
 

@@ -4,19 +4,15 @@ use borrow.Author.Needs.{needs}
 use Rattle.chipwriter.proofs.sides_within.Statement.{statement}
 use Rattle.chipwriter.proofs.sides_within.Tie as tie
 
--- src/lib.rt:27:9
 within-requires : tie.Need-within-requires
 within-requires c κs = search needs
 
--- src/lib.rt:28:9
 returns : tie.Need-returns
 returns c = search and-fails
 
--- src/lib.rt:30:5
 within-requires-2 : tie.Need-within-requires-2
 within-requires-2 c κs = search needs
 
--- src/lib.rt:24:1
 returns-2 : tie.Need-returns-2
 returns-2 c = search (and-rest, last-test)
 

@@ -3,35 +3,27 @@ use borrow.Author.Needs.{needs}
 use Rattle.chipwriter.proofs.test_chip.Statement.{statement}
 use Rattle.chipwriter.proofs.test_chip.Tie as tie
 
--- src/lib.rt:266:9
 test-items-requires : tie.Need-test-items-requires
 test-items-requires c κs = search needs
 
--- src/lib.rt:267:25
 enum-known-tested : tie.Need-enum-known-tested
 enum-known-tested c = search needs
 
--- src/lib.rt:268:9
 enum-told : tie.Need-enum-told
 enum-told c = search needs
 
--- src/lib.rt:268:9
 returns : tie.Need-returns
 returns c = search passed-read
 
--- src/lib.rt:271:38
 slice-aggregate-put-chip : tie.Need-slice-aggregate-put-chip
 slice-aggregate-put-chip c = search needs
 
--- src/lib.rt:271:16
 put-chip-requires : tie.Need-put-chip-requires
 put-chip-requires c κs = search needs
 
--- src/lib.rt:272:9
 returns-2 : tie.Need-returns-2
 returns-2 c = search long-read
 
--- src/lib.rt:263:1
 returns-3 : tie.Need-returns-3
 returns-3 c = search refused-read
 

@@ -11,35 +11,27 @@ Inv-loop d fixes k i₀ i = (i ≤ 8) × LeftFrom (fixFault d fixes) 2 k i
 abbrev μ-loop : tie.MeasureT-loop
 μ-loop d fixes k i₀ i = k - i
 
--- src/lib.rt:75:5
 loop-holds : tie.Need-loop-holds Inv-loop μ-loop
 loop-holds c = (search needs, search none-tested)
 
--- src/lib.rt:76:13
 fix-fault-requires : tie.Need-fix-fault-requires Inv-loop μ-loop
 fix-fault-requires c κs = search needs
 
--- src/lib.rt:78:56
 add-t7 : tie.Need-add-t7 Inv-loop μ-loop
 add-t7 c = search needs
 
--- src/lib.rt:78:13
 returns : tie.Need-returns Inv-loop μ-loop
 returns c = search item-refused
 
--- src/lib.rt:80:9
 add-i : tie.Need-add-i Inv-loop μ-loop
 add-i c = search needs
 
--- src/lib.rt:75:5
 loop-less : tie.Need-loop-less Inv-loop μ-loop
 loop-less c = search needs
 
--- src/lib.rt:75:5
 loop-again : tie.Need-loop-again Inv-loop μ-loop
 loop-again c = (search one-more, search item-passed)
 
--- src/lib.rt:71:1
 returns-2 : tie.Need-returns-2 Inv-loop μ-loop
 returns-2 c = search all-tested
 

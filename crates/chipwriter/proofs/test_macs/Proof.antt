@@ -11,35 +11,27 @@ Inv-loop macs n line i₀ i = (i ≤ 8) × LeftFrom (macFault macs) line n i
 abbrev μ-loop : tie.MeasureT-loop
 μ-loop macs n line i₀ i = n - i
 
--- src/lib.rt:108:5
 loop-holds : tie.Need-loop-holds Inv-loop μ-loop
 loop-holds c = (search needs, search none-tested)
 
--- src/lib.rt:109:13
 mac-fault-requires : tie.Need-mac-fault-requires Inv-loop μ-loop
 mac-fault-requires c κs = search needs
 
--- src/lib.rt:111:56
 add-t7 : tie.Need-add-t7 Inv-loop μ-loop
 add-t7 c = search needs
 
--- src/lib.rt:111:13
 returns : tie.Need-returns Inv-loop μ-loop
 returns c = search item-refused
 
--- src/lib.rt:113:9
 add-i : tie.Need-add-i Inv-loop μ-loop
 add-i c = search needs
 
--- src/lib.rt:108:5
 loop-less : tie.Need-loop-less Inv-loop μ-loop
 loop-less c = search needs
 
--- src/lib.rt:108:5
 loop-again : tie.Need-loop-again Inv-loop μ-loop
 loop-again c = (search one-more, search item-passed)
 
--- src/lib.rt:103:1
 returns-2 : tie.Need-returns-2 Inv-loop μ-loop
 returns-2 c = search all-tested
 

@@ -6,31 +6,24 @@ use borrow.Author.Needs.{needs}
 use Rattle.chipwriter.proofs.test_net.Statement.{statement}
 use Rattle.chipwriter.proofs.test_net.Tie as tie
 
--- src/lib.rt:201:9
 net-fault-requires : tie.Need-net-fault-requires
 net-fault-requires c κs = search needs
 
--- src/lib.rt:203:9
 returns : tie.Need-returns
 returns c = search net-refused
 
--- src/lib.rt:205:15
 mul-net : tie.Need-mul-net
 mul-net c = let h : c .before .before .args .j < 32 = search in-count in omega arith
 
--- src/lib.rt:205:15
 array-copy-out-net : tie.Need-array-copy-out-net
 array-copy-out-net c = search in-count
 
--- src/lib.rt:206:37
 add-test-pins : tie.Need-add-test-pins
 add-test-pins c = search needs
 
--- src/lib.rt:206:5
 test-pins-requires : tie.Need-test-pins-requires
 test-pins-requires c κs = search needs
 
--- src/lib.rt:197:1
 returns-2 : tie.Need-returns-2
 returns-2 c = search pins-answer
 

@@ -10,74 +10,57 @@ Inv-loop t pins n first nets q₀ j₀ q j = (j ≤ 32) × (q ≤ 128) × NetsLe
 abbrev μ-loop : tie.MeasureT-loop
 μ-loop t pins n first nets q₀ j₀ q j = t - j
 
--- src/lib.rt:216:5
 loop-holds : tie.Need-loop-holds Inv-loop μ-loop
 loop-holds c = (search needs, search needs, search no-net-tested)
 
--- src/lib.rt:217:52
 add-test-net : tie.Need-add-test-net Inv-loop μ-loop
 add-test-net c = search needs
 
--- src/lib.rt:217:52
 add-test-net-2 : tie.Need-add-test-net-2 Inv-loop μ-loop
 add-test-net-2 c = search needs
 
--- src/lib.rt:217:13
 test-net-requires : tie.Need-test-net-requires Inv-loop μ-loop
 test-net-requires c κs = (search needs, search needs)
 
 enum-told : tie.Need-enum-told Inv-loop μ-loop
 enum-told c = search needs
 
--- src/lib.rt:219:13
 enum-told-2 : tie.Need-enum-told-2 Inv-loop μ-loop
 enum-told-2 c = search needs
 
--- src/lib.rt:219:13
 returns : tie.Need-returns Inv-loop μ-loop
 returns c = search net-refuses
 
--- src/lib.rt:221:19
 mul-net : tie.Need-mul-net Inv-loop μ-loop
 mul-net c = search needs
 
--- src/lib.rt:221:19
 array-copy-out-net : tie.Need-array-copy-out-net Inv-loop μ-loop
 array-copy-out-net c = search net-in-count
 
--- src/lib.rt:222:9
 add-q : tie.Need-add-q Inv-loop μ-loop
 add-q c = search pins-fit
 
--- src/lib.rt:223:9
 add-j : tie.Need-add-j Inv-loop μ-loop
 add-j c = search needs
 
--- src/lib.rt:216:5
 loop-less : tie.Need-loop-less Inv-loop μ-loop
 loop-less c = search needs
 
--- src/lib.rt:216:5
 loop-again : tie.Need-loop-again Inv-loop μ-loop
 loop-again c = (search one-net-more, search few-pins, net-passes _ _ _ _ _ _ _ (c .before .before .before .before .before .before .loop .inv .2) (c .before .before .before .before .before .loop-test .taken) _ (c .before .before .before .before .test-net .ensures) (c .before .before .enum-told .given .1))
 
--- src/lib.rt:225:8
 bare-before-requires : tie.Need-bare-before-requires Inv-loop μ-loop
 bare-before-requires c κs = search needs
 
--- src/lib.rt:226:55
 add-t20 : tie.Need-add-t20 Inv-loop μ-loop
 add-t20 c = search needs
 
--- src/lib.rt:226:55
 add-t21 : tie.Need-add-t21 Inv-loop μ-loop
 add-t21 c = search needs
 
--- src/lib.rt:226:9
 returns-2 : tie.Need-returns-2 Inv-loop μ-loop
 returns-2 c = search end-refused
 
--- src/lib.rt:210:1
 returns-3 : tie.Need-returns-3 Inv-loop μ-loop
 returns-3 c = search end-passed
 

@@ -4,61 +4,48 @@ use borrow.Author.Needs.{needs}
 use Rattle.chipwriter.proofs.test_parts.Statement.{statement}
 use Rattle.chipwriter.proofs.test_parts.Tie as tie
 
--- src/lib.rt:235:9
 die-fault-requires : tie.Need-die-fault-requires
 die-fault-requires c κs = search needs
 
--- src/lib.rt:237:9
 returns : tie.Need-returns
 returns c = search (needs, die-refused)
 
--- src/lib.rt:239:9
 test-fixes-requires : tie.Need-test-fixes-requires
 test-fixes-requires c κs = search needs
 
 enum-told : tie.Need-enum-told
 enum-told c = search needs
 
--- src/lib.rt:241:9
 enum-told-2 : tie.Need-enum-told-2
 enum-told-2 c = search needs
 
--- src/lib.rt:241:9
 returns-2 : tie.Need-returns-2
 returns-2 c = search (needs, fixes-refused)
 
--- src/lib.rt:243:38
 add-test-macs : tie.Need-add-test-macs
 add-test-macs c = search macs-line-fits
 
--- src/lib.rt:243:9
 test-macs-requires : tie.Need-test-macs-requires
 test-macs-requires c κs = search macs-line
 
 enum-told-3 : tie.Need-enum-told-3
 enum-told-3 c = search needs
 
--- src/lib.rt:245:9
 enum-told-4 : tie.Need-enum-told-4
 enum-told-4 c = search needs
 
--- src/lib.rt:245:9
 returns-3 : tie.Need-returns-3
 returns-3 c = search (needs, macs-refused)
 
--- src/lib.rt:247:33
 add-test-nets : tie.Need-add-test-nets
 add-test-nets c = search macs-line-fits
 
--- src/lib.rt:247:33
 add-test-nets-2 : tie.Need-add-test-nets-2
 add-test-nets-2 c = search nets-line-fits
 
--- src/lib.rt:247:5
 test-nets-requires : tie.Need-test-nets-requires
 test-nets-requires c κs = search nets-line
 
--- src/lib.rt:232:1
 returns-4 : tie.Need-returns-4
 returns-4 c = search (needs, nets-answer)
 

@@ -11,39 +11,30 @@ Inv-loop pins q count n line i₀ i = (q + i ≤ 128) × LeftFrom (λ j. pinFaul
 abbrev μ-loop : tie.MeasureT-loop
 μ-loop pins q count n line i₀ i = count - i
 
--- src/lib.rt:154:5
 loop-holds : tie.Need-loop-holds Inv-loop μ-loop
 loop-holds c = (search needs, search none-tested)
 
--- src/lib.rt:155:34
 add-pin-fault : tie.Need-add-pin-fault Inv-loop μ-loop
 add-pin-fault c = search needs
 
--- src/lib.rt:155:13
 pin-fault-requires : tie.Need-pin-fault-requires Inv-loop μ-loop
 pin-fault-requires c κs = search needs
 
--- src/lib.rt:157:56
 add-t10 : tie.Need-add-t10 Inv-loop μ-loop
 add-t10 c = search needs
 
--- src/lib.rt:157:13
 returns : tie.Need-returns Inv-loop μ-loop
 returns c = search item-refused
 
--- src/lib.rt:159:9
 add-i : tie.Need-add-i Inv-loop μ-loop
 add-i c = search needs
 
--- src/lib.rt:154:5
 loop-less : tie.Need-loop-less Inv-loop μ-loop
 loop-less c = search needs
 
--- src/lib.rt:154:5
 loop-again : tie.Need-loop-again Inv-loop μ-loop
 loop-again c = (search one-pin-more, search item-passed)
 
--- src/lib.rt:149:1
 returns-2 : tie.Need-returns-2 Inv-loop μ-loop
 returns-2 c = search all-tested
 

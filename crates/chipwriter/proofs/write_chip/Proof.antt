@@ -3,42 +3,33 @@ use borrow.Author.Needs.{needs}
 use Rattle.chipwriter.proofs.write_chip.Statement.{statement}
 use Rattle.chipwriter.proofs.write_chip.Tie as tie
 
--- src/lib.rt:281:9
 test-chip-requires : tie.Need-test-chip-requires
 test-chip-requires c κs = search needs
 
--- src/lib.rt:282:28
 enum-known-tested : tie.Need-enum-known-tested
 enum-known-tested c = search needs
 
--- src/lib.rt:283:9
 returns : tie.Need-returns
 returns c = search test-refused
 
 enum-told : tie.Need-enum-told
 enum-told c = search needs
 
--- src/lib.rt:286:42
 slice-aggregate-put-chip : tie.Need-slice-aggregate-put-chip
 slice-aggregate-put-chip c = search needs
 
--- src/lib.rt:286:20
 put-chip-requires : tie.Need-put-chip-requires
 put-chip-requires c κs = search needs
 
--- src/lib.rt:287:9
 returns-2 : tie.Need-returns-2
 returns-2 c = search no-space
 
--- src/lib.rt:289:23
 put-chip-requires-2 : tie.Need-put-chip-requires-2
 put-chip-requires-2 c κs = search needs
 
--- src/lib.rt:278:1
 same-length : tie.Need-same-length
 same-length c = search needs
 
--- src/lib.rt:278:1
 returns-3 : tie.Need-returns-3
 returns-3 c = search all-written
 

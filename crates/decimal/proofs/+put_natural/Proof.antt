@@ -22,7 +22,6 @@ abbrev put-natural-below : ℕ → In 1 put-natural-kinds.ps
 put-natural-below t =
     and 1 put-natural-kinds.ps (falls 1 put-natural-kinds.ps _<_ μ-put-natural t) put-natural.Pre
 
--- src/lib.rt:106:30
 put-natural-add-put : (t : ℕ) → put-natural-lts.Need-add-put (
   put-reads.Asked,
   put-reads.Learnt,
@@ -31,7 +30,6 @@ put-natural-add-put : (t : ℕ) → put-natural-lts.Need-add-put (
 ) (put-natural-at t) put-natural.Post
 put-natural-add-put t c = search needs
 
--- src/lib.rt:106:29
 put-natural-cast-put : (t : ℕ) → put-natural-lts.Need-cast-put (
   put-reads.Asked,
   put-reads.Learnt,
@@ -40,7 +38,6 @@ put-natural-cast-put : (t : ℕ) → put-natural-lts.Need-cast-put (
 ) (put-natural-at t) put-natural.Post
 put-natural-cast-put t c = search needs
 
--- src/lib.rt:106:9
 put-natural-put-requires : (t : ℕ) → put-natural-lts.Need-put-requires (
   put-reads.Asked,
   put-reads.Learnt,
@@ -49,7 +46,6 @@ put-natural-put-requires : (t : ℕ) → put-natural-lts.Need-put-requires (
 ) (put-natural-at t) put-natural.Post
 put-natural-put-requires t c κs = search needs
 
--- src/lib.rt:106:9
 put-natural-same-length : (t : ℕ) → put-natural-lts.Need-same-length (
   put-reads.Asked,
   put-reads.Learnt,
@@ -58,7 +54,6 @@ put-natural-same-length : (t : ℕ) → put-natural-lts.Need-same-length (
 ) (put-natural-at t) put-natural.Post
 put-natural-same-length t c = search needs
 
--- src/lib.rt:106:9
 put-natural-returns : (t : ℕ) → put-natural-lts.Need-returns (
   put-reads.Asked,
   put-reads.Learnt,
@@ -67,7 +62,6 @@ put-natural-returns : (t : ℕ) → put-natural-lts.Need-returns (
 ) (put-natural-at t) put-natural.Post
 put-natural-returns t c = search digit-written
 
--- src/lib.rt:108:9
 put-natural-put-natural-requires : (t : ℕ) → put-natural-lts.Need-put-natural-requires (
   put-reads.Asked,
   put-reads.Learnt,
@@ -76,7 +70,6 @@ put-natural-put-natural-requires : (t : ℕ) → put-natural-lts.Need-put-natura
 ) (put-natural-at t) put-natural.Post
 put-natural-put-natural-requires t c κs = (search needs, search needs)
 
--- src/lib.rt:109:18
 put-natural-add-put-2 : (t : ℕ) → put-natural-lts.Need-add-put-2 (
   put-reads.Asked,
   put-reads.Learnt,
@@ -85,7 +78,6 @@ put-natural-add-put-2 : (t : ℕ) → put-natural-lts.Need-add-put-2 (
 ) (put-natural-at t) put-natural.Post
 put-natural-add-put-2 t c = search needs
 
--- src/lib.rt:109:17
 put-natural-cast-put-2 : (t : ℕ) → put-natural-lts.Need-cast-put-2 (
   put-reads.Asked,
   put-reads.Learnt,
@@ -94,7 +86,6 @@ put-natural-cast-put-2 : (t : ℕ) → put-natural-lts.Need-cast-put-2 (
 ) (put-natural-at t) put-natural.Post
 put-natural-cast-put-2 t c = search needs
 
--- src/lib.rt:109:5
 put-natural-put-requires-2 : (t : ℕ) → put-natural-lts.Need-put-requires-2 (
   put-reads.Asked,
   put-reads.Learnt,
@@ -103,7 +94,6 @@ put-natural-put-requires-2 : (t : ℕ) → put-natural-lts.Need-put-requires-2 (
 ) (put-natural-at t) put-natural.Post
 put-natural-put-requires-2 t c κs = search needs
 
--- src/lib.rt:102:1
 put-natural-same-length-2 : (t : ℕ) → put-natural-lts.Need-same-length-2 (
   put-reads.Asked,
   put-reads.Learnt,
@@ -112,7 +102,6 @@ put-natural-same-length-2 : (t : ℕ) → put-natural-lts.Need-same-length-2 (
 ) (put-natural-at t) put-natural.Post
 put-natural-same-length-2 t c = search needs
 
--- src/lib.rt:102:1
 put-natural-returns-2 : (t : ℕ) → put-natural-lts.Need-returns-2 (
   put-reads.Asked,
   put-reads.Learnt,

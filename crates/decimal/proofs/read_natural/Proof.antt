@@ -15,55 +15,42 @@ Inv-loop s v₀ i₀ v i = (i ≤ length s) × (v ≤ cap) × (heldNatural s ≡
 abbrev μ-loop : tie.MeasureT-loop
 μ-loop s v₀ i₀ v i = length s - i
 
--- src/lib.rt:31:9
 returns : tie.Need-returns Inv-loop μ-loop
 returns c = search empty
 
--- src/lib.rt:33:8
 shared-slice-read-if2 : tie.Need-shared-slice-read-if2 Inv-loop μ-loop
 shared-slice-read-if2 c = search needs
 
--- src/lib.rt:35:13
 returns-2 : tie.Need-returns-2 Inv-loop μ-loop
 returns-2 c = search only-zero
 
--- src/lib.rt:37:9
 returns-3 : tie.Need-returns-3 Inv-loop μ-loop
 returns-3 c = search zero-first
 
--- src/lib.rt:41:5
 loop-holds : tie.Need-loop-holds Inv-loop μ-loop
 loop-holds c = (search needs, search needs, search begins)
 
--- src/lib.rt:42:17
 shared-slice-read-b : tie.Need-shared-slice-read-b Inv-loop μ-loop
 shared-slice-read-b c = search needs
 
--- src/lib.rt:44:13
 returns-4 : tie.Need-returns-4 Inv-loop μ-loop
 returns-4 c = search low-ends
 
--- src/lib.rt:47:13
 returns-5 : tie.Need-returns-5 Inv-loop μ-loop
 returns-5 c = search high-ends
 
--- src/lib.rt:49:9
 with-digit-requires : tie.Need-with-digit-requires Inv-loop μ-loop
 with-digit-requires c κs = search needs
 
--- src/lib.rt:50:9
 add-i : tie.Need-add-i Inv-loop μ-loop
 add-i c = search needs
 
--- src/lib.rt:41:5
 loop-less : tie.Need-loop-less Inv-loop μ-loop
 loop-less c = search needs
 
--- src/lib.rt:41:5
 loop-again : tie.Need-loop-again Inv-loop μ-loop
 loop-again c = (search needs, search needs, search digit-more)
 
--- src/lib.rt:27:1
 returns-6 : tie.Need-returns-6 Inv-loop μ-loop
 returns-6 c = search all-read
 

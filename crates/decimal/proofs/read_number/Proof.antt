@@ -4,55 +4,42 @@ use borrow.Author.Needs.{needs}
 use Rattle.decimal.proofs.read_number.Statement.{statement}
 use Rattle.decimal.proofs.read_number.Tie as tie
 
--- src/lib.rt:60:9
 returns : tie.Need-returns
 returns c = search no-text
 
--- src/lib.rt:62:8
 shared-slice-read-if2 : tie.Need-shared-slice-read-if2
 shared-slice-read-if2 c = search needs
 
--- src/lib.rt:63:48
 sub-read-natural : tie.Need-sub-read-natural
 sub-read-natural c = search needs
 
--- src/lib.rt:63:48
 part-read-natural-start : tie.Need-part-read-natural-start
 part-read-natural-start c = search needs
 
--- src/lib.rt:63:48
 part-read-natural-end : tie.Need-part-read-natural-end
 part-read-natural-end c = search needs
 
--- src/lib.rt:63:35
 read-natural-requires : tie.Need-read-natural-requires
 read-natural-requires c κs = search needs
 
--- src/lib.rt:63:30
 enum-known-m : tie.Need-enum-known-m
 enum-known-m c = search needs
 
--- src/lib.rt:64:13
 enum-told : tie.Need-enum-told
 enum-told c = search needs
 
--- src/lib.rt:64:13
 returns-2 : tie.Need-returns-2
 returns-2 c = search minus-bad
 
--- src/lib.rt:67:13
 returns-3 : tie.Need-returns-3
 returns-3 c = search minus-zero
 
--- src/lib.rt:69:9
 returns-4 : tie.Need-returns-4
 returns-4 c = search minus-value
 
--- src/lib.rt:71:5
 read-natural-requires-2 : tie.Need-read-natural-requires-2
 read-natural-requires-2 c κs = search needs
 
--- src/lib.rt:56:1
 returns-5 : tie.Need-returns-5
 returns-5 c = search no-minus
 

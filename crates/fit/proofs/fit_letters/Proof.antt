@@ -13,30 +13,24 @@ use Rattle.fit.proofs.fit_passed.Reads as fit-passed-reads
 shape : (t : lts.Start (test-chip-reads.Asked, test-chip-reads.Learnt, bare-reads.Asked, bare-reads.Learnt, fit-passed-reads.Asked, fit-passed-reads.Learnt) reads.Pre reads.Post) → Whole (t .args .c)
 shape t = search whole
 
--- src/lib.rt:307:9
 test-chip-requires : tie.Need-test-chip-requires
 test-chip-requires c κs = search needs
 
--- src/lib.rt:309:25
 enum-known-tested : tie.Need-enum-known-tested
 enum-known-tested c = search needs
 
--- src/lib.rt:309:31
 bare-requires : tie.Need-bare-requires
 bare-requires c κs = search needs
 
--- src/lib.rt:310:50
 enum-told : tie.Need-enum-told
 enum-told c = search needs
 
--- src/lib.rt:310:27
 fit-passed-requires : tie.Need-fit-passed-requires
 fit-passed-requires c κs =
     let h = c .before .before .before in
     let b = h .before .before .before in
     test-passed _ (shape b) (h .test-chip .result) (h .test-chip .ensures) (c .before .enum-told .given .1)
 
--- src/lib.rt:303:1
 returns : tie.Need-returns
 returns c =
     let h = c .before .before .before .before in
@@ -44,11 +38,9 @@ returns c =
     let a = test-refused _ _ _ (h .test-chip .result) (h .test-chip .ensures) (c .before .before .tested .given .0 .0) (c .before .before .tested .given .1) _ (c .bare .ensures) _ in
     (a .answer, a .list)
 
--- src/lib.rt:303:1
 same-length : tie.Need-same-length
 same-length c = search needs
 
--- src/lib.rt:303:1
 returns-2 : tie.Need-returns-2
 returns-2 c = search needs
 

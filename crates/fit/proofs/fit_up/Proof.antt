@@ -3,57 +3,45 @@ use borrow.Author.Needs.{needs}
 use Rattle.fit.proofs.fit_up.Statement.{statement}
 use Rattle.fit.proofs.fit_up.Tie as tie
 
--- src/lib.rt:254:9
 solve-on-requires : tie.Need-solve-on-requires
 solve-on-requires c κs = search needs
 
--- src/lib.rt:259:70
 enum-told : tie.Need-enum-told
 enum-told c = search needs
 
--- src/lib.rt:259:28
 placed-requires : tie.Need-placed-requires
 placed-requires c κs =
     let h = c .before .before .before .before .before in
     let b = h .before .before .before in
     (b .pre .0, (b .pre .1 .0, (b .pre .1 .1, is-solved _ _ _ _ _ _ (h .solve-on .ensures) (c .before .enum-told .given .1))))
 
--- src/lib.rt:260:59
 enum-told-2 : tie.Need-enum-told-2
 enum-told-2 c = search needs
 
--- src/lib.rt:260:32
 none-up-requires : tie.Need-none-up-requires
 none-up-requires c κs =
     let h = c .before .before .before .before .before in
     let b = h .before .before .before in
-    (b .pre .0, (b .pre .1 .0, is-unsolved _ _ _ _ _ _ (h .solve-on .ensures) (c .before .enum-told2 .given .1)))
+    (b .pre .0, (b .pre .1 .0, search is-unsolved))
 
--- src/lib.rt:261:36
 enum-told-3 : tie.Need-enum-told-3
 enum-told-3 c = search needs
 
--- src/lib.rt:261:31
 bare-requires : tie.Need-bare-requires
 bare-requires c κs = search needs
 
--- src/lib.rt:241:1
 same-length : tie.Need-same-length
 same-length c = search needs
 
--- src/lib.rt:241:1
 returns : tie.Need-returns
 returns c = search needs
 
--- src/lib.rt:241:1
 same-length-2 : tie.Need-same-length-2
 same-length-2 c = search needs
 
--- src/lib.rt:241:1
 returns-2 : tie.Need-returns-2
 returns-2 c = search needs
 
--- src/lib.rt:241:1
 returns-3 : tie.Need-returns-3
 returns-3 c =
     let h = c .before .before .before .before .before in

@@ -2,7 +2,6 @@ use Rattle.fit.proofs.Directions.{no-amounts}
 use Rattle.fit.proofs.no_amounts.Statement.{statement}
 use Rattle.fit.proofs.no_amounts.Tie as tie
 
--- src/lib.rt:196:1
 returns : tie.Need-returns
 returns c = no-amounts
 

@@ -15,25 +15,20 @@ use Rattle.fit.proofs.put_both.Reads as put-both-reads
 long : (t : lts.Start (no-amounts-reads.Asked, no-amounts-reads.Learnt, put-both-reads.Asked, put-both-reads.Learnt, bare-reads.Asked, bare-reads.Learnt) reads.Pre reads.Post) → length (t .args .across) ≡ 456
 long t = search needs
 
--- src/lib.rt:215:9
 no-amounts-requires : tie.Need-no-amounts-requires
 no-amounts-requires c κs = search needs
 
--- src/lib.rt:216:5
 put-both-requires : tie.Need-put-both-requires
 put-both-requires c κs =
     let b = c .before .before .before .before in
     (b .pre .0 .few, (b .pre .1 .0, (unsolved-below _ _ _ _ (b .pre .1 .1), idle-below _ (c .before .no-amounts .ensures))))
 
--- src/lib.rt:217:5
 bare-requires : tie.Need-bare-requires
 bare-requires c κs = search needs
 
--- src/lib.rt:203:1
 same-length : tie.Need-same-length
 same-length c = search needs
 
--- src/lib.rt:203:1
 returns : tie.Need-returns
 returns c =
     let p = c .before .before .before in

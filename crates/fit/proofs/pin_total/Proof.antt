@@ -12,35 +12,27 @@ Inv-loop t nets q₀ j₀ q j = (j ≤ t) × (q ≡ pinsBefore j nets)
 abbrev μ-loop : tie.MeasureT-loop
 μ-loop t nets q₀ j₀ q j = t - j
 
--- src/lib.rt:103:5
 loop-holds : tie.Need-loop-holds Inv-loop μ-loop
 loop-holds c = (search needs, search pins-none)
 
--- src/lib.rt:104:19
 mul-net : tie.Need-mul-net Inv-loop μ-loop
 mul-net c = search needs
 
--- src/lib.rt:104:19
 array-copy-out-net : tie.Need-array-copy-out-net Inv-loop μ-loop
 array-copy-out-net c = search needs
 
--- src/lib.rt:105:9
 add-q : tie.Need-add-q Inv-loop μ-loop
 add-q c = search (needs, pins-fit)
 
--- src/lib.rt:106:9
 add-j : tie.Need-add-j Inv-loop μ-loop
 add-j c = search needs
 
--- src/lib.rt:103:5
 loop-less : tie.Need-loop-less Inv-loop μ-loop
 loop-less c = search needs
 
--- src/lib.rt:103:5
 loop-again : tie.Need-loop-again Inv-loop μ-loop
 loop-again c = (search needs, search pins-more)
 
--- src/lib.rt:96:1
 returns : tie.Need-returns Inv-loop μ-loop
 returns c = search pins-all
 

@@ -15,50 +15,39 @@ use Rattle.measure.proofs.measure_array.Reads as measure-array-reads
 longs : (t : lts.Start (put-both-reads.Asked, put-both-reads.Learnt, spots-at-reads.Asked, spots-at-reads.Learnt, measure-array-reads.Asked, measure-array-reads.Learnt, bare-reads.Asked, bare-reads.Learnt) reads.Pre reads.Post) → (length (t .args .across) ≡ 456) × (length (t .args .up) ≡ 456) × (length (t .args .xs) ≡ 8) × (length (t .args .ys) ≡ 8)
 longs t = (search needs, search needs, search needs, search needs)
 
--- src/lib.rt:178:5
 put-both-requires : tie.Need-put-both-requires
 put-both-requires c κs = (search needs, (search needs, (solved-below _ _ _ _ _ (c .before .before .before .pre .1 .1 .0), solved-below _ _ _ _ _ (c .before .before .before .pre .1 .1 .1))))
 
--- src/lib.rt:179:9
 spots-at-requires : tie.Need-spots-at-requires
 spots-at-requires c κs = search needs
 
--- src/lib.rt:180:9
 measure-array-requires : tie.Need-measure-array-requires
 measure-array-requires c κs = search needs
 
--- src/lib.rt:182:33
 enum-known-measured : tie.Need-enum-known-measured
 enum-known-measured c = search needs
 
--- src/lib.rt:185:24
 add-t18 : tie.Need-add-t18
 add-t18 c = search needs
 
--- src/lib.rt:189:32
 enum-known-measured-2 : tie.Need-enum-known-measured-2
 enum-known-measured-2 c = search needs
 
--- src/lib.rt:189:38
 bare-requires : tie.Need-bare-requires
 bare-requires c κs = search needs
 
--- src/lib.rt:162:1
 same-length : tie.Need-same-length
 same-length c = search needs
 
--- src/lib.rt:162:1
 returns : tie.Need-returns
 returns c =
     let h = c .before .before .before in
     let b = h .before .before .before .before .before .before .before .before in
     placed-ok _ _ _ (b .pre .0) _ _ _ (longs b .0) (longs b .1) (b .pre .1 .0) _ (h .before .before .before .before .put-both .ensures) _ _ (longs b .2) (longs b .3) (b .pre .1 .1 .0) (b .pre .1 .1 .1) _ (h .before .spots-at .ensures) (h .measure-array .result) (h .measure-array .ensures) (c .before .measured .given .0 .0) _ (c .before .measured .given .1)
 
--- src/lib.rt:162:1
 same-length-2 : tie.Need-same-length-2
 same-length-2 c = search needs
 
--- src/lib.rt:162:1
 returns-2 : tie.Need-returns-2
 returns-2 c =
     let h = c .before .before .before .before in

@@ -13,51 +13,39 @@ Inv-loop flow₀ at m amounts i₀ flow i = (i ≤ m) × (flow ≡ sets flow₀ 
 abbrev μ-loop : tie.MeasureT-loop
 μ-loop flow₀ at m amounts i₀ flow i = m - i
 
--- src/lib.rt:119:5
 loop-holds : tie.Need-loop-holds Inv-loop μ-loop
 loop-holds c = search needs
 
--- src/lib.rt:120:24
 mul-flow : tie.Need-mul-flow Inv-loop μ-loop
 mul-flow c = search needs
 
--- src/lib.rt:120:24
 array-read-flow : tie.Need-array-read-flow Inv-loop μ-loop
 array-read-flow c = search needs
 
--- src/lib.rt:120:24
 cast-flow : tie.Need-cast-flow Inv-loop μ-loop
 cast-flow c = search amount-fits
 
--- src/lib.rt:120:14
 add-flow : tie.Need-add-flow Inv-loop μ-loop
 add-flow c = search needs
 
--- src/lib.rt:120:9
 mul-flow-2 : tie.Need-mul-flow-2 Inv-loop μ-loop
 mul-flow-2 c = search needs
 
--- src/lib.rt:120:9
 slice-write-flow : tie.Need-slice-write-flow Inv-loop μ-loop
 slice-write-flow c = search puts-in
 
--- src/lib.rt:121:9
 add-i : tie.Need-add-i Inv-loop μ-loop
 add-i c = search needs
 
--- src/lib.rt:119:5
 loop-less : tie.Need-loop-less Inv-loop μ-loop
 loop-less c = search needs
 
--- src/lib.rt:119:5
 loop-again : tie.Need-loop-again Inv-loop μ-loop
 loop-again c = (search needs, search (needs, puts-more))
 
--- src/lib.rt:112:1
 same-length : tie.Need-same-length Inv-loop μ-loop
 same-length c = search puts-long
 
--- src/lib.rt:112:1
 returns : tie.Need-returns Inv-loop μ-loop
 returns c = search puts-all
 

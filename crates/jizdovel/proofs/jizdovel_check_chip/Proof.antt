@@ -3,15 +3,12 @@ use borrow.Author.Needs.{needs}
 use Rattle.jizdovel.proofs.jizdovel_check_chip.Statement.{statement}
 use Rattle.jizdovel.proofs.jizdovel_check_chip.Tie as tie
 
--- src/lib.rt:35:23
 read-chip-requires : tie.Need-read-chip-requires
 read-chip-requires c κs = search needs
 
--- src/lib.rt:35:9
 chip-code-requires : tie.Need-chip-code-requires
 chip-code-requires c κs = search needs
 
--- src/lib.rt:31:1
 returns : tie.Need-returns
 returns c = search (needs, read-handed)
 

@@ -3,15 +3,12 @@ use borrow.Author.Needs.{needs}
 use Rattle.jizdovel.proofs.jizdovel_check_record.Statement.{statement}
 use Rattle.jizdovel.proofs.jizdovel_check_record.Tie as tie
 
--- src/lib.rt:45:25
 read-record-requires : tie.Need-read-record-requires
 read-record-requires c κs = search needs
 
--- src/lib.rt:45:9
 record-code-requires : tie.Need-record-code-requires
 record-code-requires c κs = search needs
 
--- src/lib.rt:41:1
 returns : tie.Need-returns
 returns c = search (needs, read-handed)
 

@@ -3,19 +3,15 @@ use Rattle.jizdovel.proofs.FitDone.{fit-handed, fit-filled, fit-corners
 use Rattle.jizdovel.proofs.jizdovel_fit.Statement.{statement}
 use Rattle.jizdovel.proofs.jizdovel_fit.Tie as tie
 
--- src/lib.rt:73:9
 fit-text-requires : tie.Need-fit-text-requires
 fit-text-requires c κs = search needs
 
--- src/lib.rt:61:1
 same-length : tie.Need-same-length
 same-length c = search needs
 
--- src/lib.rt:61:1
 same-length-2 : tie.Need-same-length-2
 same-length-2 c = search needs
 
--- src/lib.rt:61:1
 returns : tie.Need-returns
 returns c = (search (needs, fit-handed), (search (needs, fit-filled), search (needs, fit-corners)))
 

@@ -3,11 +3,9 @@ use Rattle.jizdovel.proofs.Coding.{measure-handed}
 use Rattle.jizdovel.proofs.jizdovel_measure.Statement.{statement}
 use Rattle.jizdovel.proofs.jizdovel_measure.Tie as tie
 
--- src/lib.rt:55:9
 measure-text-requires : tie.Need-measure-text-requires
 measure-text-requires c κs = search needs
 
--- src/lib.rt:51:1
 returns : tie.Need-returns
 returns c = search (needs, measure-handed)
 

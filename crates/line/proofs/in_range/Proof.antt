@@ -3,15 +3,12 @@ use Rattle.line.proofs.Range.{too-low, too-high, in-range}
 use Rattle.line.proofs.in_range.Statement.{statement}
 use Rattle.line.proofs.in_range.Tie as tie
 
--- src/lib.rt:248:9
 returns : tie.Need-returns
 returns c = search too-low
 
--- src/lib.rt:251:9
 returns-2 : tie.Need-returns-2
 returns-2 c = search too-high
 
--- src/lib.rt:244:1
 returns-3 : tie.Need-returns-3
 returns-3 c = search in-range
 

@@ -4,155 +4,117 @@ use borrow.Author.Needs.{needs}
 use Rattle.line.proofs.layout_of.Statement.{statement}
 use Rattle.line.proofs.layout_of.Tie as tie
 
--- src/lib.rt:143:9
 short-rule-requires : tie.Need-short-rule-requires
 short-rule-requires c κs = search needs
 
--- src/lib.rt:152:17
 enum-told : tie.Need-enum-told
 enum-told c = search needs
 
--- src/lib.rt:152:17
 short-rule-requires-2 : tie.Need-short-rule-requires-2
 short-rule-requires-2 c κs = search needs
 
--- src/lib.rt:153:17
 short-rule-requires-3 : tie.Need-short-rule-requires-3
 short-rule-requires-3 c κs = search needs
 
--- src/lib.rt:161:17
 enum-told-2 : tie.Need-enum-told-2
 enum-told-2 c = search needs
 
--- src/lib.rt:161:17
 short-rule-requires-4 : tie.Need-short-rule-requires-4
 short-rule-requires-4 c κs = search needs
 
--- src/lib.rt:162:17
 short-rule-requires-5 : tie.Need-short-rule-requires-5
 short-rule-requires-5 c κs = search needs
 
--- src/lib.rt:163:17
 short-rule-requires-6 : tie.Need-short-rule-requires-6
 short-rule-requires-6 c κs = search needs
 
--- src/lib.rt:164:17
 short-rule-requires-7 : tie.Need-short-rule-requires-7
 short-rule-requires-7 c κs = search needs
 
--- src/lib.rt:170:17
 enum-told-3 : tie.Need-enum-told-3
 enum-told-3 c = search needs
 
--- src/lib.rt:170:17
 short-rule-requires-8 : tie.Need-short-rule-requires-8
 short-rule-requires-8 c κs = search needs
 
--- src/lib.rt:171:17
 short-rule-requires-9 : tie.Need-short-rule-requires-9
 short-rule-requires-9 c κs = search needs
 
--- src/lib.rt:179:17
 enum-told-4 : tie.Need-enum-told-4
 enum-told-4 c = search needs
 
--- src/lib.rt:179:17
 short-rule-requires-10 : tie.Need-short-rule-requires-10
 short-rule-requires-10 c κs = search needs
 
--- src/lib.rt:188:40
 enum-told-5 : tie.Need-enum-told-5
 enum-told-5 c = search needs
 
--- src/lib.rt:188:17
 short-rule-requires-11 : tie.Need-short-rule-requires-11
 short-rule-requires-11 c κs = search needs
 
--- src/lib.rt:189:17
 short-rule-requires-12 : tie.Need-short-rule-requires-12
 short-rule-requires-12 c κs = search needs
 
--- src/lib.rt:190:17
 short-rule-requires-13 : tie.Need-short-rule-requires-13
 short-rule-requires-13 c κs = search needs
 
--- src/lib.rt:198:27
 enum-told-6 : tie.Need-enum-told-6
 enum-told-6 c = search needs
 
--- src/lib.rt:212:40
 enum-told-7 : tie.Need-enum-told-7
 enum-told-7 c = search needs
 
--- src/lib.rt:212:17
 short-rule-requires-14 : tie.Need-short-rule-requires-14
 short-rule-requires-14 c κs = search needs
 
--- src/lib.rt:213:17
 short-rule-requires-15 : tie.Need-short-rule-requires-15
 short-rule-requires-15 c κs = search needs
 
--- src/lib.rt:214:17
 short-rule-requires-16 : tie.Need-short-rule-requires-16
 short-rule-requires-16 c κs = search needs
 
--- src/lib.rt:218:26
 enum-told-8 : tie.Need-enum-told-8
 enum-told-8 c = search needs
 
--- src/lib.rt:219:22
 enum-told-9 : tie.Need-enum-told-9
 enum-told-9 c = search needs
 
--- src/lib.rt:220:23
 enum-told-10 : tie.Need-enum-told-10
 enum-told-10 c = search needs
 
--- src/lib.rt:221:23
 enum-told-11 : tie.Need-enum-told-11
 enum-told-11 c = search needs
 
--- src/lib.rt:140:1
 returns : tie.Need-returns
 returns c = search (needs, laid)
 
--- src/lib.rt:140:1
 returns-2 : tie.Need-returns-2
 returns-2 c = search (needs, laid)
 
--- src/lib.rt:140:1
 returns-3 : tie.Need-returns-3
 returns-3 c = search (needs, laid)
 
--- src/lib.rt:140:1
 returns-4 : tie.Need-returns-4
 returns-4 c = search (needs, laid)
 
--- src/lib.rt:140:1
 returns-5 : tie.Need-returns-5
 returns-5 c = search (needs, laid)
 
--- src/lib.rt:140:1
 returns-6 : tie.Need-returns-6
 returns-6 c = search (needs, laid-one)
 
--- src/lib.rt:140:1
 returns-7 : tie.Need-returns-7
 returns-7 c = search (needs, laid)
 
--- src/lib.rt:140:1
 returns-8 : tie.Need-returns-8
 returns-8 c = search (needs, laid)
 
--- src/lib.rt:140:1
 returns-9 : tie.Need-returns-9
 returns-9 c = search (needs, laid)
 
--- src/lib.rt:140:1
 returns-10 : tie.Need-returns-10
 returns-10 c = search (needs, laid)
 
--- src/lib.rt:140:1
 returns-11 : tie.Need-returns-11
 returns-11 c = search (needs, laid)
 

@@ -13,63 +13,48 @@ Inv-loop text line rules count values₀ a₀ j₀ values a j = (j ≤ count) ×
 abbrev μ-loop : tie.MeasureT-loop
 μ-loop text line rules count values₀ a₀ j₀ values a j = count - j
 
--- src/lib.rt:285:9
 layout-of-requires : tie.Need-layout-of-requires Inv-loop μ-loop
 layout-of-requires c κs = search needs
 
--- src/lib.rt:291:5
 loop-holds : tie.Need-loop-holds Inv-loop μ-loop
 loop-holds c = (search needs, search needs, search read-none)
 
--- src/lib.rt:292:20
 mul-rule : tie.Need-mul-rule Inv-loop μ-loop
 mul-rule c = search needs
 
--- src/lib.rt:292:20
 array-copy-out-rule : tie.Need-array-copy-out-rule Inv-loop μ-loop
 array-copy-out-rule c = search needs
 
--- src/lib.rt:293:15
 read-field-requires : tie.Need-read-field-requires Inv-loop μ-loop
 read-field-requires c κs = (search needs, search rule-sane)
 
--- src/lib.rt:294:26
 enum-known-v : tie.Need-enum-known-v Inv-loop μ-loop
 enum-known-v c = search needs
 
--- src/lib.rt:295:17
 mul-values : tie.Need-mul-values Inv-loop μ-loop
 mul-values c = search needs
 
--- src/lib.rt:295:17
 array-write-values : tie.Need-array-write-values Inv-loop μ-loop
 array-write-values c = search needs
 
--- src/lib.rt:297:17
 add-j : tie.Need-add-j Inv-loop μ-loop
 add-j c = search needs
 
--- src/lib.rt:291:5
 loop-less : tie.Need-loop-less Inv-loop μ-loop
 loop-less c = search needs
 
--- src/lib.rt:291:5
 loop-again : tie.Need-loop-again Inv-loop μ-loop
 loop-again c = (search needs, search read-place, search read-more)
 
--- src/lib.rt:299:28
 enum-known-f : tie.Need-enum-known-f Inv-loop μ-loop
 enum-known-f c = search needs
 
--- src/lib.rt:300:17
 returns : tie.Need-returns Inv-loop μ-loop
 returns c = search read-refused
 
--- src/lib.rt:308:9
 returns-2 : tie.Need-returns-2 Inv-loop μ-loop
 returns-2 c = search bytes-left
 
--- src/lib.rt:282:1
 returns-3 : tie.Need-returns-3 Inv-loop μ-loop
 returns-3 c = search all-read
 

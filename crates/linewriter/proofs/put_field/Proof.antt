@@ -1,23 +1,34 @@
-use Rattle.decimal.proofs.Wrote.{wrote-then}
+-- A field of a line: its mark, then its value.
+use Rattle.linewriter.proofs.Fields.{mark-long, field-written}
 use borrow.Author.Needs.{needs}
 use Rattle.linewriter.proofs.put_field.Statement.{statement}
 use Rattle.linewriter.proofs.put_field.Tie as tie
 
--- src/lib.rt:33:9
+array-share-prefix-mark : tie.Need-array-share-prefix-mark
+array-share-prefix-mark c = search needs
+
+slice-aggregate-put-bytes : tie.Need-slice-aggregate-put-bytes
+slice-aggregate-put-bytes c = search mark-long
+
 put-bytes-requires : tie.Need-put-bytes-requires
 put-bytes-requires c κs = search needs
 
--- src/lib.rt:34:5
-put-natural-requires : tie.Need-put-natural-requires
-put-natural-requires c κs = search needs
+put-number-requires : tie.Need-put-number-requires
+put-number-requires c κs = search needs
 
--- src/lib.rt:30:1
 same-length : tie.Need-same-length
 same-length c = search needs
 
--- src/lib.rt:30:1
 returns : tie.Need-returns
-returns c = search (needs, wrote-then)
+returns c = search (needs, field-written)
 
 pub put-field-spec : {M : Type 1} → statement M
-put-field-spec = tie.close (tie.spec put-bytes-requires put-natural-requires same-length returns)
+put-field-spec =
+    tie.close
+    (tie.spec
+    array-share-prefix-mark
+    slice-aggregate-put-bytes
+    put-bytes-requires
+    put-number-requires
+    same-length
+    returns)

@@ -13,47 +13,36 @@ Inv-loop macs spots bs₀ i₀ bs i = (i ≤ 8) × (length bs ≡ 8) × (take i 
 abbrev μ-loop : tie.MeasureT-loop
 μ-loop macs spots bs₀ i₀ bs i = 8 - i
 
--- src/lib.rt:58:5
 loop-holds : tie.Need-loop-holds Inv-loop μ-loop
 loop-holds c = (search needs, search needs, search needs)
 
--- src/lib.rt:59:17
 mul-m : tie.Need-mul-m Inv-loop μ-loop
 mul-m c = search needs
 
--- src/lib.rt:59:17
 array-copy-out-m : tie.Need-array-copy-out-m Inv-loop μ-loop
 array-copy-out-m c = search needs
 
--- src/lib.rt:60:17
 mul-p : tie.Need-mul-p Inv-loop μ-loop
 mul-p c = search needs
 
--- src/lib.rt:60:17
 array-copy-out-p : tie.Need-array-copy-out-p Inv-loop μ-loop
 array-copy-out-p c = search needs
 
--- src/lib.rt:61:9
 mul-bs : tie.Need-mul-bs Inv-loop μ-loop
 mul-bs c = search needs
 
--- src/lib.rt:61:9
 array-set-from-bs : tie.Need-array-set-from-bs Inv-loop μ-loop
 array-set-from-bs c = search needs
 
--- src/lib.rt:67:9
 add-i : tie.Need-add-i Inv-loop μ-loop
 add-i c = search needs
 
--- src/lib.rt:58:5
 loop-less : tie.Need-loop-less Inv-loop μ-loop
 loop-less c = search needs
 
--- src/lib.rt:58:5
 loop-again : tie.Need-loop-again Inv-loop μ-loop
 loop-again c = (search needs, search needs, search (needs, one-stored))
 
--- src/lib.rt:48:1
 returns : tie.Need-returns Inv-loop μ-loop
 returns c = search (needs, all-stored)
 

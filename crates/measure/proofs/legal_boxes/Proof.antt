@@ -11,31 +11,24 @@ Inv-loop die fixes k bs n i₀ i = (i ≤ n) × Left die (take k fixes) bs n i
 abbrev μ-loop : tie.MeasureT-loop
 μ-loop die fixes k bs n i₀ i = n - i
 
--- src/lib.rt:93:5
 loop-holds : tie.Need-loop-holds Inv-loop μ-loop
 loop-holds c = (search needs, search needs)
 
--- src/lib.rt:94:13
 legal-box-requires : tie.Need-legal-box-requires Inv-loop μ-loop
 legal-box-requires c κs = search needs
 
--- src/lib.rt:95:13
 returns : tie.Need-returns Inv-loop μ-loop
 returns c = search (needs, one-illegal)
 
--- src/lib.rt:97:9
 add-i : tie.Need-add-i Inv-loop μ-loop
 add-i c = search needs
 
--- src/lib.rt:93:5
 loop-less : tie.Need-loop-less Inv-loop μ-loop
 loop-less c = search needs
 
--- src/lib.rt:93:5
 loop-again : tie.Need-loop-again Inv-loop μ-loop
 loop-again c = (search needs, search (needs, one-legal))
 
--- src/lib.rt:88:1
 returns-2 : tie.Need-returns-2 Inv-loop μ-loop
 returns-2 c = search all-tested
 

@@ -10,47 +10,36 @@ Inv-loop t pins spots nets total₀ from₀ j₀ total from j = (j ≤ t) × Sum
 abbrev μ-loop : tie.MeasureT-loop
 μ-loop t pins spots nets total₀ from₀ j₀ total from j = t - j
 
--- src/lib.rt:197:5
 loop-holds : tie.Need-loop-holds Inv-loop μ-loop
 loop-holds c = (search needs, search none-summed)
 
--- src/lib.rt:198:19
 mul-net : tie.Need-mul-net Inv-loop μ-loop
 mul-net c = search needs
 
--- src/lib.rt:198:19
 array-copy-out-net : tie.Need-array-copy-out-net Inv-loop μ-loop
 array-copy-out-net c = search few-nets
 
--- src/lib.rt:199:18
 add-to : tie.Need-add-to Inv-loop μ-loop
 add-to c = search pins-fit
 
--- src/lib.rt:200:31
 half-around-requires : tie.Need-half-around-requires Inv-loop μ-loop
 half-around-requires c κs = (search pins-placed, search some-pins, search few-pins)
 
--- src/lib.rt:200:18
 mul-total : tie.Need-mul-total Inv-loop μ-loop
 mul-total c = search product-fits
 
--- src/lib.rt:200:9
 add-total : tie.Need-add-total Inv-loop μ-loop
 add-total c = search sum-fits
 
--- src/lib.rt:202:9
 add-j : tie.Need-add-j Inv-loop μ-loop
 add-j c = search needs
 
--- src/lib.rt:197:5
 loop-less : tie.Need-loop-less Inv-loop μ-loop
 loop-less c = search needs
 
--- src/lib.rt:197:5
 loop-again : tie.Need-loop-again Inv-loop μ-loop
 loop-again c = (search needs, search one-summed)
 
--- src/lib.rt:190:1
 returns : tie.Need-returns Inv-loop μ-loop
 returns c = search all-summed
 

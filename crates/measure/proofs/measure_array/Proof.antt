@@ -3,27 +3,21 @@ use borrow.Author.Needs.{needs}
 use Rattle.measure.proofs.measure_array.Statement.{statement}
 use Rattle.measure.proofs.measure_array.Tie as tie
 
--- src/lib.rt:252:9
 test-chip-requires : tie.Need-test-chip-requires
 test-chip-requires c κs = search needs
 
--- src/lib.rt:254:25
 enum-known-tested : tie.Need-enum-known-tested
 enum-known-tested c = search needs
 
--- src/lib.rt:255:27
 enum-told : tie.Need-enum-told
 enum-told c = search needs
 
--- src/lib.rt:255:27
 measure-passed-requires : tie.Need-measure-passed-requires
 measure-passed-requires c κs = search test-passed
 
--- src/lib.rt:249:1
 returns : tie.Need-returns
 returns c = search test-refused
 
--- src/lib.rt:249:1
 returns-2 : tie.Need-returns-2
 returns-2 c = search passed-measured
 

@@ -3,23 +3,18 @@ use borrow.Author.Needs.{needs}
 use Rattle.measure.proofs.origin_of.Statement.{statement}
 use Rattle.measure.proofs.origin_of.Tie as tie
 
--- src/lib.rt:112:9
 returns : tie.Need-returns
 returns c = search pad-origin
 
--- src/lib.rt:114:11
 sub-result : tie.Need-sub-result
 sub-result c = search needs
 
--- src/lib.rt:114:5
 mul-result : tie.Need-mul-result
 mul-result c = search needs
 
--- src/lib.rt:114:5
 array-copy-out-result : tie.Need-array-copy-out-result
 array-copy-out-result c = search needs
 
--- src/lib.rt:107:1
 returns-2 : tie.Need-returns-2
 returns-2 c = search macro-origin
 

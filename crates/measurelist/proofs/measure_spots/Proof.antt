@@ -3,19 +3,15 @@ use borrow.Author.Needs.{needs}
 use Rattle.measurelist.proofs.measure_spots.Statement.{statement}
 use Rattle.measurelist.proofs.measure_spots.Tie as tie
 
--- src/lib.rt:72:9
 measure-array-requires : tie.Need-measure-array-requires
 measure-array-requires c κs = search needs
 
--- src/lib.rt:72:9
 returns : tie.Need-returns
 returns c = search needs
 
--- src/lib.rt:74:5
 measure-first-requires : tie.Need-measure-first-requires
 measure-first-requires c κs = search needs
 
--- src/lib.rt:68:1
 returns-2 : tie.Need-returns-2
 returns-2 c = search (needs, first-measured)
 

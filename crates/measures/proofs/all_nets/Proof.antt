@@ -9,43 +9,33 @@ Inv-loop c net pad pins₀ i₀ pins i = i ≤ 65
 abbrev μ-loop : tie.MeasureT-loop
 μ-loop c net pad pins₀ i₀ pins i = 65 - i
 
--- src/main.rt:308:15
 element-copy-out-net : tie.Need-element-copy-out-net Inv-loop μ-loop
 element-copy-out-net c = search needs
 
--- src/main.rt:309:15
 element-copy-out-pin : tie.Need-element-copy-out-pin Inv-loop μ-loop
 element-copy-out-pin c = search needs
 
--- src/main.rt:310:15
 element-copy-out-pad : tie.Need-element-copy-out-pad Inv-loop μ-loop
 element-copy-out-pad c = search needs
 
--- src/main.rt:313:5
 loop-holds : tie.Need-loop-holds Inv-loop μ-loop
 loop-holds c = search needs
 
--- src/main.rt:314:9
 mul-pins : tie.Need-mul-pins Inv-loop μ-loop
 mul-pins c = search needs
 
--- src/main.rt:314:9
 array-set-from-pins : tie.Need-array-set-from-pins Inv-loop μ-loop
 array-set-from-pins c = search needs
 
--- src/main.rt:315:9
 add-i : tie.Need-add-i Inv-loop μ-loop
 add-i c = search needs
 
--- src/main.rt:313:5
 loop-less : tie.Need-loop-less Inv-loop μ-loop
 loop-less c = search needs
 
--- src/main.rt:313:5
 loop-again : tie.Need-loop-again Inv-loop μ-loop
 loop-again c = search needs
 
--- src/main.rt:306:1
 returns : tie.Need-returns Inv-loop μ-loop
 returns c = search needs
 

@@ -2,11 +2,9 @@ use Rattle.model.proofs.Tests.{below-least, above-least}
 use Rattle.model.proofs.within.Statement.{statement}
 use Rattle.model.proofs.within.Tie as tie
 
--- src/lib.rt:45:9
 returns : tie.Need-returns
 returns c = search below-least
 
--- src/lib.rt:41:1
 returns-2 : tie.Need-returns-2
 returns-2 c = search above-least
 

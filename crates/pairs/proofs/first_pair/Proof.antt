@@ -2,11 +2,9 @@ use Rattle.pairs.proofs.Cursors.{first-macs, first-fixes}
 use Rattle.pairs.proofs.first_pair.Statement.{statement}
 use Rattle.pairs.proofs.first_pair.Tie as tie
 
--- src/lib.rt:16:9
 returns : tie.Need-returns
 returns c = search first-macs
 
--- src/lib.rt:12:1
 returns-2 : tie.Need-returns-2
 returns-2 c = search first-fixes
 

@@ -3,63 +3,48 @@ use borrow.Author.Needs.{needs}
 use Rattle.pairs.proofs.next_pair.Statement.{statement}
 use Rattle.pairs.proofs.next_pair.Tie as tie
 
--- src/lib.rt:52:9
 on-pair-requires : tie.Need-on-pair-requires
 on-pair-requires c κs = search needs
 
--- src/lib.rt:53:9
 returns : tie.Need-returns
 returns c = search stays-off
 
--- src/lib.rt:59:12
 add-if3 : tie.Need-add-if3
 add-if3 c = search (needs, fix-column-fits)
 
--- src/lib.rt:60:40
 add-t11 : tie.Need-add-t11
 add-t11 c = search needs
 
--- src/lib.rt:60:13
 returns-2 : tie.Need-returns-2
 returns-2 c = search to-fix
 
--- src/lib.rt:64:16
 add-t9 : tie.Need-add-t9
 add-t9 c = search (needs, fix-row-fits)
 
--- src/lib.rt:62:9
 returns-3 : tie.Need-returns-3
 returns-3 c = search to-fix-row
 
--- src/lib.rt:68:8
 add-if4 : tie.Need-add-if4
 add-if4 c = search (needs, mac-column-fits)
 
--- src/lib.rt:69:36
 add-t13 : tie.Need-add-t13
 add-t13 c = search needs
 
--- src/lib.rt:69:9
 returns-4 : tie.Need-returns-4
 returns-4 c = search to-mac
 
--- src/lib.rt:71:8
 add-if5 : tie.Need-add-if5
 add-if5 c = search (needs, mac-row-fits)
 
--- src/lib.rt:74:16
 add-t14 : tie.Need-add-t14
 add-t14 c = search needs
 
--- src/lib.rt:75:16
 add-t15 : tie.Need-add-t15
 add-t15 c = search needs
 
--- src/lib.rt:72:9
 returns-5 : tie.Need-returns-5
 returns-5 c = search to-mac-row
 
--- src/lib.rt:49:1
 returns-6 : tie.Need-returns-6
 returns-6 c = search to-fixes
 

@@ -4,43 +4,33 @@ use borrow.Author.Needs.{needs}
 use Rattle.recordreader.proofs.add_at.Statement.{statement}
 use Rattle.recordreader.proofs.add_at.Tie as tie
 
--- src/lib.rt:150:13
 array-read-m : tie.Need-array-read-m
 array-read-m c = search needs
 
--- src/lib.rt:152:13
 add-if1 : tie.Need-add-if1
 add-if1 c = search needs
 
--- src/lib.rt:153:9
 with-fault-requires : tie.Need-with-fault-requires
 with-fault-requires c κs = search needs
 
--- src/lib.rt:153:9
 returns : tie.Need-returns
 returns c = search (needs, out-of-turn)
 
--- src/lib.rt:156:26
 array-read-t9 : tie.Need-array-read-t9
 array-read-t9 c = search needs
 
--- src/lib.rt:156:35
 array-read-t16 : tie.Need-array-read-t16
 array-read-t16 c = search needs
 
--- src/lib.rt:156:5
 mul-spots : tie.Need-mul-spots
 mul-spots c = search needs
 
--- src/lib.rt:156:5
 array-set-from-spots : tie.Need-array-set-from-spots
 array-set-from-spots c = search at-fits
 
--- src/lib.rt:163:20
 add-t10 : tie.Need-add-t10
 add-t10 c = search needs
 
--- src/lib.rt:145:1
 returns-2 : tie.Need-returns-2
 returns-2 c = search (needs, at-added)
 

@@ -2,7 +2,6 @@ use Rattle.recordreader.proofs.Added.{done-added}
 use Rattle.recordreader.proofs.add_done.Statement.{statement}
 use Rattle.recordreader.proofs.add_done.Tie as tie
 
--- src/lib.rt:170:1
 returns : tie.Need-returns
 returns c = search done-added
 

@@ -4,135 +4,102 @@ use borrow.Author.Needs.{needs}
 use Rattle.recordreader.proofs.add_item.Statement.{statement}
 use Rattle.recordreader.proofs.add_item.Tie as tie
 
--- src/lib.rt:194:24
 enum-told : tie.Need-enum-told
 enum-told c = search needs
 
--- src/lib.rt:194:24
 add-least-requires : tie.Need-add-least-requires
 add-least-requires c κs = search needs
 
--- src/lib.rt:195:23
 enum-told-2 : tie.Need-enum-told-2
 enum-told-2 c = search needs
 
--- src/lib.rt:195:23
 add-none-requires : tie.Need-add-none-requires
 add-none-requires c κs = search needs
 
--- src/lib.rt:196:21
 enum-told-3 : tie.Need-enum-told-3
 enum-told-3 c = search needs
 
--- src/lib.rt:196:21
 add-at-requires : tie.Need-add-at-requires
 add-at-requires c κs = (search needs, search entered-as)
 
--- src/lib.rt:197:23
 enum-told-4 : tie.Need-enum-told-4
 enum-told-4 c = search needs
 
--- src/lib.rt:197:23
 add-done-requires : tie.Need-add-done-requires
 add-done-requires c κs = search needs
 
--- src/lib.rt:198:26
 enum-told-5 : tie.Need-enum-told-5
 enum-told-5 c = search needs
 
--- src/lib.rt:198:26
 with-fault-requires : tie.Need-with-fault-requires
 with-fault-requires c κs = search needs
 
--- src/lib.rt:199:22
 enum-told-6 : tie.Need-enum-told-6
 enum-told-6 c = search needs
 
--- src/lib.rt:199:22
 with-fault-requires-2 : tie.Need-with-fault-requires-2
 with-fault-requires-2 c κs = search needs
 
--- src/lib.rt:200:22
 enum-told-7 : tie.Need-enum-told-7
 enum-told-7 c = search needs
 
--- src/lib.rt:200:22
 with-fault-requires-3 : tie.Need-with-fault-requires-3
 with-fault-requires-3 c κs = search needs
 
--- src/lib.rt:201:22
 enum-told-8 : tie.Need-enum-told-8
 enum-told-8 c = search needs
 
--- src/lib.rt:201:22
 with-fault-requires-4 : tie.Need-with-fault-requires-4
 with-fault-requires-4 c κs = search needs
 
--- src/lib.rt:202:22
 enum-told-9 : tie.Need-enum-told-9
 enum-told-9 c = search needs
 
--- src/lib.rt:202:22
 with-fault-requires-5 : tie.Need-with-fault-requires-5
 with-fault-requires-5 c κs = search needs
 
--- src/lib.rt:203:22
 enum-told-10 : tie.Need-enum-told-10
 enum-told-10 c = search needs
 
--- src/lib.rt:203:22
 with-fault-requires-6 : tie.Need-with-fault-requires-6
 with-fault-requires-6 c κs = search needs
 
--- src/lib.rt:204:22
 enum-told-11 : tie.Need-enum-told-11
 enum-told-11 c = search needs
 
--- src/lib.rt:204:22
 with-fault-requires-7 : tie.Need-with-fault-requires-7
 with-fault-requires-7 c κs = search needs
 
--- src/lib.rt:188:1
 returns : tie.Need-returns
 returns c = search taken-as
 
--- src/lib.rt:188:1
 returns-2 : tie.Need-returns-2
 returns-2 c = search taken-as
 
--- src/lib.rt:188:1
 returns-3 : tie.Need-returns-3
 returns-3 c = search taken-as
 
--- src/lib.rt:188:1
 returns-4 : tie.Need-returns-4
 returns-4 c = search taken-as
 
--- src/lib.rt:188:1
 returns-5 : tie.Need-returns-5
 returns-5 c = search not-taken
 
--- src/lib.rt:188:1
 returns-6 : tie.Need-returns-6
 returns-6 c = search not-taken
 
--- src/lib.rt:188:1
 returns-7 : tie.Need-returns-7
 returns-7 c = search not-taken
 
--- src/lib.rt:188:1
 returns-8 : tie.Need-returns-8
 returns-8 c = search not-taken
 
--- src/lib.rt:188:1
 returns-9 : tie.Need-returns-9
 returns-9 c = search not-taken
 
--- src/lib.rt:188:1
 returns-10 : tie.Need-returns-10
 returns-10 c = search not-taken
 
--- src/lib.rt:188:1
 returns-11 : tie.Need-returns-11
 returns-11 c = search not-taken
 

@@ -3,23 +3,18 @@ use borrow.Author.Needs.{needs}
 use Rattle.recordreader.proofs.finish.Statement.{statement}
 use Rattle.recordreader.proofs.finish.Tie as tie
 
--- src/lib.rt:294:8
 rank-of-requires : tie.Need-rank-of-requires
 rank-of-requires c κs = search needs
 
--- src/lib.rt:295:9
 refused-requires : tie.Need-refused-requires
 refused-requires c κs = search needs
 
--- src/lib.rt:295:9
 returns : tie.Need-returns
 returns c = search (refuses, not-complete)
 
--- src/lib.rt:299:17
 record-of-requires : tie.Need-record-of-requires
 record-of-requires c κs = search needs
 
--- src/lib.rt:290:1
 returns-2 : tie.Need-returns-2
 returns-2 c = search complete
 

@@ -3,31 +3,24 @@ use borrow.Author.Needs.{needs}
 use Rattle.recordreader.proofs.next_line.Statement.{statement}
 use Rattle.recordreader.proofs.next_line.Tie as tie
 
--- src/lib.rt:253:9
 with-fault-requires : tie.Need-with-fault-requires
 with-fault-requires c κs = search needs
 
--- src/lib.rt:253:9
 returns : tie.Need-returns
 returns c = search no-feed
 
--- src/lib.rt:255:15
 sub-take-line : tie.Need-sub-take-line
 sub-take-line c = search needs
 
--- src/lib.rt:255:15
 part-take-line-start : tie.Need-part-take-line-start
 part-take-line-start c = search needs
 
--- src/lib.rt:255:15
 part-take-line-end : tie.Need-part-take-line-end
 part-take-line-end c = search needs
 
--- src/lib.rt:255:5
 take-line-requires : tie.Need-take-line-requires
 take-line-requires c κs = search needs
 
--- src/lib.rt:246:1
 returns-2 : tie.Need-returns-2
 returns-2 c = search has-feed
 

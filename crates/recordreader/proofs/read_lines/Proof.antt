@@ -14,59 +14,45 @@ Inv-loop text s₀ a₀ line₀ s a line = (a ≤ length text + 1) × (line ≤ 
 abbrev μ-loop : tie.MeasureT-loop
 μ-loop text s₀ a₀ line₀ s a line = length text + 1 - a
 
--- src/lib.rt:308:9
 blank-spots-requires : tie.Need-blank-spots-requires Inv-loop μ-loop
 blank-spots-requires c κs = search needs
 
--- src/lib.rt:318:5
 loop-holds : tie.Need-loop-holds Inv-loop μ-loop
 loop-holds c = (search needs, search needs, search empty-sound, search text-left)
 
--- src/lib.rt:319:13
 line-end-requires : tie.Need-line-end-requires Inv-loop μ-loop
 line-end-requires c κs = search needs
 
--- src/lib.rt:320:13
 next-line-requires : tie.Need-next-line-requires Inv-loop μ-loop
 next-line-requires c κs = search needs
 
--- src/lib.rt:325:21
 enum-told : tie.Need-enum-told Inv-loop μ-loop
 enum-told c = search needs
 
--- src/lib.rt:325:21
 add-a : tie.Need-add-a Inv-loop μ-loop
 add-a c = search needs
 
--- src/lib.rt:326:17
 add-line : tie.Need-add-line Inv-loop μ-loop
 add-line c = search needs
 
--- src/lib.rt:318:5
 loop-less : tie.Need-loop-less Inv-loop μ-loop
 loop-less c = search needs
 
--- src/lib.rt:318:5
 loop-again : tie.Need-loop-again Inv-loop μ-loop
 loop-again c = (search needs, search needs, search needs, search line-read)
 
--- src/lib.rt:328:23
 enum-known-fault : tie.Need-enum-known-fault Inv-loop μ-loop
 enum-known-fault c = search needs
 
--- src/lib.rt:329:17
 refused-requires : tie.Need-refused-requires Inv-loop μ-loop
 refused-requires c κs = search needs
 
--- src/lib.rt:329:17
 returns : tie.Need-returns Inv-loop μ-loop
 returns c = search (refuses, line-fails)
 
--- src/lib.rt:333:5
 finish-requires : tie.Need-finish-requires Inv-loop μ-loop
 finish-requires c κs = search needs
 
--- src/lib.rt:304:1
 returns-2 : tie.Need-returns-2 Inv-loop μ-loop
 returns-2 c = search all-read
 

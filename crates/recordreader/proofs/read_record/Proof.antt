@@ -1,21 +1,18 @@
-use Rattle.recordreader.proofs.Lines.{refuses, too-long}
+use Rattle.record.proofs.ReadText.{too-long}
+use Rattle.recordreader.proofs.Lines.{refuses}
 use borrow.Author.Needs.{needs}
 use Rattle.recordreader.proofs.read_record.Statement.{statement}
 use Rattle.recordreader.proofs.read_record.Tie as tie
 
--- src/lib.rt:342:9
 refused-requires : tie.Need-refused-requires
 refused-requires c κs = search needs
 
--- src/lib.rt:342:9
 returns : tie.Need-returns
 returns c = let ok = refuses _ 1 0 _ (too-long _ (c .before .if1 .taken)) (c .refused .ensures) in (ok .meant, ok .blank)
 
--- src/lib.rt:344:5
 read-lines-requires : tie.Need-read-lines-requires
 read-lines-requires c κs = search needs
 
--- src/lib.rt:337:1
 returns-2 : tie.Need-returns-2
 returns-2 c = search needs
 

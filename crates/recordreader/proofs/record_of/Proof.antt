@@ -2,11 +2,9 @@ use Rattle.recordreader.proofs.Lines.{least-held, none-held}
 use Rattle.recordreader.proofs.record_of.Statement.{statement}
 use Rattle.recordreader.proofs.record_of.Tie as tie
 
--- src/lib.rt:278:9
 returns : tie.Need-returns
 returns c = search least-held
 
--- src/lib.rt:273:1
 returns-2 : tie.Need-returns-2
 returns-2 c = search none-held
 

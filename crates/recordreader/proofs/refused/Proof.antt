@@ -2,11 +2,9 @@ use borrow.Author.Needs.{needs}
 use Rattle.recordreader.proofs.refused.Statement.{statement}
 use Rattle.recordreader.proofs.refused.Tie as tie
 
--- src/lib.rt:262:9
 blank-spots-requires : tie.Need-blank-spots-requires
 blank-spots-requires c κs = search needs
 
--- src/lib.rt:259:1
 returns : tie.Need-returns
 returns c = rw (c .blank-spots .ensures)
 

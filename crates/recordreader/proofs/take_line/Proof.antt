@@ -4,47 +4,36 @@ use borrow.Author.Needs.{needs}
 use Rattle.recordreader.proofs.take_line.Statement.{statement}
 use Rattle.recordreader.proofs.take_line.Tie as tie
 
--- src/lib.rt:228:9
 bytes-before-requires : tie.Need-bytes-before-requires
 bytes-before-requires c κs = search needs
 
--- src/lib.rt:229:29
 slice-aggregate-record-word : tie.Need-slice-aggregate-record-word
 slice-aggregate-record-word c = search word-long
 
--- src/lib.rt:229:9
 record-word-requires : tie.Need-record-word-requires
 record-word-requires c κs = search needs
 
--- src/lib.rt:230:9
 entry-fault-requires : tie.Need-entry-fault-requires
 entry-fault-requires c κs = search needs
 
--- src/lib.rt:232:9
 with-fault-requires : tie.Need-with-fault-requires
 with-fault-requires c κs = search needs
 
--- src/lib.rt:232:9
 returns : tie.Need-returns
 returns c = search entry-fails
 
--- src/lib.rt:234:17
 sub-take-fields : tie.Need-sub-take-fields
 sub-take-fields c = search word-end
 
--- src/lib.rt:234:17
 part-take-fields-start : tie.Need-part-take-fields-start
 part-take-fields-start c = search (needs, word-end)
 
--- src/lib.rt:234:17
 part-take-fields-end : tie.Need-part-take-fields-end
 part-take-fields-end c = search needs
 
--- src/lib.rt:234:5
 take-fields-requires : tie.Need-take-fields-requires
 take-fields-requires c κs = search needs
 
--- src/lib.rt:224:1
 returns-2 : tie.Need-returns-2
 returns-2 c = search entry-passed
 

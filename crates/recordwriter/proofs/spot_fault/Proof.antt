@@ -3,27 +3,21 @@ use borrow.Author.Needs.{needs}
 use Rattle.recordwriter.proofs.spot_fault.Statement.{statement}
 use Rattle.recordwriter.proofs.spot_fault.Tie as tie
 
--- src/lib.rt:21:9
 returns : tie.Need-returns
 returns c = search no-room
 
--- src/lib.rt:23:13
 mul-p : tie.Need-mul-p
 mul-p c = search needs
 
--- src/lib.rt:23:13
 array-copy-out-p : tie.Need-array-copy-out-p
 array-copy-out-p c = search needs
 
--- src/lib.rt:25:9
 returns-2 : tie.Need-returns-2
 returns-2 c = search x-over
 
--- src/lib.rt:28:9
 returns-3 : tie.Need-returns-3
 returns-3 c = search y-over
 
--- src/lib.rt:17:1
 returns-4 : tie.Need-returns-4
 returns-4 c = search no-fault
 

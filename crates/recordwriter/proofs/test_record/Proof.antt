@@ -3,23 +3,18 @@ use borrow.Author.Needs.{needs}
 use Rattle.recordwriter.proofs.test_record.Statement.{statement}
 use Rattle.recordwriter.proofs.test_record.Tie as tie
 
--- src/lib.rt:123:27
 slice-aggregate-put-record : tie.Need-slice-aggregate-put-record
 slice-aggregate-put-record c = search needs
 
--- src/lib.rt:123:16
 put-record-requires : tie.Need-put-record-requires
 put-record-requires c κs = search needs
 
--- src/lib.rt:124:9
 returns : tie.Need-returns
 returns c = search (needs, too-long)
 
--- src/lib.rt:126:5
 test-lines-requires : tie.Need-test-lines-requires
 test-lines-requires c κs = search needs
 
--- src/lib.rt:119:1
 returns-2 : tie.Need-returns-2
 returns-2 c = search (needs, not-long)
 

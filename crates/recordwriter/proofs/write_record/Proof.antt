@@ -4,31 +4,24 @@ use borrow.Author.Needs.{needs}
 use Rattle.recordwriter.proofs.write_record.Statement.{statement}
 use Rattle.recordwriter.proofs.write_record.Tie as tie
 
--- src/lib.rt:146:9
 test-record-requires : tie.Need-test-record-requires
 test-record-requires c κs = search needs
 
--- src/lib.rt:148:25
 enum-known-tested : tie.Need-enum-known-tested
 enum-known-tested c = search needs
 
--- src/lib.rt:149:43
 enum-told : tie.Need-enum-told
 enum-told c = search needs
 
--- src/lib.rt:149:27
 write-passed-requires : tie.Need-write-passed-requires
 write-passed-requires c κs = search (needs, passed-short)
 
--- src/lib.rt:143:1
 returns : tie.Need-returns
 returns c = search (needs, not-passed)
 
--- src/lib.rt:143:1
 same-length : tie.Need-same-length
 same-length c = search needs
 
--- src/lib.rt:143:1
 returns-2 : tie.Need-returns-2
 returns-2 c = search (needs, passed)
 

@@ -1,4 +1,3 @@
-use borrow.Author.Needs.{needs}
 use Rattle.axis.proofs.HeldAxes.{shaped, frame-no, frame-n, frame-p, frame-t, sizes-not, pairs-not, held-test}
 use borrow.Author.Needs.{needs}
 use Rattle.axis.proofs.accept.is_held.Statement.{statement}
@@ -10,8 +9,11 @@ frame-fine-requires c κs = search needs
 returns : tie.Need-returns
 returns c = search (shaped, frame-no)
 
-sizes-fine-requires : tie.Need-sizes-fine-requires
-sizes-fine-requires c κs = search frame-n
+slice-aggregate-first-above : tie.Need-slice-aggregate-first-above
+slice-aggregate-first-above c = search needs
+
+first-above-requires : tie.Need-first-above-requires
+first-above-requires c κs = search (shaped, frame-n)
 
 returns-2 : tie.Need-returns-2
 returns-2 c = search (shaped, sizes-not)
@@ -34,7 +36,8 @@ is-held-spec =
     (tie.spec
     frame-fine-requires
     returns
-    sizes-fine-requires
+    slice-aggregate-first-above
+    first-above-requires
     returns-2
     pairs-fine-requires
     returns-3

@@ -3,17 +3,27 @@ use borrow.Author.Needs.{needs}
 use Rattle.axis.proofs.certify.keeps_all.Statement.{statement}
 use Rattle.axis.proofs.certify.keeps_all.Tie as tie
 
-all-low-requires : tie.Need-all-low-requires
-all-low-requires c κs = search needs
+slice-aggregate-first-above : tie.Need-slice-aggregate-first-above
+slice-aggregate-first-above c = search needs
+
+first-above-requires : tie.Need-first-above-requires
+first-above-requires c κs = search needs
 
 returns : tie.Need-returns
 returns c = search shows-no
 
 bounds-hold-requires : tie.Need-bounds-hold-requires
-bounds-hold-requires c κs = (search needs, search low-small)
+bounds-hold-requires c κs = (search needs, search (needs, low-small))
 
 returns-2 : tie.Need-returns-2
-returns-2 c = search kept-by
+returns-2 c = search (needs, kept-by)
 
 pub keeps-all-spec : {M : Type 1} → statement M
-keeps-all-spec = tie.close (tie.spec all-low-requires returns bounds-hold-requires returns-2)
+keeps-all-spec =
+    tie.close
+    (tie.spec
+    slice-aggregate-first-above
+    first-above-requires
+    returns
+    bounds-hold-requires
+    returns-2)

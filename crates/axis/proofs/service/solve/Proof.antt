@@ -1,5 +1,6 @@
-use borrow.Author.Needs.{needs}
-use Rattle.axis.proofs.Served.{malformed, is-held, held-few, all-fit}
+use Rattle.axis.proofs.FirstAbove.{all-fit}
+use Rattle.axis.proofs.HeldAxes.{shaped}
+use Rattle.axis.proofs.Served.{malformed, is-held, held-few}
 use borrow.Author.Needs.{needs}
 use Rattle.axis.proofs.service.solve.Statement.{statement}
 use Rattle.axis.proofs.service.solve.Tie as tie
@@ -10,8 +11,11 @@ is-held-requires c κs = search needs
 returns : tie.Need-returns
 returns c = search malformed
 
+slice-aggregate-first-above : tie.Need-slice-aggregate-first-above
+slice-aggregate-first-above c = search needs
+
 first-above-requires : tie.Need-first-above-requires
-first-above-requires c κs = search held-few
+first-above-requires c κs = search (shaped, held-few)
 
 too-large-requires : tie.Need-too-large-requires
 too-large-requires c κs = (search is-held, (search needs, search needs))
@@ -31,6 +35,7 @@ solve-spec =
     (tie.spec
     is-held-requires
     returns
+    slice-aggregate-first-above
     first-above-requires
     too-large-requires
     returns-2

@@ -3,19 +3,15 @@ use borrow.Author.Needs.{needs}
 use Rattle.cases.proofs.vectors.is_text.Statement.{statement}
 use Rattle.cases.proofs.vectors.is_text.Tie as tie
 
--- src/vectors.rt:179:9
 returns : tie.Need-returns
 returns c = search needs
 
--- src/vectors.rt:181:17
 slice-aggregate-same : tie.Need-slice-aggregate-same
 slice-aggregate-same c = search prefix-long
 
--- src/vectors.rt:181:5
 same-requires : tie.Need-same-requires
 same-requires c κs = search needs
 
--- src/vectors.rt:177:1
 returns-2 : tie.Need-returns-2
 returns-2 c = search needs
 

@@ -11,31 +11,24 @@ Inv-loop s times out₀ at a₀ i₀ out a i = (i ≤ times) × (length out ≡ 
 abbrev μ-loop : tie.MeasureT-loop
 μ-loop s times out₀ at a₀ i₀ out a i = times - i
 
--- src/vectors.rt:100:5
 loop-holds : tie.Need-loop-holds Inv-loop μ-loop
 loop-holds c = search needs
 
--- src/vectors.rt:101:9
 unescape-requires : tie.Need-unescape-requires Inv-loop μ-loop
 unescape-requires c κs = search needs
 
--- src/vectors.rt:102:9
 add-i : tie.Need-add-i Inv-loop μ-loop
 add-i c = search needs
 
--- src/vectors.rt:100:5
 loop-less : tie.Need-loop-less Inv-loop μ-loop
 loop-less c = search needs
 
--- src/vectors.rt:100:5
 loop-again : tie.Need-loop-again Inv-loop μ-loop
 loop-again c = search needs
 
--- src/vectors.rt:96:1
 same-length : tie.Need-same-length Inv-loop μ-loop
 same-length c = search needs
 
--- src/vectors.rt:96:1
 returns : tie.Need-returns Inv-loop μ-loop
 returns c = search needs
 

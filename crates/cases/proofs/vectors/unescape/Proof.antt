@@ -11,39 +11,30 @@ Inv-loop s out₀ at a₀ i₀ out a i = (i ≤ length s) × (length out ≡ len
 abbrev μ-loop : tie.MeasureT-loop
 μ-loop s out₀ at a₀ i₀ out a i = length s - i
 
--- src/vectors.rt:87:5
 loop-holds : tie.Need-loop-holds Inv-loop μ-loop
 loop-holds c = search needs
 
--- src/vectors.rt:88:13
 escape-size-requires : tie.Need-escape-size-requires Inv-loop μ-loop
 escape-size-requires c κs = search needs
 
--- src/vectors.rt:89:13
 escape-byte-requires : tie.Need-escape-byte-requires Inv-loop μ-loop
 escape-byte-requires c κs = search needs
 
--- src/vectors.rt:90:9
 put-requires : tie.Need-put-requires Inv-loop μ-loop
 put-requires c κs = search needs
 
--- src/vectors.rt:91:9
 add-i : tie.Need-add-i Inv-loop μ-loop
 add-i c = search needs
 
--- src/vectors.rt:87:5
 loop-less : tie.Need-loop-less Inv-loop μ-loop
 loop-less c = search needs
 
--- src/vectors.rt:87:5
 loop-again : tie.Need-loop-again Inv-loop μ-loop
 loop-again c = search needs
 
--- src/vectors.rt:83:1
 same-length : tie.Need-same-length Inv-loop μ-loop
 same-length c = search needs
 
--- src/vectors.rt:83:1
 returns : tie.Need-returns Inv-loop μ-loop
 returns c = search needs
 

@@ -11,55 +11,42 @@ Inv-loop s out₀ a₀ i₀ out a i = (i ≤ length s) × (length out ≡ length
 abbrev μ-loop : tie.MeasureT-loop
 μ-loop s out₀ a₀ i₀ out a i = length s - i
 
--- src/vectors.rt:129:5
 loop-holds : tie.Need-loop-holds Inv-loop μ-loop
 loop-holds c = search needs
 
--- src/vectors.rt:130:13
 index-of-requires : tie.Need-index-of-requires Inv-loop μ-loop
 index-of-requires c κs = search needs
 
--- src/vectors.rt:131:22
 sub-unescape : tie.Need-sub-unescape Inv-loop μ-loop
 sub-unescape c = search needs
 
--- src/vectors.rt:131:22
 part-unescape-start : tie.Need-part-unescape-start Inv-loop μ-loop
 part-unescape-start c = search needs
 
--- src/vectors.rt:131:22
 part-unescape-end : tie.Need-part-unescape-end Inv-loop μ-loop
 part-unescape-end c = search needs
 
--- src/vectors.rt:131:9
 unescape-requires : tie.Need-unescape-requires Inv-loop μ-loop
 unescape-requires c κs = search needs
 
--- src/vectors.rt:132:13
 index-of-requires-2 : tie.Need-index-of-requires-2 Inv-loop μ-loop
 index-of-requires-2 c κs = search needs
 
--- src/vectors.rt:133:9
 put-repeated-requires : tie.Need-put-repeated-requires Inv-loop μ-loop
 put-repeated-requires c κs = search needs
 
--- src/vectors.rt:134:9
 after-requires : tie.Need-after-requires Inv-loop μ-loop
 after-requires c κs = search needs
 
--- src/vectors.rt:129:5
 loop-less : tie.Need-loop-less Inv-loop μ-loop
 loop-less c = search needs
 
--- src/vectors.rt:129:5
 loop-again : tie.Need-loop-again Inv-loop μ-loop
 loop-again c = search needs
 
--- src/vectors.rt:125:1
 same-length : tie.Need-same-length Inv-loop μ-loop
 same-length c = search needs
 
--- src/vectors.rt:125:1
 returns : tie.Need-returns Inv-loop μ-loop
 returns c = search needs
 

@@ -12,39 +12,30 @@ Inv-loop nets on₀ j₀ on j = (j ≤ 32) × Copied heldNet nets on j
 abbrev μ-loop : tie.MeasureT-loop
 μ-loop nets on₀ j₀ on j = 32 - j
 
--- src/axes.rt:102:5
 loop-holds : tie.Need-loop-holds Inv-loop μ-loop
 loop-holds c = (search needs, search (needs, copied-none))
 
--- src/axes.rt:103:19
 mul-net : tie.Need-mul-net Inv-loop μ-loop
 mul-net c = search needs
 
--- src/axes.rt:103:19
 array-copy-out-net : tie.Need-array-copy-out-net Inv-loop μ-loop
 array-copy-out-net c = search needs
 
--- src/axes.rt:104:9
 mul-on : tie.Need-mul-on Inv-loop μ-loop
 mul-on c = search needs
 
--- src/axes.rt:104:9
 array-set-from-on : tie.Need-array-set-from-on Inv-loop μ-loop
 array-set-from-on c = search needs
 
--- src/axes.rt:108:9
 add-j : tie.Need-add-j Inv-loop μ-loop
 add-j c = search needs
 
--- src/axes.rt:102:5
 loop-less : tie.Need-loop-less Inv-loop μ-loop
 loop-less c = search needs
 
--- src/axes.rt:102:5
 loop-again : tie.Need-loop-again Inv-loop μ-loop
 loop-again c = (search needs, search (needs, net-more))
 
--- src/axes.rt:97:1
 returns : tie.Need-returns Inv-loop μ-loop
 returns c = search (needs, copied-all)
 

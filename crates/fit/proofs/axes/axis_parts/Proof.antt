@@ -3,27 +3,21 @@ use borrow.Author.Needs.{needs}
 use Rattle.fit.proofs.axes.axis_parts.Statement.{statement}
 use Rattle.fit.proofs.axes.axis_parts.Tie as tie
 
--- src/axes.rt:130:15
 die-side-requires : tie.Need-die-side-requires
 die-side-requires c κs = search needs
 
--- src/axes.rt:132:16
 mac-sides-requires : tie.Need-mac-sides-requires
 mac-sides-requires c κs = search needs
 
--- src/axes.rt:134:16
 pair-slots-requires : tie.Need-pair-slots-requires
 pair-slots-requires c κs = (search needs, search needs, search needs, search (needs, letter-each))
 
--- src/axes.rt:137:15
 axis-nets-requires : tie.Need-axis-nets-requires
 axis-nets-requires c κs = search needs
 
--- src/axes.rt:138:15
 axis-pins-requires : tie.Need-axis-pins-requires
 axis-pins-requires c κs = search needs
 
--- src/axes.rt:114:1
 returns : tie.Need-returns
 returns c = search (needs, axis-made)
 

@@ -3,23 +3,18 @@ use borrow.Author.Needs.{needs}
 use Rattle.fit.proofs.pairslots.asked_by.Statement.{statement}
 use Rattle.fit.proofs.pairslots.asked_by.Tie as tie
 
--- src/pairslots.rt:45:18
 letter-before-requires : tie.Need-letter-before-requires
 letter-before-requires c κs = search needs
 
--- src/pairslots.rt:46:9
 returns : tie.Need-returns
 returns c = search asks-before
 
--- src/pairslots.rt:48:18
 letter-after-requires : tie.Need-letter-after-requires
 letter-after-requires c κs = search needs
 
--- src/pairslots.rt:49:9
 returns-2 : tie.Need-returns-2
 returns-2 c = search asks-after
 
--- src/pairslots.rt:42:1
 returns-3 : tie.Need-returns-3
 returns-3 c = search asks-nothing
 

@@ -3,31 +3,24 @@ use borrow.Author.Needs.{needs}
 use Rattle.fit.proofs.pairslots.fix_pair.Statement.{statement}
 use Rattle.fit.proofs.pairslots.fix_pair.Tie as tie
 
--- src/pairslots.rt:86:26
 enum-told : tie.Need-enum-told
 enum-told c = search needs
 
--- src/pairslots.rt:95:19
 enum-told-2 : tie.Need-enum-told-2
 enum-told-2 c = search needs
 
--- src/pairslots.rt:95:19
 add-t7 : tie.Need-add-t7
 add-t7 c = search needs
 
--- src/pairslots.rt:98:27
 enum-told-3 : tie.Need-enum-told-3
 enum-told-3 c = search needs
 
--- src/pairslots.rt:81:1
 returns : tie.Need-returns
 returns c = search fix-before
 
--- src/pairslots.rt:81:1
 returns-2 : tie.Need-returns-2
 returns-2 c = search fix-after
 
--- src/pairslots.rt:81:1
 returns-3 : tie.Need-returns-3
 returns-3 c = search fix-nothing
 

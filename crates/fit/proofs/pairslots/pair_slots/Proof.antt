@@ -12,51 +12,39 @@ Inv-loop macs n fixes k letters d pairs₀ at₀ s₀ pairs at s = (s ≤ length
 abbrev μ-loop : tie.MeasureT-loop
 μ-loop macs n fixes k letters d pairs₀ at₀ s₀ pairs at s = length letters - s
 
--- src/pairslots.rt:141:9
 first-pair-requires : tie.Need-first-pair-requires Inv-loop μ-loop
 first-pair-requires c κs = search needs
 
--- src/pairslots.rt:143:5
 loop-holds : tie.Need-loop-holds Inv-loop μ-loop
 loop-holds c = (search needs, search (needs, none-written))
 
--- src/pairslots.rt:144:41
 shared-slice-read-asked-by : tie.Need-shared-slice-read-asked-by Inv-loop μ-loop
 shared-slice-read-asked-by c = search needs
 
--- src/pairslots.rt:144:32
 asked-by-requires : tie.Need-asked-by-requires Inv-loop μ-loop
 asked-by-requires c κs = search needs
 
--- src/pairslots.rt:144:20
 slot-at-requires : tie.Need-slot-at-requires Inv-loop μ-loop
 slot-at-requires c κs = search (needs, pair-reached)
 
--- src/pairslots.rt:144:9
 mul-pairs : tie.Need-mul-pairs Inv-loop μ-loop
 mul-pairs c = search (needs, slot-place)
 
--- src/pairslots.rt:144:9
 array-set-from-pairs : tie.Need-array-set-from-pairs Inv-loop μ-loop
 array-set-from-pairs c = search (needs, few-letters)
 
--- src/pairslots.rt:145:9
 next-pair-requires : tie.Need-next-pair-requires Inv-loop μ-loop
 next-pair-requires c κs = search needs
 
--- src/pairslots.rt:146:9
 add-s : tie.Need-add-s Inv-loop μ-loop
 add-s c = search needs
 
--- src/pairslots.rt:143:5
 loop-less : tie.Need-loop-less Inv-loop μ-loop
 loop-less c = search needs
 
--- src/pairslots.rt:143:5
 loop-again : tie.Need-loop-again Inv-loop μ-loop
 loop-again c = (search needs, search (needs, slot-written))
 
--- src/pairslots.rt:124:1
 returns : tie.Need-returns Inv-loop μ-loop
 returns c = search (needs, all-written)
 

@@ -3,71 +3,54 @@ use borrow.Author.Needs.{needs}
 use Rattle.fit.proofs.pairslots.slot_at.Statement.{statement}
 use Rattle.fit.proofs.pairslots.slot_at.Tie as tie
 
--- src/pairslots.rt:114:13
 mul-a : tie.Need-mul-a
 mul-a c = search needs
 
--- src/pairslots.rt:114:13
 array-copy-out-a : tie.Need-array-copy-out-a
 array-copy-out-a c = search needs
 
--- src/pairslots.rt:115:9
 mac-side-requires : tie.Need-mac-side-requires
 mac-side-requires c κs = search needs
 
--- src/pairslots.rt:117:17
 mul-f : tie.Need-mul-f
 mul-f c = search needs
 
--- src/pairslots.rt:117:17
 array-copy-out-f : tie.Need-array-copy-out-f
 array-copy-out-f c = search needs
 
--- src/pairslots.rt:118:28
 add-fix-pair : tie.Need-add-fix-pair
 add-fix-pair c = search needs
 
--- src/pairslots.rt:118:38
 fix-corner-requires : tie.Need-fix-corner-requires
 fix-corner-requires c κs = search needs
 
--- src/pairslots.rt:118:56
 fix-side-requires : tie.Need-fix-side-requires
 fix-side-requires c κs = search needs
 
--- src/pairslots.rt:118:9
 fix-pair-requires : tie.Need-fix-pair-requires
 fix-pair-requires c κs = (search corner-small, search side-small)
 
--- src/pairslots.rt:118:9
 returns : tie.Need-returns
 returns c = search fix-slot
 
--- src/pairslots.rt:120:13
 mul-b : tie.Need-mul-b
 mul-b c = search needs
 
--- src/pairslots.rt:120:13
 array-copy-out-b : tie.Need-array-copy-out-b
 array-copy-out-b c = search needs
 
--- src/pairslots.rt:121:17
 add-mac-pair : tie.Need-add-mac-pair
 add-mac-pair c = search needs
 
--- src/pairslots.rt:121:27
 add-mac-pair-2 : tie.Need-add-mac-pair-2
 add-mac-pair-2 c = search needs
 
--- src/pairslots.rt:121:34
 mac-side-requires-2 : tie.Need-mac-side-requires-2
 mac-side-requires-2 c κs = search needs
 
--- src/pairslots.rt:121:5
 mac-pair-requires : tie.Need-mac-pair-requires
 mac-pair-requires c κs = search needs
 
--- src/pairslots.rt:107:1
 returns-2 : tie.Need-returns-2
 returns-2 c = search mac-slot
 

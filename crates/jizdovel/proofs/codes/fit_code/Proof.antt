@@ -3,31 +3,24 @@ use borrow.Author.Needs.{needs}
 use Rattle.jizdovel.proofs.codes.fit_code.Statement.{statement}
 use Rattle.jizdovel.proofs.codes.fit_code.Tie as tie
 
--- src/codes.rt:105:28
 enum-known-outcome : tie.Need-enum-known-outcome
 enum-known-outcome c = search needs
 
--- src/codes.rt:109:30
 enum-told : tie.Need-enum-told
 enum-told c = search needs
 
--- src/codes.rt:113:29
 enum-known-outcome-2 : tie.Need-enum-known-outcome-2
 enum-known-outcome-2 c = search needs
 
--- src/codes.rt:113:35
 refusal-code-requires : tie.Need-refusal-code-requires
 refusal-code-requires c κs = search needs
 
--- src/codes.rt:101:1
 returns : tie.Need-returns
 returns c = search (needs, fit-placed)
 
--- src/codes.rt:101:1
 returns-2 : tie.Need-returns-2
 returns-2 c = search (needs, fit-none)
 
--- src/codes.rt:101:1
 returns-3 : tie.Need-returns-3
 returns-3 c = search (needs, fit-refused)
 

@@ -3,11 +3,9 @@ use Rattle.jizdovel.proofs.Coding.{legal-yes, legal-no}
 use Rattle.jizdovel.proofs.codes.legal_code.Statement.{statement}
 use Rattle.jizdovel.proofs.codes.legal_code.Tie as tie
 
--- src/codes.rt:81:9
 returns : tie.Need-returns
 returns c = search (needs, legal-yes)
 
--- src/codes.rt:77:1
 returns-2 : tie.Need-returns-2
 returns-2 c = search (needs, legal-no)
 

@@ -14,37 +14,29 @@ use Rattle.jizdovel.proofs.fitting.fit_chip.Reads as fit-chip-reads
 shape : (t : lts.After-read-chip (read-chip-reads.Asked, read-chip-reads.Learnt, fit-chip-reads.Asked, fit-chip-reads.Learnt, refusal-code-reads.Asked, refusal-code-reads.Learnt) reads.Pre reads.Post) → Whole (t .read-chip .result .chip)
 shape t = search whole
 
--- src/fitting.rt:87:9
 read-chip-requires : tie.Need-read-chip-requires
 read-chip-requires c κs = search needs
 
--- src/fitting.rt:91:54
 enum-told : tie.Need-enum-told
 enum-told c = search needs
 
--- src/fitting.rt:91:33
 fit-chip-requires : tie.Need-fit-chip-requires
 fit-chip-requires c κs =
     let h = c .before .before .before .before .before in
     read-passed _ _ (h .read-chip .result .answer) (h .read-chip .ensures .0) (shape h) (c .before .before .enum-told .given .1)
 
--- src/fitting.rt:92:29
 enum-known-answer : tie.Need-enum-known-answer
 enum-known-answer c = search needs
 
--- src/fitting.rt:92:35
 refusal-code-requires : tie.Need-refusal-code-requires
 refusal-code-requires c κs = search needs
 
--- src/fitting.rt:79:1
 same-length : tie.Need-same-length
 same-length c = search needs
 
--- src/fitting.rt:79:1
 same-length-2 : tie.Need-same-length-2
 same-length-2 c = search needs
 
--- src/fitting.rt:79:1
 returns : tie.Need-returns
 returns c =
     let m = c .before .before .before .before in
@@ -52,7 +44,6 @@ returns c =
     let h = t .before .before .before in
     fit-read _ _ _ _ _ _ _ (h .read-chip .result .chip) (read-accepted _ _ (h .read-chip .result .answer) (h .read-chip .ensures .0) (t .enum-told .given .1)) (m .fit-chip .ensures)
 
--- src/fitting.rt:79:1
 returns-2 : tie.Need-returns-2
 returns-2 c =
     let k = c .before .before in

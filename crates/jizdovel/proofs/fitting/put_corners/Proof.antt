@@ -10,63 +10,48 @@ Inv-loop list₀ n spots i₀ list i = (i ≤ n) × Stored list₀ spots list i
 abbrev μ-loop : tie.MeasureT-loop
 μ-loop list₀ n spots i₀ list i = n - i
 
--- src/fitting.rt:26:5
 loop-holds : tie.Need-loop-holds Inv-loop μ-loop
 loop-holds c = (search needs, search (needs, stored-none))
 
--- src/fitting.rt:27:17
 mul-p : tie.Need-mul-p Inv-loop μ-loop
 mul-p c = search needs
 
--- src/fitting.rt:27:17
 array-copy-out-p : tie.Need-array-copy-out-p Inv-loop μ-loop
 array-copy-out-p c = search needs
 
--- src/fitting.rt:28:14
 add-list : tie.Need-add-list Inv-loop μ-loop
 add-list c = search needs
 
--- src/fitting.rt:28:9
 mul-list : tie.Need-mul-list Inv-loop μ-loop
 mul-list c = search needs
 
--- src/fitting.rt:28:9
 slice-write-list : tie.Need-slice-write-list Inv-loop μ-loop
 slice-write-list c = search (needs, x-in)
 
--- src/fitting.rt:29:14
 add-list-2 : tie.Need-add-list-2 Inv-loop μ-loop
 add-list-2 c = search needs
 
--- src/fitting.rt:29:14
 add-list-3 : tie.Need-add-list-3 Inv-loop μ-loop
 add-list-3 c = search needs
 
--- src/fitting.rt:29:9
 mul-list-2 : tie.Need-mul-list-2 Inv-loop μ-loop
 mul-list-2 c = search needs
 
--- src/fitting.rt:29:9
 slice-write-list-2 : tie.Need-slice-write-list-2 Inv-loop μ-loop
 slice-write-list-2 c = search (needs, y-in)
 
--- src/fitting.rt:30:9
 add-i : tie.Need-add-i Inv-loop μ-loop
 add-i c = search needs
 
--- src/fitting.rt:26:5
 loop-less : tie.Need-loop-less Inv-loop μ-loop
 loop-less c = search needs
 
--- src/fitting.rt:26:5
 loop-again : tie.Need-loop-again Inv-loop μ-loop
 loop-again c = (search needs, search (needs, stored-more))
 
--- src/fitting.rt:20:1
 same-length : tie.Need-same-length Inv-loop μ-loop
 same-length c = search (needs, stored-long)
 
--- src/fitting.rt:20:1
 returns : tie.Need-returns Inv-loop μ-loop
 returns c = search (needs, stored-all)
 

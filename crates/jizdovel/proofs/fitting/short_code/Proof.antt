@@ -3,19 +3,15 @@ use borrow.Author.Needs.{needs}
 use Rattle.jizdovel.proofs.fitting.short_code.Statement.{statement}
 use Rattle.jizdovel.proofs.fitting.short_code.Tie as tie
 
--- src/fitting.rt:41:42
 slice-aggregate-fit-letters : tie.Need-slice-aggregate-fit-letters
 slice-aggregate-fit-letters c = search needs
 
--- src/fitting.rt:41:9
 fit-letters-requires : tie.Need-fit-letters-requires
 fit-letters-requires c κs = search needs
 
--- src/fitting.rt:43:5
 fit-code-requires : tie.Need-fit-code-requires
 fit-code-requires c κs = search needs
 
--- src/fitting.rt:35:1
 returns : tie.Need-returns
 returns c = search (needs, short-done)
 

@@ -10,59 +10,45 @@ Inv-loop list n spots₀ i₀ spots i = (i ≤ n) × CornersTo list spots i
 abbrev μ-loop : tie.MeasureT-loop
 μ-loop list n spots₀ i₀ spots i = n - i
 
--- src/measuring.rt:29:5
 loop-holds : tie.Need-loop-holds Inv-loop μ-loop
 loop-holds c = (search needs, search (needs, corners-none))
 
--- src/measuring.rt:31:21
 add-t7 : tie.Need-add-t7 Inv-loop μ-loop
 add-t7 c = search needs
 
--- src/measuring.rt:31:16
 mul-t8 : tie.Need-mul-t8 Inv-loop μ-loop
 mul-t8 c = search needs
 
--- src/measuring.rt:31:16
 shared-slice-read-t10 : tie.Need-shared-slice-read-t10 Inv-loop μ-loop
 shared-slice-read-t10 c = search needs
 
--- src/measuring.rt:32:21
 add-t11 : tie.Need-add-t11 Inv-loop μ-loop
 add-t11 c = search needs
 
--- src/measuring.rt:32:21
 add-t12 : tie.Need-add-t12 Inv-loop μ-loop
 add-t12 c = search needs
 
--- src/measuring.rt:32:16
 mul-t13 : tie.Need-mul-t13 Inv-loop μ-loop
 mul-t13 c = search needs
 
--- src/measuring.rt:32:16
 shared-slice-read-t15 : tie.Need-shared-slice-read-t15 Inv-loop μ-loop
 shared-slice-read-t15 c = search needs
 
--- src/measuring.rt:30:9
 mul-spots : tie.Need-mul-spots Inv-loop μ-loop
 mul-spots c = search needs
 
--- src/measuring.rt:30:9
 array-set-from-spots : tie.Need-array-set-from-spots Inv-loop μ-loop
 array-set-from-spots c = search needs
 
--- src/measuring.rt:34:9
 add-i : tie.Need-add-i Inv-loop μ-loop
 add-i c = search needs
 
--- src/measuring.rt:29:5
 loop-less : tie.Need-loop-less Inv-loop μ-loop
 loop-less c = search needs
 
--- src/measuring.rt:29:5
 loop-again : tie.Need-loop-again Inv-loop μ-loop
 loop-again c = (search needs, search (needs, corners-more))
 
--- src/measuring.rt:22:1
 returns : tie.Need-returns Inv-loop μ-loop
 returns c = search (needs, corners-all)
 

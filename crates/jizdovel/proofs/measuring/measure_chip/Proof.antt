@@ -3,23 +3,18 @@ use borrow.Author.Needs.{needs}
 use Rattle.jizdovel.proofs.measuring.measure_chip.Statement.{statement}
 use Rattle.jizdovel.proofs.measuring.measure_chip.Tie as tie
 
--- src/measuring.rt:45:22
 add-if1 : tie.Need-add-if1
 add-if1 c = search needs
 
--- src/measuring.rt:46:9
 returns : tie.Need-returns
 returns c = search (needs, wrong-count)
 
--- src/measuring.rt:48:34
 corners-requires : tie.Need-corners-requires
 corners-requires c κs = search needs
 
--- src/measuring.rt:48:5
 measure-array-requires : tie.Need-measure-array-requires
 measure-array-requires c κs = search needs
 
--- src/measuring.rt:40:1
 returns-2 : tie.Need-returns-2
 returns-2 c = search (needs, two-each)
 

@@ -15,40 +15,32 @@ use Rattle.jizdovel.proofs.measuring.measure_chip.Reads as measure-chip
 shape : (t : lts.After-read-chip (read-chip-reads.Asked, read-chip-reads.Learnt, measure-chip-reads.Asked, measure-chip-reads.Learnt, measure-code-reads.Asked, measure-code-reads.Learnt, refusal-code-reads.Asked, refusal-code-reads.Learnt) reads.Pre reads.Post) → Whole (t .read-chip .result .chip)
 shape t = search whole
 
--- src/measuring.rt:54:9
 read-chip-requires : tie.Need-read-chip-requires
 read-chip-requires c κs = search needs
 
--- src/measuring.rt:58:46
 enum-told : tie.Need-enum-told
 enum-told c = search needs
 
--- src/measuring.rt:58:46
 measure-chip-requires : tie.Need-measure-chip-requires
 measure-chip-requires c κs =
     let h = c .before .before .before in
     read-passed _ _ (h .read-chip .result .answer) (h .read-chip .ensures .0) (shape h) (c .enum-told .given .1)
 
--- src/measuring.rt:58:33
 measure-code-requires : tie.Need-measure-code-requires
 measure-code-requires c κs = search needs
 
--- src/measuring.rt:59:29
 enum-known-answer : tie.Need-enum-known-answer
 enum-known-answer c = search needs
 
--- src/measuring.rt:59:35
 refusal-code-requires : tie.Need-refusal-code-requires
 refusal-code-requires c κs = search needs
 
--- src/measuring.rt:51:1
 returns : tie.Need-returns
 returns c =
     let m = c .before in
     let h = m .before .before .before .before in
     measure-read _ _ (h .read-chip .result .chip) _ _ (read-accepted _ _ (h .read-chip .result .answer) (h .read-chip .ensures .0) (m .before .enum-told .given .1)) (m .measure-chip .ensures) (c .measure-code .ensures)
 
--- src/measuring.rt:51:1
 returns-2 : tie.Need-returns-2
 returns-2 c =
     let k = c .before .before in

@@ -3,23 +3,18 @@ use borrow.Author.Needs.{needs}
 use Rattle.model.proofs.Die.new.Statement.{statement}
 use Rattle.model.proofs.Die.new.Tie as tie
 
--- src/lib.rt:70:13
 within-requires : tie.Need-within-requires
 within-requires c κs = search needs
 
--- src/lib.rt:71:13
 returns : tie.Need-returns
 returns c = search (outside, first-fails, fails)
 
--- src/lib.rt:73:13
 within-requires-2 : tie.Need-within-requires-2
 within-requires-2 c κs = search needs
 
--- src/lib.rt:74:13
 returns-2 : tie.Need-returns-2
 returns-2 c = search (outside, second-fails, fails)
 
--- src/lib.rt:67:5
 returns-3 : tie.Need-returns-3
 returns-3 c = search (inside, both-hold, holds)
 

@@ -3,31 +3,24 @@ use borrow.Author.Needs.{needs}
 use Rattle.model.proofs.Fix.new.Statement.{statement}
 use Rattle.model.proofs.Fix.new.Tie as tie
 
--- src/lib.rt:106:13
 returns : tie.Need-returns
 returns c = search (outside, first-fails, over)
 
--- src/lib.rt:109:13
 returns-2 : tie.Need-returns-2
 returns-2 c = search (outside, first-fails, second-fails, over)
 
--- src/lib.rt:111:13
 within-requires : tie.Need-within-requires
 within-requires c κs = search needs
 
--- src/lib.rt:112:13
 returns-3 : tie.Need-returns-3
 returns-3 c = search (outside, first-fails, second-fails, fails)
 
--- src/lib.rt:114:13
 within-requires-2 : tie.Need-within-requires-2
 within-requires-2 c κs = search needs
 
--- src/lib.rt:115:13
 returns-4 : tie.Need-returns-4
 returns-4 c = search (outside, second-fails, fails)
 
--- src/lib.rt:102:5
 returns-5 : tie.Need-returns-5
 returns-5 c = search (inside, both-hold, up-to, holds)
 

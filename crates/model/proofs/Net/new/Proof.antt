@@ -3,15 +3,12 @@ use borrow.Author.Needs.{needs}
 use Rattle.model.proofs.Net.new.Statement.{statement}
 use Rattle.model.proofs.Net.new.Tie as tie
 
--- src/lib.rt:173:13
 within-requires : tie.Need-within-requires
 within-requires c κs = search needs
 
--- src/lib.rt:174:13
 returns : tie.Need-returns
 returns c = search (outside, fails)
 
--- src/lib.rt:170:5
 returns-2 : tie.Need-returns-2
 returns-2 c = search (inside, holds)
 

@@ -3,15 +3,12 @@ use borrow.Author.Needs.{needs}
 use Rattle.search.proofs.best.better_record.Statement.{statement}
 use Rattle.search.proofs.best.better_record.Tie as tie
 
--- src/best.rt:58:8
 replaces-best-requires : tie.Need-replaces-best-requires
 replaces-best-requires c κs = search needs
 
--- src/best.rt:59:9
 returns : tie.Need-returns
 returns c = search other-better
 
--- src/best.rt:54:1
 returns-2 : tie.Need-returns-2
 returns-2 c = search best-better
 

@@ -3,39 +3,30 @@ use borrow.Author.Needs.{needs}
 use Rattle.search.proofs.best.replaces_best.Statement.{statement}
 use Rattle.search.proofs.best.replaces_best.Tie as tie
 
--- src/best.rt:38:24
 enum-known-theirs : tie.Need-enum-known-theirs
 enum-known-theirs c = search needs
 
--- src/best.rt:39:9
 enum-told : tie.Need-enum-told
 enum-told c = search needs
 
--- src/best.rt:39:9
 returns : tie.Need-returns
 returns c = (search keeps-best, search told-none)
 
--- src/best.rt:42:24
 enum-known-ours : tie.Need-enum-known-ours
 enum-known-ours c = search needs
 
--- src/best.rt:43:9
 enum-told-2 : tie.Need-enum-told-2
 enum-told-2 c = search needs
 
--- src/best.rt:43:9
 returns-2 : tie.Need-returns-2
 returns-2 c = (search takes-first, search told-least)
 
--- src/best.rt:46:9
 returns-3 : tie.Need-returns-3
 returns-3 c = (search (needs, by-length), search told-least)
 
--- src/best.rt:50:5
 comes-before-requires : tie.Need-comes-before-requires
 comes-before-requires c κs = search few-corners
 
--- src/best.rt:33:1
 returns-4 : tie.Need-returns-4
 returns-4 c = (search by-order, search told-least)
 

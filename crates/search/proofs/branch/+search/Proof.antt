@@ -61,7 +61,6 @@ whole-letters : (t : ℕ) (c : search-lts.Start (
 ) (search-at t) search′.Post search-Inv-loop search-μ-loop) → length (c .args .letters) ≡ 92
 whole-letters t c = search needs
 
--- src/branch.rt:153:9
 search-replaces-best-requires : (t : ℕ) → search-lts.Need-replaces-best-requires (
   replaces-best-reads.Asked,
   replaces-best-reads.Learnt,
@@ -84,7 +83,6 @@ search-replaces-best-requires : (t : ℕ) → search-lts.Need-replaces-best-requ
 ) (search-at t) search′.Post search-Inv-loop search-μ-loop
 search-replaces-best-requires t c κs = search both-alike
 
--- src/branch.rt:154:9
 search-returns : (t : ℕ) → search-lts.Need-returns (
   replaces-best-reads.Asked,
   replaces-best-reads.Learnt,
@@ -107,7 +105,6 @@ search-returns : (t : ℕ) → search-lts.Need-returns (
 ) (search-at t) search′.Post search-Inv-loop search-μ-loop
 search-returns t c = search fit-closes
 
--- src/branch.rt:157:9
 search-choose-requires : (t : ℕ) → search-lts.Need-choose-requires (
   replaces-best-reads.Asked,
   replaces-best-reads.Learnt,
@@ -130,7 +127,6 @@ search-choose-requires : (t : ℕ) → search-lts.Need-choose-requires (
 ) (search-at t) search′.Post search-Inv-loop search-μ-loop
 search-choose-requires t c κs = (search needs, search needs, search fit-near, search needs)
 
--- src/branch.rt:159:9
 search-replaced-requires : (t : ℕ) → search-lts.Need-replaced-requires (
   replaces-best-reads.Asked,
   replaces-best-reads.Learnt,
@@ -153,7 +149,6 @@ search-replaced-requires : (t : ℕ) → search-lts.Need-replaced-requires (
 ) (search-at t) search′.Post search-Inv-loop search-μ-loop
 search-replaced-requires t c κs = search both-alike
 
--- src/branch.rt:159:9
 search-returns-2 : (t : ℕ) → search-lts.Need-returns-2 (
   replaces-best-reads.Asked,
   replaces-best-reads.Learnt,
@@ -176,7 +171,6 @@ search-returns-2 : (t : ℕ) → search-lts.Need-returns-2 (
 ) (search-at t) search′.Post search-Inv-loop search-μ-loop
 search-returns-2 t c = search (needs, legal-found)
 
--- src/branch.rt:161:9
 search-kids-of-requires : (t : ℕ) → search-lts.Need-kids-of-requires (
   replaces-best-reads.Asked,
   replaces-best-reads.Learnt,
@@ -199,7 +193,6 @@ search-kids-of-requires : (t : ℕ) → search-lts.Need-kids-of-requires (
 ) (search-at t) search′.Post search-Inv-loop search-μ-loop
 search-kids-of-requires t c κs = (search needs, search needs, search chosen-less)
 
--- src/branch.rt:163:5
 search-loop-holds : (t : ℕ) → search-lts.Need-loop-holds (
   replaces-best-reads.Asked,
   replaces-best-reads.Learnt,
@@ -224,7 +217,6 @@ search-loop-holds t c =
     let l = whole-letters t (c .before .before .before .before .before .before) in
     visits-start _ _ _ _ _ (search chosen-less) _ (c .kids-of .ensures) l (search needs) (search needs) (search (l, chosen-dot))
 
--- src/branch.rt:164:13
 search-next-kid-requires : (t : ℕ) → search-lts.Need-next-kid-requires (
   replaces-best-reads.Asked,
   replaces-best-reads.Learnt,
@@ -247,7 +239,6 @@ search-next-kid-requires : (t : ℕ) → search-lts.Need-next-kid-requires (
 ) (search-at t) search′.Post search-Inv-loop search-μ-loop
 search-next-kid-requires t c κs = search (needs, visits-counted)
 
--- src/branch.rt:166:13
 search-returns-3 : (t : ℕ) → search-lts.Need-returns-3 (
   replaces-best-reads.Asked,
   replaces-best-reads.Learnt,
@@ -270,7 +261,6 @@ search-returns-3 : (t : ℕ) → search-lts.Need-returns-3 (
 ) (search-at t) search′.Post search-Inv-loop search-μ-loop
 search-returns-3 t c = search visits-end
 
--- src/branch.rt:168:13
 search-kid-requires : (t : ℕ) → search-lts.Need-kid-requires (
   replaces-best-reads.Asked,
   replaces-best-reads.Learnt,
@@ -293,7 +283,6 @@ search-kid-requires : (t : ℕ) → search-lts.Need-kid-requires (
 ) (search-at t) search′.Post search-Inv-loop search-μ-loop
 search-kid-requires t c κs = search needs
 
--- src/branch.rt:169:9
 search-without-requires : (t : ℕ) → search-lts.Need-without-requires (
   replaces-best-reads.Asked,
   replaces-best-reads.Learnt,
@@ -316,7 +305,6 @@ search-without-requires : (t : ℕ) → search-lts.Need-without-requires (
 ) (search-at t) search′.Post search-Inv-loop search-μ-loop
 search-without-requires t c κs = search needs
 
--- src/branch.rt:170:32
 search-decided-requires : (t : ℕ) → search-lts.Need-decided-requires (
   replaces-best-reads.Asked,
   replaces-best-reads.Learnt,
@@ -342,7 +330,6 @@ search-decided-requires t c κs =
     let start = at .before .before .before .before .before .before .before in
     (visits-place _ _ _ _ _ _ _ (at .loop .inv) (start .pre .1 .2), search needs)
 
--- src/branch.rt:170:9
 search-search-requires : (t : ℕ) → search-lts.Need-search-requires (
   replaces-best-reads.Asked,
   replaces-best-reads.Learnt,
@@ -379,7 +366,6 @@ search-search-requires t c κs =
       ),
     )
 
--- src/branch.rt:163:5
 search-loop-less : (t : ℕ) → search-lts.Need-loop-less (
   replaces-best-reads.Asked,
   replaces-best-reads.Learnt,
@@ -402,7 +388,6 @@ search-loop-less : (t : ℕ) → search-lts.Need-loop-less (
 ) (search-at t) search′.Post search-Inv-loop search-μ-loop
 search-loop-less t c = search visits-fewer
 
--- src/branch.rt:163:5
 search-loop-again : (t : ℕ) → search-lts.Need-loop-again (
   replaces-best-reads.Asked,
   replaces-best-reads.Learnt,

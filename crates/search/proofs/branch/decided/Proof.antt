@@ -3,15 +3,12 @@ use borrow.Author.Needs.{needs}
 use Rattle.search.proofs.branch.decided.Statement.{statement}
 use Rattle.search.proofs.branch.decided.Tie as tie
 
--- src/branch.rt:58:13
 letter-requires : tie.Need-letter-requires
 letter-requires c κs = search needs
 
--- src/branch.rt:58:5
 array-write-ls : tie.Need-array-write-ls
 array-write-ls c = search needs
 
--- src/branch.rt:53:1
 returns : tie.Need-returns
 returns c = search stored
 

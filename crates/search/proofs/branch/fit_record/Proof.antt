@@ -3,51 +3,39 @@ use borrow.Author.Needs.{needs}
 use Rattle.search.proofs.branch.fit_record.Statement.{statement}
 use Rattle.search.proofs.branch.fit_record.Tie as tie
 
--- src/branch.rt:69:33
 array-share-prefix-letters : tie.Need-array-share-prefix-letters
 array-share-prefix-letters c = search needs
 
--- src/branch.rt:69:33
 slice-aggregate-fit-letters : tie.Need-slice-aggregate-fit-letters
 slice-aggregate-fit-letters c = search (needs, prefix-long)
 
--- src/branch.rt:69:48
 slice-aggregate-fit-letters-2 : tie.Need-slice-aggregate-fit-letters-2
 slice-aggregate-fit-letters-2 c = search needs
 
--- src/branch.rt:69:9
 fit-letters-requires : tie.Need-fit-letters-requires
 fit-letters-requires c κs = search needs
 
--- src/branch.rt:73:28
 enum-known-outcome : tie.Need-enum-known-outcome
 enum-known-outcome c = search needs
 
--- src/branch.rt:77:30
 enum-told : tie.Need-enum-told
 enum-told c = search needs
 
--- src/branch.rt:77:30
 no-record-requires : tie.Need-no-record-requires
 no-record-requires c κs = search needs
 
--- src/branch.rt:78:35
 enum-told-2 : tie.Need-enum-told-2
 enum-told-2 c = search needs
 
--- src/branch.rt:78:35
 no-record-requires-2 : tie.Need-no-record-requires-2
 no-record-requires-2 c κs = search needs
 
--- src/branch.rt:64:1
 returns : tie.Need-returns
 returns c = search (needs, fit-placed)
 
--- src/branch.rt:64:1
 returns-2 : tie.Need-returns-2
 returns-2 c = search (needs, fit-none)
 
--- src/branch.rt:64:1
 returns-3 : tie.Need-returns-3
 returns-3 c = search (needs, fit-refused)
 

@@ -3,19 +3,15 @@ use borrow.Author.Needs.{needs}
 use Rattle.search.proofs.branch.kid.Statement.{statement}
 use Rattle.search.proofs.branch.kid.Tie as tie
 
--- src/branch.rt:87:9
 returns : tie.Need-returns
 returns c = search needs
 
--- src/branch.rt:90:9
 returns-2 : tie.Need-returns-2
 returns-2 c = search needs
 
--- src/branch.rt:93:9
 returns-3 : tie.Need-returns-3
 returns-3 c = search needs
 
--- src/branch.rt:82:1
 returns-4 : tie.Need-returns-4
 returns-4 c = search (needs, last-kid)
 

@@ -3,19 +3,15 @@ use borrow.Author.Needs.{needs}
 use Rattle.search.proofs.branch.letter.Statement.{statement}
 use Rattle.search.proofs.branch.letter.Tie as tie
 
--- src/branch.rt:41:9
 returns : tie.Need-returns
 returns c = search needs
 
--- src/branch.rt:44:9
 returns-2 : tie.Need-returns-2
 returns-2 c = search needs
 
--- src/branch.rt:47:9
 returns-3 : tie.Need-returns-3
 returns-3 c = search needs
 
--- src/branch.rt:36:1
 returns-4 : tie.Need-returns-4
 returns-4 c = search (needs, last-letter)
 

@@ -11,46 +11,36 @@ Inv-loop kids best₀ at₀ i₀ best at i = (i ≤ 4) × Sought (kidList kids) 
 abbrev μ-loop : tie.MeasureT-loop
 μ-loop kids best₀ at₀ i₀ best at i = 4 - i
 
--- src/branch.rt:125:9
 no-record-requires : tie.Need-no-record-requires Inv-loop μ-loop
 no-record-requires c κs = search needs
 
--- src/branch.rt:128:5
 loop-holds : tie.Need-loop-holds Inv-loop μ-loop
 loop-holds c = (search needs, search sought-start)
 
--- src/branch.rt:129:13
 kid-requires : tie.Need-kid-requires Inv-loop μ-loop
 kid-requires c κs = search needs
 
--- src/branch.rt:131:13
 replaces-best-requires : tie.Need-replaces-best-requires Inv-loop μ-loop
 replaces-best-requires c κs = search sought-alike
 
--- src/branch.rt:132:9
 add-i : tie.Need-add-i Inv-loop μ-loop
 add-i c = search needs
 
--- src/branch.rt:128:5
 loop-less : tie.Need-loop-less Inv-loop μ-loop
 loop-less c = search needs
 
--- src/branch.rt:128:5
 loop-again : tie.Need-loop-again Inv-loop μ-loop
 loop-again c = (search needs, search sought-taken)
 
--- src/branch.rt:128:5
 loop-less-2 : tie.Need-loop-less-2 Inv-loop μ-loop
 loop-less-2 c = search needs
 
--- src/branch.rt:128:5
 loop-again-2 : tie.Need-loop-again-2 Inv-loop μ-loop
 loop-again-2 c =
     let asked = c .before .before in
     let turn = asked .before in
     (search needs, sought-left _ _ _ _ (turn .before .loop .inv .1) (turn .loop-test .taken) _ (asked .kid .ensures) _ (c .before .replaces-best .ensures .0) (c .if1 .left))
 
--- src/branch.rt:121:1
 returns : tie.Need-returns Inv-loop μ-loop
 returns c = search sought-all
 

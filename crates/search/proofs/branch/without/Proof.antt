@@ -3,35 +3,27 @@ use borrow.Author.Needs.{needs}
 use Rattle.search.proofs.branch.without.Statement.{statement}
 use Rattle.search.proofs.branch.without.Tie as tie
 
--- src/branch.rt:105:9
 no-record-requires : tie.Need-no-record-requires
 no-record-requires c κs = search needs
 
--- src/branch.rt:106:9
 returns : tie.Need-returns
 returns c = search without-first
 
--- src/branch.rt:109:9
 no-record-requires-2 : tie.Need-no-record-requires-2
 no-record-requires-2 c κs = search needs
 
--- src/branch.rt:110:9
 returns-2 : tie.Need-returns-2
 returns-2 c = search without-second
 
--- src/branch.rt:113:9
 no-record-requires-3 : tie.Need-no-record-requires-3
 no-record-requires-3 c κs = search needs
 
--- src/branch.rt:114:9
 returns-3 : tie.Need-returns-3
 returns-3 c = search without-third
 
--- src/branch.rt:116:5
 no-record-requires-4 : tie.Need-no-record-requires-4
 no-record-requires-4 c κs = search needs
 
--- src/branch.rt:99:1
 returns-4 : tie.Need-returns-4
 returns-4 c = search last-without
 

@@ -13,39 +13,30 @@ Inv-loop nets t pins weights₀ i₀ weights i = (i ≤ 8) × (length weights �
 abbrev μ-loop : tie.MeasureT-loop
 μ-loop nets t pins weights₀ i₀ weights i = 8 - i
 
--- src/choose.rt:233:5
 loop-holds : tie.Need-loop-holds Inv-loop μ-loop
 loop-holds c = (search needs, search needs, search no-weights)
 
--- src/choose.rt:234:49
 add-net-weights : tie.Need-add-net-weights Inv-loop μ-loop
 add-net-weights c = search needs
 
--- src/choose.rt:234:22
 net-weights-requires : tie.Need-net-weights-requires Inv-loop μ-loop
 net-weights-requires c κs = search fine-nets
 
--- src/choose.rt:234:9
 mul-weights : tie.Need-mul-weights Inv-loop μ-loop
 mul-weights c = search needs
 
--- src/choose.rt:234:9
 array-write-weights : tie.Need-array-write-weights Inv-loop μ-loop
 array-write-weights c = search needs
 
--- src/choose.rt:235:9
 add-i : tie.Need-add-i Inv-loop μ-loop
 add-i c = search needs
 
--- src/choose.rt:233:5
 loop-less : tie.Need-loop-less Inv-loop μ-loop
 loop-less c = search needs
 
--- src/choose.rt:233:5
 loop-again : tie.Need-loop-again Inv-loop μ-loop
 loop-again c = (search needs, search (needs, weights-long), search weight-set)
 
--- src/choose.rt:224:1
 returns : tie.Need-returns Inv-loop μ-loop
 returns c = search needs
 

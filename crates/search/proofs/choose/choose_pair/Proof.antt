@@ -1,52 +1,42 @@
-use borrow.Author.Needs.{needs}
 use Prim.Native.Nat.{_-_, _≤_}
+use borrow.Author.Needs.{needs}
 use Rattle.search.proofs.Choosing.{Seen, none-seen, pair-near, taken-seen, left-seen, all-chosen}
 use Rattle.search.proofs.choose.choose_pair.Statement.{statement}
 use Rattle.search.proofs.choose.choose_pair.Tie as tie
 
 abbrev Inv-loop : tie.InvT-loop
-Inv-loop macs n fixes k p weights spots best₀ most₀ at₀ s₀ best most at s = (s ≤ p) × Seen macs n fixes k spots p at s best most
+Inv-loop macs n fixes k p weights x y found spots best₀ most₀ at₀ s₀ best most at s = (s ≤ p) × Seen macs n fixes k spots p at s best most
 
 abbrev μ-loop : tie.MeasureT-loop
-μ-loop macs n fixes k p weights spots best₀ most₀ at₀ s₀ best most at s = p - s
+μ-loop macs n fixes k p weights x y found spots best₀ most₀ at₀ s₀ best most at s = p - s
 
--- src/choose.rt:164:9
 first-pair-requires : tie.Need-first-pair-requires Inv-loop μ-loop
 first-pair-requires c κs = search needs
 
--- src/choose.rt:166:5
 loop-holds : tie.Need-loop-holds Inv-loop μ-loop
 loop-holds c = (search needs, search (needs, none-seen))
 
--- src/choose.rt:167:13
 pair-score-requires : tie.Need-pair-score-requires Inv-loop μ-loop
 pair-score-requires c κs = (search pair-near, search needs)
 
--- src/choose.rt:169:9
 next-pair-requires : tie.Need-next-pair-requires Inv-loop μ-loop
 next-pair-requires c κs = search needs
 
--- src/choose.rt:170:9
 add-s : tie.Need-add-s Inv-loop μ-loop
 add-s c = search needs
 
--- src/choose.rt:166:5
 loop-less : tie.Need-loop-less Inv-loop μ-loop
 loop-less c = search needs
 
--- src/choose.rt:166:5
 loop-again : tie.Need-loop-again Inv-loop μ-loop
 loop-again c = (search needs, search taken-seen)
 
--- src/choose.rt:166:5
 loop-less-2 : tie.Need-loop-less-2 Inv-loop μ-loop
 loop-less-2 c = search needs
 
--- src/choose.rt:166:5
 loop-again-2 : tie.Need-loop-again-2 Inv-loop μ-loop
 loop-again-2 c = (search needs, search left-seen)
 
--- src/choose.rt:150:1
 returns : tie.Need-returns Inv-loop μ-loop
 returns c = search all-chosen
 

@@ -10,51 +10,39 @@ Inv-loop t pins m nets total₀ q₀ j₀ total q j = Summed nets t total q j
 abbrev μ-loop : tie.MeasureT-loop
 μ-loop t pins m nets total₀ q₀ j₀ total q j = t - j
 
--- src/choose.rt:212:5
 loop-holds : tie.Need-loop-holds Inv-loop μ-loop
 loop-holds c = search none-summed
 
--- src/choose.rt:213:19
 mul-net : tie.Need-mul-net Inv-loop μ-loop
 mul-net c = search needs
 
--- src/choose.rt:213:19
 array-copy-out-net : tie.Need-array-copy-out-net Inv-loop μ-loop
 array-copy-out-net c = search needs
 
--- src/choose.rt:214:13
 on-net-requires : tie.Need-on-net-requires Inv-loop μ-loop
 on-net-requires c κs = search pins-near
 
--- src/choose.rt:215:9
 add-q : tie.Need-add-q Inv-loop μ-loop
 add-q c = search (needs, pins-fit)
 
--- src/choose.rt:216:9
 add-j : tie.Need-add-j Inv-loop μ-loop
 add-j c = search needs
 
--- src/choose.rt:218:13
 add-total : tie.Need-add-total Inv-loop μ-loop
 add-total c = search (needs, weight-fits)
 
--- src/choose.rt:212:5
 loop-less : tie.Need-loop-less Inv-loop μ-loop
 loop-less c = search needs
 
--- src/choose.rt:212:5
 loop-again : tie.Need-loop-again Inv-loop μ-loop
 loop-again c = search more-summed
 
--- src/choose.rt:212:5
 loop-less-2 : tie.Need-loop-less-2 Inv-loop μ-loop
 loop-less-2 c = search needs
 
--- src/choose.rt:212:5
 loop-again-2 : tie.Need-loop-again-2 Inv-loop μ-loop
 loop-again-2 c = search same-summed
 
--- src/choose.rt:205:1
 returns : tie.Need-returns Inv-loop μ-loop
 returns c = search all-summed
 

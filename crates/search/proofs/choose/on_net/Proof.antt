@@ -9,39 +9,30 @@ Inv-loop q count m pins e₀ e = e ≤ count
 abbrev μ-loop : tie.MeasureT-loop
 μ-loop q count m pins e₀ e = count - e
 
--- src/choose.rt:194:5
 loop-holds : tie.Need-loop-holds Inv-loop μ-loop
 loop-holds c = search needs
 
--- src/choose.rt:195:22
 add-p : tie.Need-add-p Inv-loop μ-loop
 add-p c = search needs
 
--- src/choose.rt:195:17
 mul-p : tie.Need-mul-p Inv-loop μ-loop
 mul-p c = search needs
 
--- src/choose.rt:195:17
 array-copy-out-p : tie.Need-array-copy-out-p Inv-loop μ-loop
 array-copy-out-p c = search needs
 
--- src/choose.rt:197:13
 returns : tie.Need-returns Inv-loop μ-loop
 returns c = search needs
 
--- src/choose.rt:199:9
 add-e : tie.Need-add-e Inv-loop μ-loop
 add-e c = search needs
 
--- src/choose.rt:194:5
 loop-less : tie.Need-loop-less Inv-loop μ-loop
 loop-less c = search needs
 
--- src/choose.rt:194:5
 loop-again : tie.Need-loop-again Inv-loop μ-loop
 loop-again c = search needs
 
--- src/choose.rt:190:1
 returns-2 : tie.Need-returns-2 Inv-loop μ-loop
 returns-2 c = search needs
 

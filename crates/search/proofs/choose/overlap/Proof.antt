@@ -3,39 +3,30 @@ use borrow.Author.Needs.{needs}
 use Rattle.search.proofs.choose.overlap.Statement.{statement}
 use Rattle.search.proofs.choose.overlap.Tie as tie
 
--- src/choose.rt:69:8
 add-if1 : tie.Need-add-if1
 add-if1 c = search needs
 
--- src/choose.rt:70:9
 returns : tie.Need-returns
 returns c = search apart-left
 
--- src/choose.rt:72:8
 add-if2 : tie.Need-add-if2
 add-if2 c = search needs
 
--- src/choose.rt:73:9
 returns-2 : tie.Need-returns-2
 returns-2 c = search apart-right
 
--- src/choose.rt:75:8
 add-if3 : tie.Need-add-if3
 add-if3 c = search needs
 
--- src/choose.rt:76:9
 returns-3 : tie.Need-returns-3
 returns-3 c = search apart-low
 
--- src/choose.rt:78:8
 add-if4 : tie.Need-add-if4
 add-if4 c = search needs
 
--- src/choose.rt:79:9
 returns-4 : tie.Need-returns-4
 returns-4 c = search apart-high
 
--- src/choose.rt:65:1
 returns-5 : tie.Need-returns-5
 returns-5 c = search meet-all
 

@@ -3,27 +3,39 @@ use borrow.Author.Needs.{needs}
 use Rattle.search.proofs.choose.pair_score.Statement.{statement}
 use Rattle.search.proofs.choose.pair_score.Tie as tie
 
--- src/choose.rt:144:9
 box-at-requires : tie.Need-box-at-requires
 box-at-requires c κs = search needs
 
--- src/choose.rt:145:9
 second-box-requires : tie.Need-second-box-requires
 second-box-requires c κs = search needs
 
--- src/choose.rt:146:17
+open-letters-requires : tie.Need-open-letters-requires
+open-letters-requires c κs = search needs
+
+urgency-requires : tie.Need-urgency-requires
+urgency-requires c κs = search needs
+
 pair-weight-requires : tie.Need-pair-weight-requires
 pair-weight-requires c κs = search needs
 
--- src/choose.rt:146:5
-score-requires : tie.Need-score-requires
-score-requires c κs = (search first-small, search second-small, search needs)
+earliness-requires : tie.Need-earliness-requires
+earliness-requires c κs = search needs
 
--- src/choose.rt:131:1
+score-requires : tie.Need-score-requires
+score-requires c κs = (search first-small, search second-small, search needs, search needs, search needs)
+
 returns : tie.Need-returns
 returns c = search pair-scored
 
 pub pair-score-spec : {M : Type 1} → statement M
 pair-score-spec =
     tie.close
-    (tie.spec box-at-requires second-box-requires pair-weight-requires score-requires returns)
+    (tie.spec
+    box-at-requires
+    second-box-requires
+    open-letters-requires
+    urgency-requires
+    pair-weight-requires
+    earliness-requires
+    score-requires
+    returns)

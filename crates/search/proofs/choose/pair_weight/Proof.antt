@@ -3,31 +3,24 @@ use borrow.Author.Needs.{needs}
 use Rattle.search.proofs.choose.pair_weight.Statement.{statement}
 use Rattle.search.proofs.choose.pair_weight.Tie as tie
 
--- src/choose.rt:123:13
 mul-w : tie.Need-mul-w
 mul-w c = search needs
 
--- src/choose.rt:123:13
 array-read-w : tie.Need-array-read-w
 array-read-w c = search needs
 
--- src/choose.rt:125:9
 returns : tie.Need-returns
 returns c = search weight-small
 
--- src/choose.rt:127:15
 mul-lesser : tie.Need-mul-lesser
 mul-lesser c = search needs
 
--- src/choose.rt:127:15
 array-read-lesser : tie.Need-array-read-lesser
 array-read-lesser c = search needs
 
--- src/choose.rt:127:5
 lesser-requires : tie.Need-lesser-requires
 lesser-requires c κs = search needs
 
--- src/choose.rt:119:1
 returns-2 : tie.Need-returns-2
 returns-2 c = search lesser-small
 

@@ -14,39 +14,31 @@ use Rattle.search.proofs.service.chip_record.Reads as chip-record-reads
 shape : (t : lts.After-read-chip (read-chip-reads.Asked, read-chip-reads.Learnt, chip-record-reads.Asked, chip-record-reads.Learnt, write-record-reads.Asked, write-record-reads.Learnt) reads.Pre reads.Post) → Whole (t .read-chip .result .chip)
 shape t = search whole
 
--- src/service.rt:57:9
 read-chip-requires : tie.Need-read-chip-requires
 read-chip-requires c κs = search needs
 
--- src/service.rt:61:29
 enum-known-answer : tie.Need-enum-known-answer
 enum-known-answer c = search needs
 
--- src/service.rt:62:60
 enum-told : tie.Need-enum-told
 enum-told c = search needs
 
--- src/service.rt:62:60
 chip-record-requires : tie.Need-chip-record-requires
 chip-record-requires c κs =
     let h = c .before .before .before in
     read-passed _ _ (h .read-chip .result .answer) (h .read-chip .ensures .0) (shape h) (c .enum-told .given .1)
 
--- src/service.rt:62:33
 write-record-requires : tie.Need-write-record-requires
 write-record-requires c κs = search needs
 
--- src/service.rt:54:1
 returns : tie.Need-returns
 returns c =
     let h = c .before .before .before .before in
     place-refused (h .read-chip .result .chip) _ (c .before .answer .given .0 .0) _ (h .read-chip .result .answer) (h .read-chip .ensures .0) (c .before .answer .given .1)
 
--- src/service.rt:54:1
 same-length : tie.Need-same-length
 same-length c = search needs
 
--- src/service.rt:54:1
 returns-2 : tie.Need-returns-2
 returns-2 c =
     let m = c .before .before .before .before in

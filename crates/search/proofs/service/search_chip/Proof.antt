@@ -13,39 +13,31 @@ use Rattle.search.proofs.service.chip_record.Reads as chip-record-reads
 shape : (t : lts.Start (test-chip-reads.Asked, test-chip-reads.Learnt, chip-record-reads.Asked, chip-record-reads.Learnt, write-record-reads.Asked, write-record-reads.Learnt) reads.Pre reads.Post) → Whole (t .args .c)
 shape t = search whole
 
--- src/service.rt:46:9
 test-chip-requires : tie.Need-test-chip-requires
 test-chip-requires c κs = search needs
 
--- src/service.rt:48:25
 enum-known-tested : tie.Need-enum-known-tested
 enum-known-tested c = search needs
 
--- src/service.rt:49:54
 enum-told : tie.Need-enum-told
 enum-told c = search needs
 
--- src/service.rt:49:54
 chip-record-requires : tie.Need-chip-record-requires
 chip-record-requires c κs =
     let h = c .before .before in
     test-passed _ (shape (h .before .before)) (h .test-chip .result) (h .test-chip .ensures) (c .enum-told .given .1)
 
--- src/service.rt:49:27
 write-record-requires : tie.Need-write-record-requires
 write-record-requires c κs = search needs
 
--- src/service.rt:43:1
 returns : tie.Need-returns
 returns c =
     let h = c .before .before .before in
     search-refused _ _ (c .before .tested .given .0 .0) (h .test-chip .result) (h .test-chip .ensures) (c .before .tested .given .1)
 
--- src/service.rt:43:1
 same-length : tie.Need-same-length
 same-length c = search needs
 
--- src/service.rt:43:1
 returns-2 : tie.Need-returns-2
 returns-2 c =
     let m = c .before .before .before .before in

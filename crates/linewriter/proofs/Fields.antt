@@ -1,0 +1,60 @@
+-- The fields of a line written one after the other, in the form of the needs.
+use mathlib.Core.Path.{_≡_, refl, ap}
+use mathlib.Core.List.{List, [], _∷_, _++_, append-assoc, append-nil}
+use Prim.Native.Nat.{ℕ, zero, suc, _+_, _≤_, _<_, _^_}
+use native.Mathlib.Numerals.{add-one}
+use native.Mathlib.Omega.{arith}
+use borrow.Author.Tests.{le-ltb}
+use lib.IntN.{pos, subℕ}
+use lib.ListN.{length, getD, length-take}
+use Rattle.decimal.specs.Number.{numberText}
+use Rattle.decimal.specs.Held.{Wrote}
+use Rattle.decimal.proofs.Wrote.{wrote-none, wrote-then}
+use Rattle.model.specs.declared.Word.{Word}
+use Rattle.grammar.specs.Line.{fieldsText}
+use Rattle.grammar.specs.Words.{rules}
+use Rattle.line.specs.declared.Rule.{Rule as HeldRule}
+use Rattle.line.specs.Held.{lowered, loweredAll, valuesOf}
+use Rattle.line.specs.Layout.{markOf, rulesOf, upsOf, blankRule, Sane, LayoutOk}
+
+-- ---- one field
+
+lowered-sub : (u v : ℕ) → lowered u v ≡ subℕ v u
+lowered-sub zero v = rw (le-ltb v 0 (omega arith)) (ap pos (omega arith))
+lowered-sub (suc u) v = refl
+
+-- the field with the rule r and the held value v
+abbrev pub fieldText : HeldRule → ℕ → List ℕ
+fieldText r v = markOf r ++ numberText (lowered (r .up) v)
+
+pub mark-long : (r : HeldRule) → Sane r → r .size ≡ length (markOf r)
+mark-long r s = let n = s .name in let l = s .long in rw length-take (omega arith)
+
+pub field-written : (r : HeldRule) (b m a : List ℕ) (at k n v : ℕ) → length b < 2 ^ 64 → Wrote b m (markOf r) at k → Wrote m a (numberText (subℕ v (r .up))) k n → Wrote b a (fieldText r v) at n
+field-written r b m a at k n v h p q = rw (lowered-sub (r .up) v) (wrote-then b m a _ _ at k n h p q)
+
+-- ---- one more field
+
+-- the first j fields with the rules rs and the held values vs
+abbrev pub fieldsTo : ℕ → List HeldRule → List ℕ → List ℕ
+fieldsTo j rs vs = fieldsText (rulesOf j rs) (loweredAll (upsOf j rs) vs)
+
+fields-snoc : (j : ℕ) (rs : List HeldRule) (vs : List ℕ) → j < length rs → j < length vs → fieldsTo (suc j) rs vs ≡ fieldsTo j rs vs ++ fieldText (getD rs j blankRule) (getD vs j 0)
+unfolding fieldsText loweredAll
+fields-snoc j [] vs h l = absurd (omega arith)
+fields-snoc j (r ∷ rs) [] h l = absurd (omega arith)
+fields-snoc zero (r ∷ rs) (v ∷ vs) h l = rw append-nil
+fields-snoc (suc j) (r ∷ rs) (v ∷ vs) h l = rw (fields-snoc j rs vs (omega arith) (omega arith)) (simp append-assoc)
+
+pub no-field : (rs : List HeldRule) (vs b : List ℕ) (at : ℕ) → at < 2 ^ 64 → Wrote b b (fieldsTo 0 rs vs) at at
+unfolding fieldsText
+no-field rs vs b at h = wrote-none b at (omega arith)
+
+module _ (w : Word) (n j : ℕ) (rs : List HeldRule) (vs : List ℕ) (ok : LayoutOk w n rs) (b a : List ℕ) (at : ℕ) where
+  pub field-more : (m : List ℕ) (k r : ℕ) → length b < 2 ^ 64 → length vs ≡ 4 → j < n → Wrote b m (fieldsTo j rs vs) at k → Wrote m a (fieldText (getD rs j blankRule) (getD vs j 0)) k r → Wrote b a (fieldsTo (j + 1) rs vs) at r
+  field-more m k r f l h p q =
+      let few = ok .few in let all = ok .all in
+      rw (add-one, fields-snoc j rs vs (omega arith) (omega arith)) (wrote-then b m a _ _ at k r f p q)
+
+  pub fields-all : (r : ℕ) → j ≤ n → n ≤ j → Wrote b a (fieldsTo j rs vs) at r → Wrote b a (fieldsText (rules w) (valuesOf w vs)) at r
+  fields-all r f g p = let e : n ≡ j = omega arith in rw (← ok .means, ← ok .above, e) p
