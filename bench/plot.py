@@ -27,7 +27,7 @@ class Scale:
 
     def __init__(self, points):
         xs, ys = zip(*points)
-        self.x0, self.y0 = math.floor(min(xs)), math.floor(min(ys))
+        self.x0, self.y0 = math.floor(min(xs) - 0.3), math.floor(min(ys))
         self.x1, self.y1 = max(self.x0 + 1, math.ceil(max(xs))), max(self.y0 + 1, math.ceil(max(ys)))
         ratios = [y - x for x, y in points]
         self.ratios = range(min(0, math.floor(min(ratios))), max(2, math.ceil(max(ratios))) + 1)
