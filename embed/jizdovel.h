@@ -18,7 +18,7 @@
  *    null, even where the length is 0; `value` points to one number;
  *  - what a function may write (out, slots, positions of a fit, value) overlaps nothing else that
  *    is lent in the same call, and nobody else reads or writes it during the call;
- *  - the stack has room: 2 megabytes are enough by measurement (docs/DECISIONS.md, 54).
+ *  - the stack has room: 2 megabytes are enough, reckoned from measurements (docs/DECISIONS.md, 54).
  * The functions keep no state: calls from several threads with different lists do not disturb each
  * other.
  */
