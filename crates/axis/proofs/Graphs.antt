@@ -154,9 +154,6 @@ module _ (b : Axis) (fine : FineAxis b) where
   pub die-near : Near (slotsFrom dies) (length (macroSlots b)) (suc (length (b .sizes)))
   die-near = record { near = λ y h. macro-near (bare b) fine-bare y (die-list y h) }
 
-  pub macros-near : Near (slotsFrom (macroSlots b)) (length (macroSlots b)) (suc (length (b .sizes)))
-  macros-near = record { near = λ y h. macro-near b fine y (list-holds (macroSlots b) few-macros (length (macroSlots b)) (omega arith) y h) }
-
   pub whole-near : Near (slotsFrom (graphSlots b)) (length (graphSlots b)) (nodeCount b)
   whole-near = record { near = λ y h. near b fine y (list-holds (graphSlots b) (few-slots b fine) (length (graphSlots b)) (omega arith) y h) }
 

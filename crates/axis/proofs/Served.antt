@@ -20,14 +20,14 @@ use Rattle.axis.specs.Limits.{nodeRoom, slotRoom, farthest}
 use Rattle.axis.specs.Graph.{at, Decides, Fine}
 use Rattle.axis.specs.Admit.{target, Free, Refuted, AdmitOk, Wanted}
 use Rattle.axis.specs.Build.{slotsFrom, endsOf, dieGraph, macroGraph, wholeGraph}
-use Rattle.axis.specs.Certify.{Shows, Kept}
+use Rattle.axis.specs.Certify.{Shows}
 use Rattle.axis.specs.Above.{NoneAbove, FirstAbove}
 use Rattle.axis.specs.Service.{MalformedOk, UnsolvableOk}
 use Rattle.axis.proofs.Zeros.{zero-at}
 use Rattle.numbers.proofs.Stores.{sets-append}
 use Rattle.axis.proofs.Accepting.{held-by, failed-by}
 use Rattle.axis.proofs.HeldAxes.{Shaped, length-sizes, length-pairs, length-of-nets, count-of-nets}
-use Rattle.axis.proofs.Graphs.{die-fine, macros-fine, macros-near}
+use Rattle.axis.proofs.Graphs.{die-fine, macros-fine}
 use Rattle.axis.proofs.Admitted.{even, even-free, pairs-wanted, pairs-refuted}
 
 -- ---- the test
@@ -133,16 +133,13 @@ module _ (a : HeldAxis) (sh : Shaped a) (h : Held a) where
           ∙ ap (λ (k : ℕ). record { n = suc (length (axisOf a .sizes)); m = k; slots = all }) (sym m-is)
           ∙ ap (λ (ss : List Slot). record { n = suc (length (axisOf a .sizes)); m = length (macroSlots (axisOf a)); slots = ss }) all-are
 
-      -- ---- proposed values, and a proposed chain
+      -- ---- a proposed chain
 
       abbrev macros : Graph
       macros = record { n = a .n + 1; m = 2 * a .n + a .p; slots = all }
 
       pub all-fine : Fine (record { n = a .n + 1; m = 2 * a .n + a .p; slots = all })
       all-fine = subst Fine (sym macro-graph) (macros-fine (axisOf a) (h .fine))
-
-      pub values-free : (x : List ℕ) (b : Bool) → Shows b (Kept (record { n = a .n + 1; m = 2 * a .n + a .p; slots = all }) x) → b ≡ true → Free (macroGraph (axisOf a)) x
-      values-free x b s e = let k = subst (λ (g : Graph). Kept g x) macro-graph (s .shown e) in record { holds = k .holds; low = k .low; near = macros-near (axisOf a) (h .fine) }
 
       refused : (f : List ℕ) → Refuted macros f → UnsolvableOk a (replicate 8 0) f
       refused f r =

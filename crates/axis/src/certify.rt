@@ -4,11 +4,11 @@
 // every node has a parent before it in some order from node 0: by a tight slot forwards, or by one that carries backwards. A closed
 // chain whose pluses outweigh its minuses shows that no values keep the bounds.
 use crate::above::first_above;
-use crate::arrays::NODES;
-use crate::arrays::WAYS;
 use crate::graph::Graph;
 use crate::graph::NODE_ROOM;
 use crate::graph::SLOT_ROOM;
+use crate::propose::NODES;
+use crate::propose::WAYS;
 use crate::solve::NET_ROOM;
 use crate::solve::Span;
 use bounds::Slot;

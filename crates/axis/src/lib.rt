@@ -7,22 +7,21 @@
 // sends a net's weight from its lower to its upper node along slots that are tight; `solve` does so for every net and makes
 // the values the smallest. All of them grow a set of nodes along tight slots (`growth`) and push amounts along it (`push`).
 //
-// That way is sure but slow. `propose` makes an answer faster, with cheapest ways in plain arrays (`paths`, `arrays`), of which
-// nothing is proved but that it ends; `certify` tests what was proposed, and what fails the test is done the sure way.
+// That way is sure but slow. `propose` has an answer from the fast fit of half_fit, over the arrays of `tables`, and writes it slot
+// by slot; nothing is proved of that but that it ends. `certify` tests what was proposed, and what fails the test is done the sure way.
 //
 // `accept`, `certify` and `service` look for an entry above a limit with `above`.
 mod above;
 mod accept;
 mod admit;
-mod arrays;
 mod build;
 mod certify;
 mod drain;
 mod graph;
 mod growth;
-mod paths;
 mod propose;
 mod push;
 pub mod service;
 mod solve;
 mod start;
+mod tables;

@@ -1,496 +1,389 @@
-// Proposed answers: values of the nodes, amounts on the slots, and the tree of parents that `certify` tests.
+// Proposed answers: values of the nodes, amounts on the slots, and the tree of parents that `certify` tests; or a closed chain.
 //
-// Nothing is promised of a proposal but that it is made: every loop has a budget. Values for the pairs are raised until every bound
-// holds, or else the parents close a chain. Then every net in turn sends its weight along cheapest augmenting paths, and at last the
-// values are made the smallest.
-use crate::arrays::BIAS;
-use crate::arrays::ENDS;
-use crate::arrays::LINKS;
-use crate::arrays::NO_SLOT;
-use crate::arrays::NODES;
-use crate::arrays::SLOTS;
-use crate::arrays::WAYS;
-use crate::arrays::add_pin;
-use crate::arrays::amount;
-use crate::arrays::cell;
-use crate::arrays::head_of;
-use crate::arrays::less;
-use crate::arrays::parent_of;
-use crate::arrays::pin_slot;
-use crate::arrays::plus;
-use crate::arrays::set_amount;
-use crate::arrays::set_cell;
-use crate::arrays::set_ends;
-use crate::arrays::set_parent;
-use crate::arrays::set_pins;
-use crate::arrays::set_value;
-use crate::arrays::tail_of;
-use crate::arrays::value;
-use crate::graph::Graph;
+// The fast fit of one direction (crate half_fit) makes them, on bounds between nine nodes and on entries in place of pins (`tables`).
+// Here its state is written out slot by slot: what a bound carries goes to the slot that has it, what an entry carries to a pin at its
+// greatest or least place. Nothing is promised of a proposal but that it is made.
 use crate::graph::NODE_ROOM;
 use crate::graph::SLOT_ROOM;
-use crate::paths::NO_NODE;
-use crate::paths::UNREACHED;
-use crate::paths::from_lo;
-use crate::paths::search;
-use bounds::AxisNet;
+use crate::tables::ARCS;
+use crate::tables::BIAS;
+use crate::tables::LOW;
+use crate::tables::PICKS;
+use crate::tables::TAB;
+use crate::tables::cell;
+use crate::tables::part;
+use crate::tables::put_die;
+use crate::tables::put_letters;
+use crate::tables::put_tables;
+use crate::tables::wide;
+use bounds::Axis;
+use half_fit::service::HalfOutcome;
+use half_fit::service::first_half;
+use std::num::wrapping_add_u32;
 
-// The most augmenting paths of a net.
-const PATHS: usize = 1000;
+// Where the ranks begin behind the parents, and the end of both.
+pub(crate) const NODES: usize = 128;
 
-// Where all values start.
+pub(crate) const WAYS: usize = 256;
+
+// The numbers of a pool, of which the first 1,024 are a state.
+const POOL: usize = 4096;
+
+// The parts of a state that are read: how residual bounds arise, what bounds carry, what entries carry to hi and from lo, and the
+// values, with the parents and the ranks behind them.
+const V: usize = 1;
+
+const F: usize = 3;
+
+const H: usize = 4;
+
+const L: usize = 5;
+
+const X: usize = 6;
+
+// How a residual bound arises: the bound, the bound of the other way, two entries with hi, or with lo.
+const FWD: u32 = 0;
+
+const REV: u32 = 65536;
+
+const LO: u32 = 196608;
+
+// More than any length.
+const ROOM: u64 = 4000000000;
+
+// The value of node 0.
 const START: u64 = 250000;
 
-// Values x for the slots of macros and pairs, or where there are none the amounts f of a closed chain.
-pub(crate) struct Values {
-    pub x: [u64; NODE_ROOM],
-    pub f: [u64; SLOT_ROOM],
-}
+// Above all places.
+const FAR: u32 = 1000000;
 
-// Values, amounts, and the parents and ranks of the nodes.
-pub(crate) struct Answer {
+// Values x, amounts f, and `way`: for each node its parent slot, then its rank. Where nothing fits, f is a chain.
+pub(crate) struct Proposal {
+    pub fits: bool,
     pub x: [u64; NODE_ROOM],
     pub f: [u64; SLOT_ROOM],
     pub way: [usize; WAYS],
 }
 
-// The ends and the gaps of the slots.
-fn copy_slots(g: Graph, ends: &mut [usize; ENDS], gap: &mut [u64; SLOTS]) {
-    let slots = g.slots;
-    let m = g.m;
-    let mut s: usize = 0;
-    while s < SLOT_ROOM {
-        if m <= s {
-            return;
-        }
-        let e = slots[s];
-        set_ends(ends, s, e.tail, e.head);
-        set_amount(gap, s, less(plus(e.plus, BIAS), e.minus));
-        s += 1;
-    }
+// Number k of part p of the state.
+fn get(st: &[u32; POOL], p: usize, k: usize) -> u32 {
+    st[p % 8 * 128 + k % 128]
 }
 
-// Of the first m slots those of greatest gap between their ends.
-fn fill_cells(ends: &[usize; ENDS], gap: &[u64; SLOTS], m: usize, links: &mut [usize; LINKS]) {
-    let mut s: usize = 0;
-    while s < m {
-        let u = tail_of(ends, s);
-        let v = head_of(ends, s);
-        if amount(gap, cell(links, u, v)) < amount(gap, s) {
-            set_cell(links, u, v, s);
-        }
-        s += 1;
-    }
+fn parent_of(st: &[u32; POOL], v: usize) -> usize {
+    wide(get(st, X, 32 + v % 16))
 }
 
-// The values and amounts as a graph has them.
-fn nodes_of(x: &[u64; NODES]) -> [u64; NODE_ROOM] {
-    let mut y = [0u64; NODE_ROOM];
-    let mut k: usize = 0;
-    while k < NODE_ROOM {
-        y[k] = value(x, k);
-        k += 1;
-    }
-    y
+fn rank_of(st: &[u32; POOL], v: usize) -> usize {
+    wide(get(st, X, 48 + v % 16))
 }
 
-fn slots_of(f: &[u64; SLOTS]) -> [u64; SLOT_ROOM] {
-    let mut h = [0u64; SLOT_ROOM];
-    let mut s: usize = 0;
-    while s < SLOT_ROOM {
-        h[s] = amount(f, s);
-        s += 1;
-    }
-    h
+// Place p of entry e.
+fn place(tab: &[u32; TAB], st: &[u32; POOL], p: usize, e: usize) -> u32 {
+    wrapping_add_u32(get(st, X, wide(part(tab, 0, e)) % 16), part(tab, p, e))
 }
 
-// ---- values for the pairs
-
-// Where the bound of greatest gap from u to v does not hold, v is raised. Whether it was.
-fn raise_to(
-    links: &[usize; LINKS],
-    gap: &[u64; SLOTS],
-    u: usize,
-    v: usize,
-    x: &mut [u64; NODES],
-    way: &mut [usize; WAYS],
-) -> bool {
-    let s = cell(links, u, v);
-    if s == NO_SLOT {
-        return false;
-    }
-    let y = plus(value(x, u), amount(gap, s));
-    if y <= plus(value(x, v), BIAS) {
-        return false;
-    }
-    set_value(x, v, less(y, BIAS));
-    set_parent(way, v, s);
-    true
+fn put_amount(f: &mut [u64; SLOT_ROOM], s: usize, a: u32) {
+    f[s % SLOT_ROOM] = a as u64;
 }
 
-// One pass over all bounds. The last node that was raised, or NO_NODE.
-fn raise_once(
-    links: &[usize; LINKS],
-    gap: &[u64; SLOTS],
-    x: &mut [u64; NODES],
-    way: &mut [usize; WAYS],
-) -> usize {
-    let mut last = NO_NODE;
+// The slot that has the bound from u to v.
+fn slot_of(by: &[usize; ARCS], u: usize, v: usize) -> usize {
+    by[cell(u, v) % ARCS]
+}
+
+// The slot to hi of entry e, where the pins' slots begin at `lane`.
+fn hi_slot(picks: &[u32; PICKS], lane: usize, e: usize) -> usize {
+    lane % 1024 + 2 * (wide(picks[e % 128]) % 128)
+}
+
+// The slot from lo of entry e.
+fn lo_slot(picks: &[u32; PICKS], lane: usize, e: usize) -> usize {
+    lane % 1024 + 2 * (wide(picks[128 + e % 128]) % 128) + 1
+}
+
+// ---- amounts
+
+fn put_flows(by: &[usize; ARCS], st: &[u32; POOL], f: &mut [u64; SLOT_ROOM]) {
     let mut c: usize = 0;
     while c < 81 {
-        let v = c % 9;
-        if raise_to(links, gap, c / 9, v, x, way) {
-            last = v;
+        let a = get(st, F, c);
+        if 0 < a {
+            put_amount(f, by[c], a);
         }
         c += 1;
     }
-    last
 }
 
-// Passes until nothing is raised, 11 at most. The last node that was raised in the last, or NO_NODE.
-fn raise_all(
-    links: &[usize; LINKS],
-    gap: &[u64; SLOTS],
-    x: &mut [u64; NODES],
-    way: &mut [usize; WAYS],
+fn put_entries(
+    tab: &[u32; TAB],
+    picks: &[u32; PICKS],
+    st: &[u32; POOL],
+    lane: usize,
+    f: &mut [u64; SLOT_ROOM],
+) {
+    let count = wide(part(tab, 7, 2));
+    let mut e: usize = 0;
+    while e < count {
+        put_amount(f, hi_slot(picks, lane, e), get(st, H, e));
+        put_amount(f, lo_slot(picks, lane, e), get(st, L, e));
+        e += 1;
+    }
+}
+
+// ---- values, parents and ranks
+
+fn put_value(x: &mut [u64; NODE_ROOM], k: usize, y: u32, down: u64) {
+    x[k % NODE_ROOM] = START + y as u64 - down % 65536;
+}
+
+fn put_tie(way: &mut [usize; WAYS], k: usize, s: usize, r: usize) {
+    way[k % NODES] = s;
+    way[NODES + k % NODES] = r;
+}
+
+// The slot by which macro v hangs on its parent, or on the hi or lo between them.
+fn tie_slot(
+    by: &[usize; ARCS],
+    picks: &[u32; PICKS],
+    st: &[u32; POOL],
+    lane: usize,
+    v: usize,
 ) -> usize {
-    let mut last: usize = 0;
-    let mut turn: usize = 0;
-    while turn < 11 {
-        last = raise_once(links, gap, x, way);
-        if last == NO_NODE {
-            return NO_NODE;
-        }
-        turn += 1;
+    let p = parent_of(st, v);
+    let how = get(st, V, cell(p, v));
+    if how == FWD {
+        return slot_of(by, p, v);
     }
-    last
+    if how == REV {
+        return slot_of(by, v, p);
+    }
+    if how < LO {
+        return hi_slot(picks, lane, wide(how));
+    }
+    lo_slot(picks, lane, wide(how))
 }
 
-// The node that is ten parents before v.
-fn far_back(ends: &[usize; ENDS], way: &[usize; WAYS], v: usize) -> usize {
-    let mut k = v;
-    let mut turn: usize = 0;
-    while turn < 10 {
-        k = tail_of(ends, parent_of(way, k));
-        turn += 1;
-    }
-    k
-}
-
-// The slots of the closed chain of parents through v carry 1.
-fn mark_chain(ends: &[usize; ENDS], way: &[usize; WAYS], v: usize, f: &mut [u64; SLOTS]) {
-    let mut k = v;
-    let mut turn: usize = 0;
-    while turn < 10 {
-        let s = parent_of(way, k);
-        set_amount(f, s, 1);
-        k = tail_of(ends, s);
-        if k == v {
-            return;
-        }
-        turn += 1;
-    }
-}
-
-// Values for the slots of macros and pairs, or a chain.
-pub(crate) fn propose_values(g: Graph) -> Values {
-    let mut ends = [0usize; ENDS];
-    let mut gap = [0u64; SLOTS];
-    let mut links = [NO_SLOT; LINKS];
-    let mut way = [NO_SLOT; WAYS];
-    let mut x = [START; NODES];
-    let mut f = [0u64; SLOTS];
-    copy_slots(g, &mut ends, &mut gap);
-    fill_cells(&ends, &gap, g.m, &mut links);
-    let last = raise_all(&links, &gap, &mut x, &mut way);
-    if last != NO_NODE {
-        let v = far_back(&ends, &way, last);
-        mark_chain(&ends, &way, v, &mut f);
-    }
-    Values {
-        x: nodes_of(&x),
-        f: slots_of(&f),
+// The die corner and n macros.
+fn put_macros(
+    by: &[usize; ARCS],
+    picks: &[u32; PICKS],
+    st: &[u32; POOL],
+    lane: usize,
+    n: usize,
+    x: &mut [u64; NODE_ROOM],
+    way: &mut [usize; WAYS],
+) {
+    put_value(x, 0, 0, 0);
+    let mut v: usize = 0;
+    while v < n {
+        v += 1;
+        put_value(x, v, get(st, X, v % 16), 0);
+        put_tie(
+            way,
+            v,
+            tie_slot(by, picks, st, lane, v),
+            rank_of(st, v) % 16 * 2,
+        );
     }
 }
 
-// ---- the nets' weights
-
-// The values of the nodes nearer than d are raised by what they are nearer.
-fn lift(x: &mut [u64; NODES], dist: &[u64; NODES], d: u64) {
-    let mut k: usize = 0;
-    while k < NODE_ROOM {
-        let e = value(dist, k);
-        if e < d {
-            set_value(x, k, plus(value(x, k), d - e));
-        }
-        k += 1;
-    }
-}
-
-// What can be pushed along the parents of hi back to lo, r at most; 0: the parents do not lead there.
-fn narrowest(
-    ends: &[usize; ENDS],
-    f: &[u64; SLOTS],
-    way: &[usize; WAYS],
-    lo: usize,
+// The hi of net j at the greatest place, on the entry there whose node has the lowest rank.
+fn put_hi(
+    tab: &[u32; TAB],
+    picks: &[u32; PICKS],
+    st: &[u32; POOL],
+    lane: usize,
+    base: u64,
+    j: usize,
     hi: usize,
-    r: u64,
-) -> u64 {
-    let mut q = r;
-    let mut k = hi;
-    let mut turn: usize = 0;
-    while turn < NODE_ROOM {
-        if k == lo {
-            return q;
+    x: &mut [u64; NODE_ROOM],
+    way: &mut [usize; WAYS],
+) {
+    let to = wide(part(tab, 4, j % 64 + 1));
+    let mut e = wide(part(tab, 4, j));
+    let mut at = e;
+    let mut high: u32 = 0;
+    let mut rank = NODES;
+    while e < to {
+        let y = place(tab, st, 1, e);
+        let r = rank_of(st, wide(part(tab, 0, e)));
+        if high < y {
+            high = y;
+            rank = NODES;
         }
-        let s = parent_of(way, k);
-        let t = tail_of(ends, s);
-        if t == k {
-            let a = amount(f, s);
-            if a < q {
-                q = a;
+        if high == y {
+            if r < rank {
+                rank = r;
+                at = e;
             }
-            k = head_of(ends, s);
-        } else {
-            k = t;
         }
-        turn += 1;
+        e += 1;
     }
-    0
+    put_value(x, hi, high, base);
+    put_tie(way, hi, hi_slot(picks, lane, at), rank % 16 * 2 + 1);
 }
 
-// q more along the parents of hi back to lo.
-fn carry(
-    ends: &[usize; ENDS],
-    way: &[usize; WAYS],
+// The lo of net j at the least place, on the entry that carries whose node has the lowest rank.
+fn put_lo(
+    tab: &[u32; TAB],
+    picks: &[u32; PICKS],
+    st: &[u32; POOL],
+    lane: usize,
+    base: u64,
+    j: usize,
     lo: usize,
-    hi: usize,
-    q: u64,
-    f: &mut [u64; SLOTS],
+    x: &mut [u64; NODE_ROOM],
+    way: &mut [usize; WAYS],
 ) {
-    let mut k = hi;
-    let mut turn: usize = 0;
-    while turn < NODE_ROOM {
-        if k == lo {
-            return;
-        }
-        let s = parent_of(way, k);
-        let t = tail_of(ends, s);
-        let a = amount(f, s);
-        if t == k {
-            set_amount(f, s, less(a, q));
-            k = head_of(ends, s);
-        } else {
-            set_amount(f, s, plus(a, q));
-            k = t;
-        }
-        turn += 1;
-    }
-}
-
-// One augmenting path from the lo after hi to hi; r: what is still to be pushed. What was pushed.
-fn augment(
-    ends: &[usize; ENDS],
-    links: &[usize; LINKS],
-    gap: &[u64; SLOTS],
-    lane: usize,
-    hi: usize,
-    r: u64,
-    x: &mut [u64; NODES],
-    f: &mut [u64; SLOTS],
-) -> u64 {
-    let mut dist = [UNREACHED; NODES];
-    let mut way = [0usize; WAYS];
-    let lo = hi % NODES + 1;
-    set_value(&mut dist, lo, 0);
-    from_lo(ends, links, gap, x, lane, hi, 0, &mut dist, &mut way);
-    search(ends, links, gap, x, f, lane, hi, &mut dist, &mut way);
-    let d = value(&dist, hi);
-    if d == UNREACHED {
-        return 0;
-    }
-    lift(x, &dist, d);
-    let q = narrowest(ends, f, &way, lo, hi, r);
-    carry(ends, &way, lo, hi, q, f);
-    q
-}
-
-// The weight of the net of hi, path by path.
-fn send(
-    ends: &[usize; ENDS],
-    links: &[usize; LINKS],
-    gap: &[u64; SLOTS],
-    lane: usize,
-    hi: usize,
-    weight: u64,
-    x: &mut [u64; NODES],
-    f: &mut [u64; SLOTS],
-) {
-    let mut r = weight;
-    let mut turn: usize = 0;
-    while turn < PATHS {
-        if r == 0 {
-            return;
-        }
-        let q = augment(ends, links, gap, lane, hi, r, x, f);
-        if q == 0 {
-            return;
-        }
-        r = less(r, q);
-        turn += 1;
-    }
-}
-
-// The pins between two places enter as those of the net of hi: its hi and lo at the greatest and the least of their places.
-fn enter(
-    ends: &[usize; ENDS],
-    gap: &[u64; SLOTS],
-    lane: usize,
-    from: usize,
-    to: usize,
-    hi: usize,
-    links: &mut [usize; LINKS],
-    x: &mut [u64; NODES],
-) {
-    let mut top: u64 = 0;
-    let mut low = UNREACHED;
-    let mut i = from;
-    while i < to {
-        let s = pin_slot(lane, i);
-        let u = tail_of(ends, s);
-        let y = plus(value(x, u), amount(gap, s));
-        if top < y {
-            top = y;
-        }
+    let to = wide(part(tab, 4, j % 64 + 1));
+    let mut e = wide(part(tab, 4, j));
+    let mut at = e;
+    let mut low = FAR;
+    let mut rank = NODES;
+    while e < to {
+        let y = place(tab, st, 2, e);
+        let r = rank_of(st, wide(part(tab, 0, e)));
         if y < low {
             low = y;
         }
-        add_pin(links, u, i);
-        i += 1;
+        if 0 < get(st, L, e) {
+            if r < rank {
+                rank = r;
+                at = e;
+            }
+        }
+        e += 1;
     }
-    set_pins(links, hi, from, to);
-    set_value(x, hi, less(top, BIAS));
-    set_value(x, hi % NODES + 1, less(low, BIAS));
+    put_value(x, lo, low, base);
+    put_tie(way, lo, lo_slot(picks, lane, at), rank % 16 * 2 + 1);
 }
 
-// Every net in turn enters and sends its weight; hi: that of the first net.
-fn send_all(
-    ends: &[usize; ENDS],
-    gap: &[u64; SLOTS],
-    nets: [AxisNet; 32],
-    t: usize,
+// The ends of t nets behind n macros.
+fn put_spans(
+    tab: &[u32; TAB],
+    picks: &[u32; PICKS],
+    st: &[u32; POOL],
     lane: usize,
+    base: u64,
     n: usize,
-    links: &mut [usize; LINKS],
-    x: &mut [u64; NODES],
-    f: &mut [u64; SLOTS],
+    t: usize,
+    x: &mut [u64; NODE_ROOM],
+    way: &mut [usize; WAYS],
 ) {
-    let mut from: usize = 0;
     let mut j: usize = 0;
     while j < 32 {
         if t <= j {
             return;
         }
-        let k = nets[j];
-        let to = from % 1024 + k.pins % 1024;
         let hi = n % 16 + 1 + 2 * j;
-        enter(ends, gap, lane, from, to, hi, links, x);
-        send(ends, links, gap, lane, hi, k.weight, x, f);
-        from = to;
+        put_hi(tab, picks, st, lane, base, j, hi, x, way);
+        put_lo(tab, picks, st, lane, base, j, hi + 1, x, way);
         j += 1;
     }
 }
 
-// ---- the smallest of the least values
+// ---- no fit
 
-// The greatest distance.
-fn farthest(dist: &[u64; NODES]) -> u64 {
-    let mut d: u64 = 0;
-    let mut k: usize = 0;
-    while k < NODE_ROOM {
-        let e = value(dist, k);
-        if e < UNREACHED {
-            if d < e {
-                d = e;
-            }
+// The node that is nine parents before a.
+fn far_back(st: &[u32; POOL], a: usize) -> usize {
+    let mut w = a;
+    let mut turn: usize = 0;
+    while turn < 9 {
+        w = parent_of(st, w);
+        turn += 1;
+    }
+    w
+}
+
+// Whether the parents from node a back to it close a chain above 0.
+fn closes(arcs: &[u32; ARCS], st: &[u32; POOL], a: usize) -> bool {
+    let mut sum: u32 = 0;
+    let mut zero: u32 = 0;
+    let mut w = a;
+    let mut turn: usize = 0;
+    while turn < 9 {
+        let p = parent_of(st, w);
+        sum = wrapping_add_u32(sum, arcs[cell(p, w) % ARCS]);
+        zero = wrapping_add_u32(zero, BIAS);
+        if p == a {
+            return zero < sum;
         }
-        k += 1;
+        w = p;
+        turn += 1;
     }
-    d
+    false
 }
 
-// All values moved together, so that node 0 has START.
-fn centre(x: &mut [u64; NODES]) {
-    let base = value(x, 0);
-    let mut k: usize = 0;
-    while k < NODES {
-        set_value(x, k, less(plus(value(x, k), START), base));
-        k += 1;
+// A node on a closed chain of parents above 0, if there is one.
+fn on_chain(arcs: &[u32; ARCS], st: &[u32; POOL]) -> usize {
+    let mut a: usize = 0;
+    while a < 9 {
+        let b = far_back(st, a);
+        if closes(arcs, st, b) {
+            return b;
+        }
+        a += 1;
+    }
+    0
+}
+
+// The slots of the chain of parents from a back to it carry 1.
+fn put_chain(by: &[usize; ARCS], st: &[u32; POOL], a: usize, f: &mut [u64; SLOT_ROOM]) {
+    let mut w = a;
+    let mut turn: usize = 0;
+    while turn < 9 {
+        let p = parent_of(st, w);
+        put_amount(f, slot_of(by, p, w), 1);
+        if p == a {
+            return;
+        }
+        w = p;
+        turn += 1;
     }
 }
 
-// From node 0 as far as its distances allow.
-fn settle(
-    ends: &[usize; ENDS],
-    links: &[usize; LINKS],
-    gap: &[u64; SLOTS],
-    f: &[u64; SLOTS],
-    lane: usize,
-    x: &mut [u64; NODES],
-    way: &mut [usize; WAYS],
-) {
-    let mut dist = [UNREACHED; NODES];
-    set_value(&mut dist, 0, 0);
-    search(ends, links, gap, x, f, lane, NO_NODE, &mut dist, way);
-    let d = farthest(&dist);
-    lift(x, &dist, d);
-    centre(x);
+// ---- the proposal
+
+// Whether the fast fit of the tables and the bounds finds a fit; its state.
+fn fit(tab: &[u32; TAB], arcs: &[u32; ARCS], st: &mut [u32; POOL]) -> bool {
+    let mut help = [0u32; 4352];
+    let r = first_half(tab, &mut help, arcs, st, 0, ROOM);
+    let outcome = r.outcome;
+    let HalfOutcome::Fit(l) = outcome else {
+        return false;
+    };
+    true
 }
 
-// The values of a graph's nodes, as the arrays have them.
-fn values_of(y: [u64; NODE_ROOM]) -> [u64; NODES] {
-    let mut x = [START; NODES];
-    let mut k: usize = 0;
-    while k < NODE_ROOM {
-        x[k] = y[k];
-        k += 1;
-    }
-    x
-}
-
-// No pins yet, and no slots between two nodes.
-fn no_links() -> [usize; LINKS] {
-    let mut links = [NO_SLOT; LINKS];
-    let mut i: usize = 0;
-    while i < 512 {
-        links[i] = 0;
-        i += 1;
-    }
-    links
-}
-
-// An answer for the whole graph of n macros, with m slots of macros and pairs, from values that keep these.
-pub(crate) fn propose_answer(
-    g: Graph,
-    n: usize,
-    m: usize,
-    y: [u64; NODE_ROOM],
-    nets: [AxisNet; 32],
-    t: usize,
-) -> Answer {
-    let mut ends = [0usize; ENDS];
-    let mut gap = [0u64; SLOTS];
-    let mut links = no_links();
+// An answer for the whole graph, or a chain on the slots of macros and pairs.
+pub(crate) fn propose(a: Axis) -> Proposal {
+    let mut arcs = [LOW; ARCS];
+    let mut by = [0usize; ARCS];
+    let mut tab = [0u32; TAB];
+    let mut picks = [0u32; PICKS];
+    let mut st = [0u32; POOL];
+    let mut x = [0u64; NODE_ROOM];
+    let mut f = [0u64; SLOT_ROOM];
     let mut way = [0usize; WAYS];
-    let mut x = values_of(y);
-    let mut f = [0u64; SLOTS];
-    copy_slots(g, &mut ends, &mut gap);
-    fill_cells(&ends, &gap, m, &mut links);
-    send_all(&ends, &gap, nets, t, m, n, &mut links, &mut x, &mut f);
-    settle(&ends, &links, &gap, &f, m, &mut x, &mut way);
-    Answer {
-        x: nodes_of(&x),
-        f: slots_of(&f),
-        way,
+    let n = a.n;
+    let from = 2 * (n % 16);
+    let lane = from + a.p % 1024;
+    let sizes = a.sizes;
+    let pairs = a.pairs;
+    let nets = a.nets;
+    let pins = a.pins;
+    put_die(&mut arcs, &mut by, a.side, sizes, n);
+    put_letters(&mut arcs, &mut by, pairs, a.p, from);
+    put_tables(&mut tab, &mut picks, nets, pins, a.t, n);
+    let fits = fit(&tab, &arcs, &mut st);
+    if fits {
+        put_flows(&by, &st, &mut f);
+        put_entries(&tab, &picks, &st, lane, &mut f);
+        put_macros(&by, &picks, &st, lane, n, &mut x, &mut way);
+        put_spans(&tab, &picks, &st, lane, a.base, n, a.t, &mut x, &mut way);
+    } else {
+        put_chain(&by, &st, on_chain(&arcs, &st), &mut f);
     }
+    Proposal { fits, x, f, way }
 }

@@ -1,8 +1,8 @@
 // Solving an axis that is held as a value.
 //
-// An axis beyond the limits is malformed. A macro larger than the die has no place. Then values for the bounds of macros and pairs
-// are proposed, or a chain that refutes them, and with the nets' slots an answer of least length and smallest coordinates. What does
-// not pass its test is done again, the pairs' bounds added one after the other and the nets' weights sent growth by growth.
+// An axis beyond the limits is malformed. A macro larger than the die has no place. Then an answer of least length and smallest
+// coordinates is proposed, or a chain that refutes the bounds of macros and pairs. What does not pass its test is done again, the
+// pairs' bounds added one after the other and the nets' weights sent growth by growth.
 use crate::above::first_above;
 use crate::accept::is_held;
 use crate::admit::admit_all;
@@ -14,23 +14,20 @@ use crate::build::put_sizes;
 use crate::build::spans;
 use crate::certify::certified;
 use crate::certify::is_chain;
-use crate::certify::keeps_all;
 use crate::graph::Graph;
 use crate::graph::NODE_ROOM;
 use crate::graph::SLOT_ROOM;
 use crate::growth::FARTHEST;
 use crate::growth::rebase;
-use crate::propose::propose_answer;
-use crate::propose::propose_values;
-use crate::solve::NET_ROOM;
-use crate::solve::Span;
+use crate::propose::Proposal;
+use crate::propose::propose;
 use crate::solve::solve_axis;
 use crate::start::coordinates;
 use crate::start::start_values;
 use bounds::Axis;
 use bounds::Slot;
 ghost use mathlib.Core.Path.{_≡_};
-ghost use Prim.Native.Nat.{_*_, _<_};
+ghost use Prim.Native.Nat.{_<_};
 ghost use lib.ListN.{take, replicate};
 ghost use lib.Seq.{sets};
 ghost use Rattle.bounds.specs.Axis.{axisOf, noSlot};
@@ -39,7 +36,7 @@ ghost use Rattle.bounds.specs.Graph.{macroSlots};
 ghost use Rattle.bounds.specs.Held.{Held};
 ghost use Rattle.axis.specs.Admit.{Free};
 ghost use Rattle.axis.specs.Limits.{slotRoom};
-ghost use Rattle.axis.specs.Build.{slotsFrom, macroGraph, wholeGraph, SpansTo};
+ghost use Rattle.axis.specs.Build.{slotsFrom, macroGraph, wholeGraph};
 ghost use Rattle.axis.specs.Above.{NoneAbove, FirstAbove};
 ghost use Rattle.axis.specs.Service.{SolutionOk};
 
@@ -57,14 +54,39 @@ pub struct Solution {
     pub amounts: [u64; SLOT_ROOM],
 }
 
-// The whole graph, from the slots of macros and pairs.
-fn whole_graph(a: Axis, ss: [Slot; SLOT_ROOM]) -> Graph
+// The slots of the macros.
+fn die_slots(a: Axis) -> [Slot; SLOT_ROOM]
     requires { ⌜ Held a ⌝ }
-    requires { ⌜ ss ≡ slotsFrom (macroSlots (axisOf a)) ⌝ }
+    ensures { λ r. ⌜ r ≡ sets (replicate slotRoom noSlot) 0 (dieSlots (a .side) 1 (take (a .n) (a .sizes))) ⌝ }
+{
+    let none = [Slot {
+        tail: 0,
+        head: 0,
+        plus: 0,
+        minus: 0,
+    }; SLOT_ROOM];
+    let sizes = a.sizes;
+    put_sizes(none, a.side, sizes, a.n)
+}
+
+// The slots of the macros and the pairs.
+fn macro_slots(a: Axis) -> [Slot; SLOT_ROOM]
+    requires { ⌜ Held a ⌝ }
+    ensures { λ r. ⌜ r ≡ slotsFrom (macroSlots (axisOf a)) ⌝ }
+{
+    let pairs = a.pairs;
+    let die = die_slots(a);
+    put_pairs(die, 2 * a.n, pairs, a.p)
+}
+
+// The whole graph.
+fn whole_graph(a: Axis) -> Graph
+    requires { ⌜ Held a ⌝ }
     ensures { λ r. ⌜ r ≡ wholeGraph (axisOf a) ⌝ }
 {
     let nets = a.nets;
     let pins = a.pins;
+    let ss = macro_slots(a);
     let c = count_pins(nets, a.t);
     let at = 2 * a.n + a.p;
     let end = at + 2 * c;
@@ -78,15 +100,15 @@ fn whole_graph(a: Axis, ss: [Slot; SLOT_ROOM]) -> Graph
 }
 
 // The nets by the solver that is sure to find the answer, from values that keep the slots of macros and pairs.
-fn drain_nets(a: Axis, g: Graph, e: [Span; NET_ROOM], x: [u64; NODE_ROOM]) -> Solution
+fn drain_nets(a: Axis, x: [u64; NODE_ROOM]) -> Solution
     requires { ⌜ Held a ⌝ }
-    requires { ⌜ g ≡ wholeGraph (axisOf a) ⌝ }
-    requires { ⌜ SpansTo (a .n) (a .nets) (a .t) e ⌝ }
     requires { ⌜ Free (macroGraph (axisOf a)) x ⌝ }
     ensures { λ r. ⌜ SolutionOk a (r .verdict) (r .at) (r .amounts) ⌝ }
 {
     let nets = a.nets;
     let pins = a.pins;
+    let g = whole_graph(a);
+    let e = spans(a.n, nets, a.t);
     let y = rebase(x, a.n + 1);
     let z = start_values(y, a.n, a.base, nets, pins, a.t);
     let r = solve_axis(g, z, e, a.t);
@@ -100,42 +122,17 @@ fn drain_nets(a: Axis, g: Graph, e: [Span; NET_ROOM], x: [u64; NODE_ROOM]) -> So
     }
 }
 
-// The nets, from the slots of macros and pairs and values that keep them: a proposed answer that passes the test, or else the
-// solver's.
-fn solve_nets(a: Axis, ss: [Slot; SLOT_ROOM], x: [u64; NODE_ROOM]) -> Solution
-    requires { ⌜ Held a ⌝ }
-    requires { ⌜ ss ≡ slotsFrom (macroSlots (axisOf a)) ⌝ }
-    requires { ⌜ Free (macroGraph (axisOf a)) x ⌝ }
-    ensures { λ r. ⌜ SolutionOk a (r .verdict) (r .at) (r .amounts) ⌝ }
-{
-    let nets = a.nets;
-    let g = whole_graph(a, ss);
-    let e = spans(a.n, nets, a.t);
-    let c = propose_answer(g, a.n, 2 * a.n + a.p, x, nets, a.t);
-    let v = c.x;
-    let f = c.f;
-    let way = c.way;
-    if certified(g, e, a.t, v, f, way) {
-        let at = coordinates(v, a.n);
-        return Solution {
-            verdict: Verdict::Solved,
-            at,
-            amounts: f,
-        };
-    }
-    drain_nets(a, g, e, x)
-}
-
-// The bounds of the pairs added one after the other, from the slots of the macros and all those of macros and pairs.
-fn add_pairs(a: Axis, die: [Slot; SLOT_ROOM], all: [Slot; SLOT_ROOM]) -> Solution
+// The sure way: the bounds of the pairs added one after the other, then the nets.
+fn add_pairs(a: Axis) -> Solution
     requires { ⌜ Held a ⌝ }
     requires { ⌜ NoneAbove (a .side) (a .sizes) (a .n) ⌝ }
-    requires { ⌜ die ≡ sets (replicate slotRoom noSlot) 0 (dieSlots (a .side) 1 (take (a .n) (a .sizes))) ⌝ }
-    requires { ⌜ all ≡ sets die (2 * a .n) (take (a .p) (a .pairs)) ⌝ }
     ensures { λ r. ⌜ SolutionOk a (r .verdict) (r .at) (r .amounts) ⌝ }
 {
+    let pairs = a.pairs;
     let from = 2 * a.n;
     let to = from + a.p;
+    let die = die_slots(a);
+    let all = put_pairs(die, from, pairs, a.p);
     let g = Graph {
         n: a.n + 1,
         m: to,
@@ -147,7 +144,7 @@ fn add_pairs(a: Axis, die: [Slot; SLOT_ROOM], all: [Slot; SLOT_ROOM]) -> Solutio
     let f = s.f;
     let fits = s.fits;
     if fits {
-        return solve_nets(a, all, x);
+        return drain_nets(a, x);
     }
     Solution {
         verdict: Verdict::Unsolvable,
@@ -156,34 +153,44 @@ fn add_pairs(a: Axis, die: [Slot; SLOT_ROOM], all: [Slot; SLOT_ROOM]) -> Solutio
     }
 }
 
-// The pairs, where no macro is larger than the die: proposed values or a proposed chain that pass the test, or else bound by
-// bound.
-fn solve_pairs(a: Axis) -> Solution
+// A proposed answer, if it passes the test, or else the sure one.
+fn judge_fit(a: Axis, c: Proposal) -> Solution
     requires { ⌜ Held a ⌝ }
     requires { ⌜ NoneAbove (a .side) (a .sizes) (a .n) ⌝ }
     ensures { λ r. ⌜ SolutionOk a (r .verdict) (r .at) (r .amounts) ⌝ }
 {
-    let none = [Slot {
-        tail: 0,
-        head: 0,
-        plus: 0,
-        minus: 0,
-    }; SLOT_ROOM];
-    let sizes = a.sizes;
+    let nets = a.nets;
+    let v = c.x;
+    let f = c.f;
+    let way = c.way;
+    let g = whole_graph(a);
+    let e = spans(a.n, nets, a.t);
+    if certified(g, e, a.t, v, f, way) {
+        let at = coordinates(v, a.n);
+        return Solution {
+            verdict: Verdict::Solved,
+            at,
+            amounts: f,
+        };
+    }
+    add_pairs(a)
+}
+
+// A proposed chain that refutes the bounds of macros and pairs, if it passes the test, or else the sure answer.
+fn judge_none(a: Axis, c: Proposal) -> Solution
+    requires { ⌜ Held a ⌝ }
+    requires { ⌜ NoneAbove (a .side) (a .sizes) (a .n) ⌝ }
+    ensures { λ r. ⌜ SolutionOk a (r .verdict) (r .at) (r .amounts) ⌝ }
+{
     let pairs = a.pairs;
-    let die = put_sizes(none, a.side, sizes, a.n);
+    let f = c.f;
+    let die = die_slots(a);
     let all = put_pairs(die, 2 * a.n, pairs, a.p);
     let g = Graph {
         n: a.n + 1,
         m: 2 * a.n + a.p,
         slots: all,
     };
-    let p = propose_values(g);
-    let x = p.x;
-    let f = p.f;
-    if keeps_all(g, x) {
-        return solve_nets(a, all, x);
-    }
     if is_chain(g, f) {
         return Solution {
             verdict: Verdict::Unsolvable,
@@ -191,7 +198,7 @@ fn solve_pairs(a: Axis) -> Solution
             amounts: f,
         };
     }
-    add_pairs(a, die, all)
+    add_pairs(a)
 }
 
 // Macro i is larger than the die: its two slots are a chain.
@@ -228,5 +235,10 @@ pub fn solve(a: Axis) -> Solution
     if i < a.n {
         return too_large(a, i);
     }
-    solve_pairs(a)
+    let c = propose(a);
+    let fits = c.fits;
+    if fits {
+        return judge_fit(a, c);
+    }
+    judge_none(a, c)
 }

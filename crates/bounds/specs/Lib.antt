@@ -3,3 +3,4 @@ pub mod Listed
 pub mod Answer
 pub mod Graph
 pub mod Held
+pub mod Half

@@ -20,7 +20,7 @@ use Rattle.branches.proofs.Unions.{Inside, passes-long, first-same, fir
 use Rattle.branches.proofs.Closing.{legal-inside, branch-inside}
 use Rattle.branches.proofs.Overlaps.{and-both, letters-pairs-long, keeps-set, legal-apart-at}
 
-same-test : (p q : Bool) → (p ≡ true → q ≡ true) → (q ≡ true → p ≡ true) → p ≡ q
+pub same-test : (p q : Bool) → (p ≡ true → q ≡ true) → (q ≡ true → p ≡ true) → p ≡ q
 same-test true q f g = sym (f refl)
 same-test false true f g = g refl
 same-test false false f g = refl
@@ -123,9 +123,13 @@ module _ (c : Chip) where
     unfolding keepsLetters
     dots-kept ps e = and-both (within c ps) (keepsAll c (replicate p dot) (pairs c ps)) (legal-inside c ps e) (dots-all p (pairs c ps) (many ps (passes-long c (legal c) (legal-inside c) ps e)))
 
+    -- with a dot for each pair every legal placement is in the branch
+    pub dots-branch : (ps : List Spot) → legal c ps ≡ true → inBranch c (replicate p dot) ps ≡ true
+    dots-branch ps e = and-both (legal c ps) (keepsLetters c (replicate p dot) ps) e (dots-kept ps e)
+
     -- with a dot for each pair the branch is the whole chip
     pub all-dots : underLetters c (replicate p dot) ≡ earliestLeast c
     unfolding underLetters
     all-dots = first-same c (inBranch c (replicate p dot)) (legal c)
         (λ ps. same-test (inBranch c (replicate p dot) ps) (legal c ps) (and-left (legal c ps) (keepsLetters c (replicate p dot) ps))
-        (λ e. and-both (legal c ps) (keepsLetters c (replicate p dot) ps) e (dots-kept ps e)))
+        (dots-branch ps))

@@ -1,5 +1,4 @@
 pub mod Copies
-pub mod Asking
 pub mod Pairing
 pub mod MadeAxes
 pub mod Leaves

@@ -24,31 +24,9 @@ use Rattle.pairs.specs.Order.{coupleAt, restFrom, OnPair, Ready, First, Next, n
 use Rattle.pairs.proofs.Cursors.{on-near, ready-on}
 use Rattle.pairs.proofs.Stepping.{next-step}
 use Rattle.pairs.proofs.Places.{few-pairs, couple-taken}
-use Rattle.fit.specs.Pairs.{Reached, FineFixes}
-
--- ---- the slot of one pair
-
-module _ (d : Direction) (fixes : List Fix) (at : Cursor) (h : Reached fixes at) (f : at .fix ≡ true) (r : ℕ) where
-  pub corner-small : r ≡ fixCorner d (getD fixes (at .j) blankFix) → r ≤ 1024
-  corner-small e = let v = h .fix f in let q = small d in omega arith
-    where
-      small : (d : Direction) → fixCorner d (getD fixes (at .j) blankFix) ≤ 1023
-      small horizontal = h .fix f .x
-      small vertical = h .fix f .y
-
-  pub side-small : r ≡ fixSide d (getD fixes (at .j) blankFix) → r ≤ 1024
-  side-small e = let q = small d in omega arith
-    where
-      small : (d : Direction) → fixSide d (getD fixes (at .j) blankFix) ≤ 1024
-      small horizontal = h .fix f .w .high
-      small vertical = h .fix f .h .high
-
-module _ (d : Direction) (k : Asked) (macs : List Mac) (fixes : List Fix) (at : Cursor) (r : Slot) (w : ℕ) (ew : w ≡ macSide d (getD macs (at .i) blankMac)) where
-  pub fix-slot : (x v : ℕ) → x ≡ fixCorner d (getD fixes (at .j) blankFix) → v ≡ fixSide d (getD fixes (at .j) blankFix) → at .fix ≡ true → r ≡ fixPair k (at .i + 1) w x v → r ≡ heldSlot d k (coupleAt macs fixes at)
-  fix-slot x v ex ev f e = e ∙ rw (ew, ex, ev, f)
-
-  pub mac-slot : (v : ℕ) → v ≡ macSide d (getD macs (at .j) blankMac) → at .fix ≡ false → r ≡ macPair k (at .i + 1) w (at .j + 1) v → r ≡ heldSlot d k (coupleAt macs fixes at)
-  mac-slot v ev f e = e ∙ rw (ew, ev, f)
+use Rattle.pairslots.specs.Letters.{slotRead, Reached}
+use Rattle.pairslots.proofs.Reading.{slot-read}
+use Rattle.fit.specs.Pairs.{FineFixes}
 
 -- ---- all of them
 
@@ -96,14 +74,14 @@ module _ (d : Direction) (macs : List Mac) (n : ℕ) (fixes : List Fix) (k : ℕ
             let q = length-drop s letters in
             ready-on n k at ms fs macs-long fixes-long (w .ready) (omega arith)
 
-        pub pair-reached : FineFixes k fixes → Reached fixes at
+        pair-reached : FineFixes k fixes → Reached fixes at
         pair-reached v =
             let p = on-near n k at on-pair hn hk in
             record { i = p .0; j = p .1; fix = λ e. v .at (at .j) (on-pair .fixes e .1) }
 
-        pub slot-written : length letters ≡ length (couplesOf ms fs) → (a : Asked) (x : Slot) (r : Cursor) → a ≡ asked d (letterOf (getD letters s 0)) → x ≡ heldSlot d a (coupleAt macs fixes at) → r ≡ nextOf at n k → Written (set pairs s x) r (s + 1)
+        pub slot-written : FineFixes k fixes → length letters ≡ length (couplesOf ms fs) → (a : Asked) (x : Slot) (r : Cursor) → a ≡ asked d (letterOf (getD letters s 0)) → x ≡ slotRead d a macs fixes (at .fix) (at .i) (at .j) → r ≡ nextOf at n k → Written (set pairs s x) r (s + 1)
         unfolding heldSlots
-        slot-written el a x r ea ex er =
+        slot-written v el a x r ea er₀ er =
             let next : Next n k at r = rw er (next-step at n k on-pair) in
             let f = few-letters el s h in
             let l = w .long in
@@ -112,7 +90,7 @@ module _ (d : Direction) (macs : List Mac) (n : ℕ) (fixes : List Fix) (k : ℕ
             let lx = w .left in
             let lm = ap length more in
             let ls = ap length step in
-            let here : x ≡ heldSlot d (asked d (letterOf (getD letters s 0))) (coupleAt ms fs at) = ex ∙ rw (ea, couple-taken macs fixes n k at on-pair) in
+            let here : x ≡ heldSlot d (asked d (letterOf (getD letters s 0))) (coupleAt ms fs at) = er₀ ∙ slot-read d a macs fixes at (pair-reached v) ∙ rw (ea, couple-taken macs fixes n k at on-pair) in
             record {
               long = length-set pairs s x ∙ l;
               ready = next .ready;

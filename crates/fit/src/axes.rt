@@ -1,5 +1,5 @@
 // What a direction reads of a chip, as the axis that the solver takes.
-use crate::pairslots::pair_slots;
+use crate::pairlist::pair_slots;
 use bounds::Axis;
 use bounds::AxisNet;
 use bounds::AxisPin;
@@ -9,51 +9,17 @@ use model::Fix;
 use model::Mac;
 use model::Net;
 use model::Pin;
+use pairslots::die_side;
+use pairslots::mac_side;
 use slots::Direction;
 ghost use mathlib.Core.Path.{_≡_};
 ghost use mathlib.Core.List.{map};
 ghost use lib.ListN.{length};
 ghost use Rattle.model.specs.Meaning.{chipOf};
 ghost use Rattle.chip.specs.Valid.{Fine, Valid};
-ghost use Rattle.slots.specs.Slots.{dieSide, macSide, fixSide, fixCorner};
+ghost use Rattle.slots.specs.Slots.{macSide};
 ghost use Rattle.slots.specs.Fit.{letterCount};
 ghost use Rattle.fit.specs.Axes.{heldUp, heldPin, heldNet, Taken, AxisFor};
-
-pub(crate) fn die_side(die: Die, d: Direction) -> u64
-    ensures { λ r. ⌜ r ≡ dieSide d die ⌝ }
-{
-    match d {
-        Direction::Horizontal => die.w,
-        Direction::Vertical => die.h,
-    }
-}
-
-pub(crate) fn mac_side(m: Mac, d: Direction) -> u64
-    ensures { λ r. ⌜ r ≡ macSide d m ⌝ }
-{
-    match d {
-        Direction::Horizontal => m.w,
-        Direction::Vertical => m.h,
-    }
-}
-
-pub(crate) fn fix_side(f: Fix, d: Direction) -> u64
-    ensures { λ r. ⌜ r ≡ fixSide d f ⌝ }
-{
-    match d {
-        Direction::Horizontal => f.w,
-        Direction::Vertical => f.h,
-    }
-}
-
-pub(crate) fn fix_corner(f: Fix, d: Direction) -> u64
-    ensures { λ r. ⌜ r ≡ fixCorner d f ⌝ }
-{
-    match d {
-        Direction::Horizontal => f.x,
-        Direction::Vertical => f.y,
-    }
-}
 
 // A pin's place, 4,096 higher.
 fn pin_up(p: Pin, d: Direction) -> u64

@@ -1,6 +1,6 @@
 // The fit, sold by itself (document 01, "The fit"): a chip and one letter for each pair give a placement with its length and a flow, or no fit with a closed chain.
 mod axes;
-mod pairslots;
+mod pairlist;
 
 use crate::axes::axis_of;
 use axis::service::Solution;

@@ -144,3 +144,6 @@ module _ (macs : List Mac) (fixes : List Fix) (spots : List Spot) (at : Cursor) 
 
   pub pair-scored : (a b : Box) (r : ℕ) → a ≡ boxOf macs spots (at .i) → b ≡ secondOf macs fixes spots (at .fix) (at .j) → ltb 0 r ≡ overlaps a b → ltb 0 r ≡ overlaps (boxOf macs spots (at .i)) (secondOf macs fixes spots (at .fix) (at .j))
   pair-scored a b r ea eb e = e ∙ rw (ea, eb)
+
+  pub apart-scored : (a b : Box) (r : Bool) → a ≡ boxOf macs spots (at .i) → b ≡ secondOf macs fixes spots (at .fix) (at .j) → r ≡ overlaps a b → not r ≡ true → ltb 0 0 ≡ overlaps (boxOf macs spots (at .i)) (secondOf macs fixes spots (at .fix) (at .j))
+  apart-scored a b r ea eb e q = no-score a b r e q ∙ rw (ea, eb)

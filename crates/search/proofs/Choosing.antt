@@ -27,7 +27,7 @@ use Rattle.pairs.specs.declared.Cursor.{Cursor}
 use Rattle.pairs.specs.Order.{pairAt, coupleAt, OnPair, First, nextOf}
 use Rattle.pairs.proofs.Cursors.{on-near}
 use Rattle.pairs.proofs.Places.{AtPlace, place-first, place-on, place-next, place-couple, couple-taken}
-use Rattle.search.specs.Choice.{Small, overlaps, boxOf, secondOf, Near, SmallSpots, noPair, apartAt, Chosen, partsOf, Laid}
+use Rattle.search.specs.Choice.{Small, overlaps, boxOf, secondOf, Near, SmallSpots, noPair, apartAt, Chosen, PlaceOf, partsOf, Laid}
 
 -- two boxes overlap exactly when they are not apart
 pub overlaps-apart : (c : Chip) (a b : Box) → overlaps a b ≡ not (apart c a b)
@@ -76,22 +76,23 @@ module _ (macs : List Mac) (n : ℕ) (fixes : List Fix) (k : ℕ) (spots : List 
         pairCount = l .count ∙ sym (letters-count (partsOf macs n fixes k)) ∙ rw (em, ef);
       }
 
-  -- s pairs are seen, and best is the place of one that overlaps, or p
-  pub record Seen (at : Cursor) (s best most : ℕ) : Type 0 where
+  -- s pairs are seen, and best is the place of one that overlaps, with its cursor, or p
+  pub record Seen (at : Cursor) (s best : ℕ) (on : Cursor) (most : ℕ) : Type 0 where
     pub size : Sized
     pub place : AtPlace ms fs at s
+    pub chosen : best < p → AtPlace ms fs on best
     pub within : best ≤ p
     pub overlap : best < p → apartHere best ≡ false
     pub quiet : best ≡ p → most ≡ 0
     pub apart : best ≡ p → (t : ℕ) → t < s → apartHere t ≡ true
 
-  pub none-seen : (r : Cursor) → Laid macs n fixes k spots p → length macs ≡ 8 → length fixes ≡ 8 → length spots ≡ 8 → First n r → Seen r 0 p 0
+  pub none-seen : (r : Cursor) → Laid macs n fixes k spots p → length macs ≡ 8 → length fixes ≡ 8 → length spots ≡ 8 → First n r → Seen r 0 p r 0
   none-seen r l lm lf ls f =
       let z = sized l lm lf ls in
       let g : First (length ms) r = rw (z .macCount) f in
-      record { size = z; place = place-first ms fs r g; within = omega arith; overlap = λ h. absurd (omega arith); quiet = λ e. refl; apart = λ e t h. absurd (omega arith) }
+      record { size = z; place = place-first ms fs r g; chosen = λ h. absurd (omega arith); within = omega arith; overlap = λ h. absurd (omega arith); quiet = λ e. refl; apart = λ e t h. absurd (omega arith) }
 
-  module _ (at : Cursor) (s best most : ℕ) (w : Seen at s best most) (h : s < p) where
+  module _ (at : Cursor) (s best : ℕ) (b : Cursor) (most : ℕ) (w : Seen at s best b most) (h : s < p) where
     here : s < length (couplesOf ms fs)
     here = let e = w .size .pairCount in omega arith
 
@@ -146,32 +147,46 @@ module _ (macs : List Mac) (n : ℕ) (fixes : List Fix) (k : ℕ) (spots : List 
         onward : AtPlace ms fs r (s + 1)
         onward = rw er (rw (w .size .macCount, w .size .fixCount) at (place-next ms fs at s (w .place) here))
 
-        pub taken-seen : most < v → Seen r (s + 1) s v
+        pub taken-seen : most < v → Seen r (s + 1) s at v
         taken-seen g = record {
           size = w .size;
           place = onward;
+          chosen = λ o. w .place;
           within = omega arith;
-          overlap = λ b. scored-overlap (omega arith);
+          overlap = λ o. scored-overlap (omega arith);
           quiet = λ e. absurd (omega arith);
           apart = λ e. absurd (omega arith);
         }
 
-        pub left-seen : v ≤ most → Seen r (s + 1) best most
+        pub left-seen : v ≤ most → Seen r (s + 1) best b most
         left-seen g = record {
           size = w .size;
           place = onward;
+          chosen = w .chosen;
           within = w .within;
           overlap = w .overlap;
           quiet = w .quiet;
-          apart = λ e t b. by e t b (ℕ-discrete t s);
+          apart = λ e t o. by e t o (ℕ-discrete t s);
         }
           where
             by : best ≡ p → (t : ℕ) → t < s + 1 → Dec (t ≡ s) → apartHere t ≡ true
             by e t b (yes q) = let z = w .quiet e in rw q (scored-apart (omega arith))
             by e t b (no q) = w .apart e t (omega arith)
 
-  pub all-chosen : (at : Cursor) (s best most : ℕ) → Seen at s best most → p ≤ s → Chosen (partsOf macs n fixes k) (take n spots) p best
-  all-chosen at s best most w h = record {
+  pub all-placed : (at : Cursor) (s best : ℕ) (b : Cursor) (most : ℕ) → Seen at s best b most → PlaceOf macs n fixes k p best b
+  all-placed at s best b most w = record {
+    on = λ h. on-best h;
+    couple = λ h z. rw (w .size .macsFirst, w .size .fixesFirst) (place-couple ms fs b best (w .chosen h) (inside h) z ∙ sym (couple-taken macs fixes n k b (on-best h)));
+  }
+    where
+      inside : best < p → best < length (couplesOf ms fs)
+      inside h = let e = w .size .pairCount in omega arith
+
+      on-best : best < p → OnPair n k b
+      on-best h = rw (w .size .macCount, w .size .fixCount) at (place-on ms fs b best (w .chosen h) (inside h))
+
+  pub all-chosen : (at : Cursor) (s best : ℕ) (b : Cursor) (most : ℕ) → Seen at s best b most → p ≤ s → Chosen (partsOf macs n fixes k) (take n spots) p best
+  all-chosen at s best b most w h = record {
     place = w .within;
     overlap = λ g. same best (w .overlap g);
     none = λ e t g. same t (w .apart e t (omega arith));

@@ -15,14 +15,20 @@ use Rattle.model.specs.Meaning.{Chip, chipOf, firstOf, blankSpot, outcomeOf, re
 use Rattle.model.proofs.FirstOf.{first-take, getD-first}
 use Rattle.chip.specs.Passed.{Passed}
 use Rattle.placement.specs.Letters.{Letter, dot, keepsLetters}
-use Rattle.placement.specs.Least.{found, fitOf}
+use Rattle.placement.specs.Least.{Best, found, fitOf}
 use Rattle.placement.proofs.Demand.{fit-found}
 use Rattle.branches.specs.Branch.{pick, better}
-use Rattle.branches.proofs.Betters.{Sized}
-use Rattle.branches.proofs.Closing.{letters-inside, closes, legal-closes}
+use Rattle.branches.proofs.Betters.{Sized, better-sized}
+use Rattle.branches.proofs.Closing.{letters-inside, fit-sized}
+use Rattle.halves.specs.Result.{placed, NotAfter, Real}
+use Rattle.halves.proofs.NotAfter.{after-same, better-first, better-second}
+use Rattle.halves.proofs.Covers.{covers-on, fit-covers, closed-covers, better-real}
 use Rattle.search.specs.Best.{resultOf, bestOf, CountIs, Counted, Told, Alike, Better}
 use Rattle.search.specs.Choice.{SmallSpots, Chosen}
-use Rattle.search.specs.Search.{lettersIn, Lettered, FitHeld, Searched}
+use Rattle.search.specs.Search.{lettersIn, Lettered, FitHeld, NodeOk, Searched}
+use Rattle.search.specs.Turns.{Open}
+use Rattle.search.specs.declared.node.Node.{Node}
+use Rattle.search.proofs.FourChildren.{nothing-none}
 use Rattle.search.proofs.Deciding.{chosen-undecided, chosen-legal}
 use Rattle.search.proofs.Lettering.{letters-long}
 use Rattle.search.proofs.Records.{counted-sized}
@@ -42,8 +48,13 @@ module _ (c : HeldChip) (letters : List ℕ) (p : ℕ) (here best : HeldRecord) 
   sized ok = subst (λ (m : ℕ). Sized m (bestOf best)) (sym (ok .macs)) (counted-sized (c .n) best counted)
 
   -- the fit does not replace the best: nothing of the branch does
-  pub fit-closes : Passed c → (t : Bool) → pick t (bestOf here) (bestOf best) ≡ better (bestOf best) (bestOf here) → not t ≡ true → Searched c letters p best best
-  fit-closes ok t b q = record { is = sym (closes C ls (bestOf best) (sized ok) stays); counted = counted }
+  pub fit-closes : Passed c → (kx ky : List ℕ) (t : Bool) → pick t (bestOf here) (bestOf best) ≡ better (bestOf best) (bestOf here) → not t ≡ true → Searched c letters p kx ky best best
+  fit-closes ok kx ky t b q = record {
+    counted = counted;
+    first = after-same (bestOf best);
+    real = λ r. r;
+    covers = λ ps h k. closed-covers C ls ps h (bestOf best) (sized ok) stays;
+  }
     where
       stays : better (bestOf best) (fitOf C ls) ≡ bestOf best
       stays = ap (better (bestOf best)) (sym (fit .is)) ∙ (sym b ∙ ap (λ (u : Bool). pick u (bestOf here) (bestOf best)) (not-true t q))
@@ -94,11 +105,32 @@ module _ (c : HeldChip) (letters : List ℕ) (p : ℕ) (here best : HeldRecord) 
         as-many : p ≡ length ls
         as-many = let f = e .few in sym (letters-long letters p (omega arith))
 
-        pub legal-found : s ≡ p → (r : HeldRecord) → Better best here r → Searched c letters p best r
-        legal-found g r w = record {
-          is = w .is ∙ ap (better (bestOf best)) (is-found .1 ∙ sym (legal-closes C ls (is-found .0) ps fit-is (chosen-legal C ls ps p s keeps as-many chosen g)));
+        pub legal-found : s ≡ p → (kx ky : List ℕ) (r : HeldRecord) → Better best here r → Searched c letters p kx ky best r
+        legal-found g kx ky r w = record {
           counted = w .counted (c .n) counted (fit .counted);
+          first = subst (λ (t : Best). NotAfter t (bestOf best)) (sym (w .is)) (better-first n (bestOf best) (bestOf here) (sized ok) mine);
+          real = λ q. subst (Real C) (sym (w .is)) (better-real C (bestOf best) (bestOf here) q real);
+          covers = λ qs h k. covers-on C ls qs h (bestOf r) (bestOf here) (subst (Sized n) (sym (w .is)) (better-sized n (bestOf best) (bestOf here) (sized ok) mine)) mine
+              (subst (λ (t : Best). NotAfter t (bestOf here)) (sym (w .is)) (better-second n (bestOf best) (bestOf here) (sized ok) mine))
+              (subst (λ (t : Best). NotAfter t (placed C qs)) (sym (is-found .1)) (fit-covers C ls qs h (is-found .0) ps fit-is));
         }
+          where
+            n : ℕ
+            n = length (C .macs)
+
+            mine : Sized n (bestOf here)
+            mine = subst (Sized n) (sym (fit .is)) (fit-sized C ls)
+
+            real : Real C (bestOf here)
+            real = subst (Real C) (sym (is-found .1)) (chosen-legal C ls ps p s keeps as-many chosen g, fit-found C ls (is-found .0) ps fit-is .long)
 
         pub chosen-dot : (s ≡ p → ⊥) → getD ls s dot ≡ dot
         chosen-dot n = chosen-undecided C ls ps p s keeps as-many chosen (chosen-less n)
+
+-- the pair that is chosen is undecided
+pub chosen-open : (c : HeldChip) (p : ℕ) (node : Node) (best : HeldRecord) → Passed c → NodeOk c p node → Counted (c .n) best → (t : Bool) → Told t (node .here) → not t ≡ false → (s : ℕ) → Chosen (chipOf c) (take (c .n) (node .here .spots)) p s → (s ≡ p → ⊥) → Open c p node s
+chosen-open c p node best ok at counted t told q s chosen n = record {
+  place = chosen-less c (node .letters) p (node .here) best (at .fit) counted ok t told q s chosen n;
+  undecided = chosen-dot c (node .letters) p (node .here) best (at .fit) counted ok t told q s chosen (at .whole) (at .letters) n;
+  found = λ z. told .placed (not-false t q) (nothing-none (node .here) z);
+}

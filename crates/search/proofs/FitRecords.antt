@@ -26,7 +26,7 @@ use Rattle.fit.specs.Answer.{outcomeOf, positionsOf, padded, answerFor}
 use Rattle.fit.proofs.Outcomes.{padded-long, take-padded, is-placed, is-none, is-refused}
 use Rattle.search.specs.Best.{bestOf}
 use Rattle.search.specs.Search.{lettersIn, Lettered, noRecord, FitHeld}
-use Rattle.search.proofs.Rests.{no-best}
+use Rattle.search.proofs.Holding.{no-best}
 use Rattle.search.proofs.Records.{none-counted}
 
 pub first-padded : (n : ℕ) (ps : List Spot) → length ps ≡ n → n ≤ 8 → firstOf blankSpot n (padded ps) ≡ ps

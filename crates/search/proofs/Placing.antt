@@ -1,6 +1,8 @@
 -- From the test or the reading of a chip to its record, and to what is written: in the form of the needs of the services.
+use Prim.{tt}
 use Prim.Native.Nat.{ℕ, _≤_}
-use mathlib.Core.Path.{_≡_, refl, sym, ap, _∙_}
+use mathlib.Core.Path.{_≡_, refl, sym, ap, subst, _∙_}
+use mathlib.Core.Bool.{true}
 use mathlib.Core.List.{List}
 use lib.ListN.{length, replicate, length-map}
 use Rattle.model.specs.declared.Spot.{Spot}
@@ -18,22 +20,30 @@ use Rattle.chipreader.specs.declared.ChipAnswer.{ChipAnswer}
 use Rattle.chipreader.specs.declared.ChipAnswer.the-variants as answer
 use Rattle.chipreader.specs.Answer.{meant}
 use Rattle.record.specs.Text.{recordText, writeRecord}
-use Rattle.placement.specs.Letters.{pairs}
-use Rattle.placement.specs.Least.{Best, earliestLeast, bestRecord, chipRecord}
+use Rattle.placement.specs.Letters.{Letter, dot, pairs}
+use Rattle.placement.specs.Least.{earliestLeast, bestRecord, chipRecord}
+use Rattle.slots.specs.declared.Direction.{Direction}
+use Rattle.slots.specs.declared.Direction.the-variants.{Horizontal as horizontal, Vertical as vertical}
 use Rattle.slots.specs.Slots.{couples}
 use Rattle.slots.specs.Fit.{letterCount}
 use Rattle.slots.proofs.Counting.{letters-count}
 use Rattle.slots.proofs.Pairs.{pairOf, pairs-couples}
 use Rattle.pairs.specs.Count.{letterTotal}
 use Rattle.pairs.proofs.Counts.{chip-letters, chip-few}
-use Rattle.branches.specs.Branch.{better, underLetters}
-use Rattle.branches.proofs.Betters.{nothing-better}
-use Rattle.branches.proofs.Branching.{all-dots}
+use Rattle.placement.proofs.Demand.{earliest-least-found}
+use Rattle.branches.specs.Branch.{inBranch}
+use Rattle.branches.proofs.Branching.{dots-branch}
+use Rattle.halves.specs.Result.{Real}
+use Rattle.halves.proofs.Covers.{real-answer}
+use Rattle.halves.proofs.EqualMacros.{equal-macros}
 use Rattle.search.specs.Best.{resultOf, bestOf, Counted}
-use Rattle.search.specs.Search.{lettersIn, Lettered, noRecord, Searched}
+use Rattle.half_tables.specs.Made.{Hold, ArraysFor}
+use Rattle.search.specs.Search.{lettersIn, Lettered, noRecord, Arrayed, Searched}
+use Rattle.search.specs.Turns.{RootOk}
+use Rattle.search.specs.declared.node.Node.{Node}
 use Rattle.search.specs.Place.{searchChip, placeText, placeRead}
 use Rattle.search.proofs.Lettering.{dots-are, dots-in}
-use Rattle.search.proofs.Rests.{no-best}
+use Rattle.search.proofs.Holding.{no-best}
 use Rattle.search.proofs.Records.{none-counted}
 use Rattle.search.proofs.RecordsRead.{chip-record-read}
 
@@ -49,23 +59,39 @@ module _ (c : HeldChip) (p : ℕ) (ok : Passed c) (e : p ≡ letterTotal (c .n) 
   pub dots-lettered : Lettered c (replicate 92 46) p
   dots-lettered = record { count = count; few = few; bytes = dots-are 92 p }
 
-  many : (ps : List Spot) → length ps ≡ length (chipOf c .macs) → length (pairs (chipOf c) ps) ≡ p
+  pub many : (ps : List Spot) → length ps ≡ length (chipOf c .macs) → length (pairs (chipOf c) ps) ≡ p
   many ps l = ap (λ (t : List _). length t) (pairs-couples (chipOf c) ps l) ∙ (length-map (couples (chipOf c)) (pairOf ps) ∙ (letters-count (chipOf c) ∙ sym count))
 
   best-is : (r : Record) → bestRecord (resultOf r) ≡ r
   best-is none = refl
   best-is (least wl ps) = refl
 
-  pub whole-record : (o r : HeldRecord) → o ≡ noRecord → Searched c (replicate 92 46) p o r → recordOf r ≡ chipRecord (chipOf c)
+  -- the answer at the root is the chip's earliest least placement
+  pub whole-record : (node : Node) (o r : HeldRecord) → RootOk c p node → o ≡ noRecord → Searched c (node .letters) p (node .kx) (node .ky) o r → recordOf r ≡ chipRecord (chipOf c)
   unfolding chipRecord bestOf
-  whole-record o r q w = sym (best-is (recordOf r)) ∙ ap bestRecord all
+  whole-record node o r root q w = sym (best-is (recordOf r)) ∙ ap bestRecord all
     where
-      all : bestOf r ≡ earliestLeast (chipOf c)
-      all = w .is
-          ∙ (ap (λ (t : HeldRecord). better (bestOf t) (underLetters (chipOf c) (lettersIn (replicate 92 46) p))) q
-          ∙ (ap (λ (t : Best). better t (underLetters (chipOf c) (lettersIn (replicate 92 46) p))) no-best
-          ∙ (nothing-better (underLetters (chipOf c) (lettersIn (replicate 92 46) p))
-          ∙ (ap (underLetters (chipOf c)) (dots-in 92 p few) ∙ all-dots (chipOf c) p many))))
+      C : Chip
+      C = chipOf c
+
+      start : Real C (bestOf o)
+      start = subst (Real C) (sym (ap bestOf q ∙ no-best)) tt
+
+      dots : lettersIn (node .letters) p ≡ replicate p dot
+      dots = ap (λ (t : List ℕ). lettersIn t p) (root .letters) ∙ dots-in 92 p few
+
+      all : bestOf r ≡ earliestLeast C
+      all = real-answer C (bestOf r) (w .real start) (λ l ps e.
+          let f = earliest-least-found C l ps e in
+          w .covers ps (subst (λ (t : List Letter). inBranch C t ps ≡ true) (sym dots) (dots-branch C p many ps (f .passed)))
+          (root .keeps ps (f .passed) (record { le = λ i j h a. equal-macros C (ok .valid) l ps f i j h a })))
+
+-- the arrays of a chip whose test is passed
+pub arrays-hold : (c : HeldChip) (d : Direction) (tab arcs : List ℕ) → Passed c → ArraysFor c d tab arcs → Hold c d tab arcs
+arrays-hold c d tab arcs ok a = a .passed ok
+
+pub arrays-stand : (c : HeldChip) (tx ty ax ay : List ℕ) → Passed c → ArraysFor c horizontal tx ax → ArraysFor c vertical ty ay → Arrayed c tx ty
+arrays-stand c tx ty ax ay ok x y = record { x = x .passed ok .tabled; y = y .passed ok .tabled }
 
 pub start-counted : (c : HeldChip) (o : HeldRecord) → Passed c → o ≡ noRecord → Counted (c .n) o
 start-counted c o ok q = rw q (none-counted (c .n) (ok .fine .macCount))

@@ -12,7 +12,9 @@ use Rattle.model.specs.Meaning.{Chip, firstOf, blankFix, blankMac, blankSpot}
 use Rattle.placement.specs.Legal.{Box, boxAt, apart}
 use Rattle.placement.specs.Letters.{Pair, pairs}
 use Rattle.slots.specs.Fit.{letterCount}
+use Rattle.slots.specs.Slots.{Couple, couplesOf}
 use Rattle.pairs.specs.declared.Cursor.{Cursor}
+use Rattle.pairs.specs.Order.{coupleAt, OnPair}
 
 -- a corner and sides whose sums are small
 pub record Small (a : Box) : Type 0 where
@@ -67,6 +69,11 @@ pub record Chosen (c : Chip) (ps : List Spot) (p r : ℕ) : Type 0 where
   pub place : r ≤ p
   pub overlap : r < p → apartAt c (pairs c ps) r ≡ false
   pub none : r ≡ p → (s : ℕ) → s < p → apartAt c (pairs c ps) s ≡ true
+
+-- the cursor is at the pair of place s, where there is one
+pub record PlaceOf (macs : List Mac) (n : ℕ) (fixes : List Fix) (k p s : ℕ) (at : Cursor) : Type 0 where
+  pub on : s < p → OnPair n k at
+  pub couple : s < p → (z : Couple) → getD (couplesOf (firstOf blankMac n macs) (firstOf blankFix k fixes)) s z ≡ coupleAt macs fixes at
 
 -- a chip with n macros and k fixes, for its pairs
 abbrev pub partsOf : List Mac → ℕ → List Fix → ℕ → Chip

@@ -2,4 +2,5 @@ pub mod Best
 pub mod Choice
 pub mod Weights
 pub mod Search
+pub mod Turns
 pub mod Place

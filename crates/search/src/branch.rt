@@ -1,186 +1,295 @@
-// Branches of the search: each decides one further pair.
+// The search: each call decides one further pair.
 use crate::best::replaced;
 use crate::best::replaces_best;
+use crate::child::child;
+use crate::child::letter_slot;
 use crate::choose::choose;
-use fit::FitOutcome;
+use crate::left::Left;
+use crate::left::child_at;
+use crate::left::is_excluded;
+use crate::left::keep_opposite;
+use crate::left::next_child;
+use crate::left::put_child;
+use crate::node::Node;
+use crate::node::decided;
+use crate::node::less;
+use crate::node::no_record;
+use bounds::Slot;
+use half_tables::with_bound;
 use model::Chip;
 use model::Outcome;
 use model::Record;
-use model::Spot;
+use pairs::Cursor;
 ghost use mathlib.Core.Path.{_≡_};
-ghost use Prim.Native.Nat.{_<_};
-ghost use lib.ListN.{getD, set};
-ghost use Rattle.search.specs.Weights.{SmallWeights};
+ghost use Prim.Native.Nat.{_+_, _<_};
 ghost use Rattle.chip.specs.Passed.{Passed};
-ghost use Rattle.search.specs.Search.{byteOf, Lettered, noRecord, FitHeld, kidList, KidsCounted, KidsFit, NextKid, Searched};
-ghost use Rattle.search.specs.Best.{Counted};
+ghost use Rattle.placement.specs.Least.{nothing};
+ghost use Rattle.search.specs.Best.{bestOf, Counted};
+ghost use Rattle.search.specs.Weights.{SmallWeights};
+ghost use Rattle.search.specs.Search.{lengthOf, Arrayed, NodeOk, Searched, childList, childAt};
+ghost use Rattle.search.specs.Turns.{Open, Asks, Placed, Untried, LeftOk, NextX, NextY, NextOk, Visited};
 
-// The fits of the four letters of a pair, in the order L, R, B, A; none where there is no fit, or it was visited.
-pub(crate) struct Kids {
-    pub l: Record,
-    pub r: Record,
-    pub b: Record,
-    pub a: Record,
-}
-
-// The record that holds no placement.
-pub(crate) fn no_record() -> Record
-    ensures { λ r. ⌜ r ≡ noRecord ⌝ }
+// A branch of which no letter of a pair is tried.
+fn untried(node: Node) -> Left
+    ensures { λ r. ⌜ Untried node r ⌝ }
 {
-    Record {
-        outcome: Outcome::None,
-        spots: [Spot { x: 0, y: 0 }; 8],
-    }
-}
-
-// The byte of letter i.
-fn letter(i: usize) -> u8
-    requires { ⌜ i < 4 ⌝ }
-    ensures { λ r. ⌜ r ≡ byteOf i ⌝ }
-{
-    if i == 0 {
-        return 76;
-    }
-    if i == 1 {
-        return 82;
-    }
-    if i == 2 {
-        return 66;
-    }
-    65
-}
-
-// The letters with letter i for pair s.
-fn decided(letters: [u8; 92], s: usize, i: usize) -> [u8; 92]
-    requires { ⌜ (s < 92) × (i < 4) ⌝ }
-    ensures { λ r. ⌜ r ≡ set letters s (byteOf i) ⌝ }
-{
-    let mut ls = letters;
-    ls[s] = letter(i);
-    ls
-}
-
-// The fit of letters as a record; none where there is no fit.
-pub(crate) fn fit_record(c: Chip, letters: [u8; 92], p: usize) -> Record
-    requires { ⌜ Passed c × Lettered c letters p ⌝ }
-    ensures { λ r. ⌜ FitHeld c letters p r ⌝ }
-{
-    let mut flow = [0u16; 728];
-    let a = fit::fit_letters(c, &letters[..p], &mut flow);
-    let spots = a.spots;
-    let outcome = a.outcome;
-    match outcome {
-        FitOutcome::Placed(f) => Record {
-            outcome: Outcome::Least(f.length, c.n),
-            spots,
-        },
-        FitOutcome::NoFit => no_record(),
-        FitOutcome::Refused(_) => no_record(),
+    let kx = node.kx;
+    let ky = node.ky;
+    Left {
+        l: no_record(),
+        r: no_record(),
+        b: no_record(),
+        a: no_record(),
+        kx,
+        ky,
     }
 }
 
-// The fits of the four letters of pair s.
-fn kids_of(c: Chip, letters: [u8; 92], p: usize, s: usize) -> Kids
-    requires { ⌜ Passed c × Lettered c letters p × (s < p) ⌝ }
-    ensures { λ r. ⌜ KidsFit c letters p s (kidList r) ⌝ }
+// Letter i of pair s is tried: excluded by the differences, closed, or left with its fit.
+fn try_letter(
+    c: Chip,
+    p: usize,
+    tx: &[u32; 1024],
+    hx: &[u32; 4352],
+    ty: &[u32; 1024],
+    hy: &[u32; 4352],
+    node: Node,
+    sx: &[u32; 4096],
+    ix: usize,
+    sy: &[u32; 4096],
+    iy: usize,
+    s: usize,
+    at: Cursor,
+    i: usize,
+    best: Record,
+    left: Left,
+    pool: &mut [u32; 4096],
+) -> Left
+    requires { ⌜ Passed c × Arrayed c (now tx) (now ty) × NodeOk c p node × Open c p node s × Placed c s at × (i < 4) × Counted (c .n) best × LeftOk c p node s i left best ⌝ }
+    ensures { λ r. ⌜ LeftOk c p node s (i + 1) r best ⌝ }
 {
-    Kids {
-        l: fit_record(c, decided(letters, s, 0), p),
-        r: fit_record(c, decided(letters, s, 1), p),
-        b: fit_record(c, decided(letters, s, 2), p),
-        a: fit_record(c, decided(letters, s, 3), p),
+    let t = letter_slot(c, at, i);
+    if is_excluded(left, i, t) {
+        return left;
     }
+    let f = child(
+        c,
+        p,
+        tx,
+        hx,
+        ty,
+        hy,
+        node,
+        sx,
+        ix,
+        sy,
+        iy,
+        s,
+        i,
+        t,
+        best,
+        pool,
+    );
+    if replaces_best(best, f) {
+        return put_child(left, i, f);
+    }
+    keep_opposite(left, i, t)
 }
 
-// Kid i.
-fn kid(kids: Kids, i: usize) -> Record
-    requires { ⌜ i < 4 ⌝ }
-    ensures { λ r. ⌜ r ≡ getD (kidList kids) i noRecord ⌝ }
+// The four letters of pair s are tried.
+fn try_letters(
+    c: Chip,
+    p: usize,
+    tx: &[u32; 1024],
+    hx: &[u32; 4352],
+    ty: &[u32; 1024],
+    hy: &[u32; 4352],
+    node: Node,
+    sx: &[u32; 4096],
+    ix: usize,
+    sy: &[u32; 4096],
+    iy: usize,
+    s: usize,
+    at: Cursor,
+    best: Record,
+    pool: &mut [u32; 4096],
+) -> Left
+    requires { ⌜ Passed c × Arrayed c (now tx) (now ty) × NodeOk c p node × Open c p node s × Placed c s at × Counted (c .n) best ⌝ }
+    ensures { λ r. ⌜ LeftOk c p node s 4 r best ⌝ }
 {
-    if i == 0 {
-        return kids.l;
-    }
-    if i == 1 {
-        return kids.r;
-    }
-    if i == 2 {
-        return kids.b;
-    }
-    kids.a
-}
-
-// The kids without kid i.
-fn without(kids: Kids, i: usize) -> Kids
-    requires { ⌜ i < 4 ⌝ }
-    ensures { λ r. ⌜ kidList r ≡ set (kidList kids) i noRecord ⌝ }
-{
-    let mut rest = kids;
-    if i == 0 {
-        rest.l = no_record();
-        return rest;
-    }
-    if i == 1 {
-        rest.r = no_record();
-        return rest;
-    }
-    if i == 2 {
-        rest.b = no_record();
-        return rest;
-    }
-    rest.a = no_record();
-    rest
-}
-
-// The kid whose fit is the best, or 4 where none is left.
-fn next_kid(kids: Kids) -> usize
-    requires { ⌜ KidsCounted (kidList kids) ⌝ }
-    ensures { λ r. ⌜ NextKid (kidList kids) r ⌝ }
-{
-    let mut best = no_record();
-    let mut at: usize = 4;
+    let mut left = untried(node);
     let mut i: usize = 0;
     while i < 4 {
-        let k = kid(kids, i);
-        let here = i;
-        let first = replaces_best(best, k);
+        left = try_letter(
+            c,
+            p,
+            tx,
+            hx,
+            ty,
+            hy,
+            node,
+            sx,
+            ix,
+            sy,
+            iy,
+            s,
+            at,
+            i,
+            best,
+            left,
+            pool,
+        );
         i += 1;
-        if first {
-            best = k;
-            at = here;
-        }
     }
-    at
+    left
 }
 
-// The better of the best so far and the earliest least legal placement under the letters; here is the fit of the letters.
+// The length of the placement that a record holds.
+fn length_of(r: Record) -> u64
+    ensures { λ l. ⌜ l ≡ lengthOf (r .outcome) ⌝ }
+{
+    let outcome = r.outcome;
+    match outcome {
+        Outcome::Least(l, _) => l,
+        Outcome::None => 0,
+    }
+}
+
+// Child i as a node, of a letter in x: its fit is f, its slot t.
+fn next_x(node: Node, left: Left, f: Record, s: usize, i: usize, t: Slot) -> Node
+    requires { ⌜ (s < 92) × (i < 4) ⌝ }
+    ensures { λ r. ⌜ NextX node left f s i t r ⌝ }
+{
+    let letters = node.letters;
+    let ax = node.ax;
+    let ay = node.ay;
+    let kx = left.kx;
+    let ky = left.ky;
+    Node {
+        letters: decided(letters, s, i),
+        ax: with_bound(ax, t),
+        ay,
+        kx: kept::keep(kx, t),
+        ky,
+        lx: less(length_of(f), node.ly),
+        ly: node.ly,
+        here: f,
+    }
+}
+
+fn next_y(node: Node, left: Left, f: Record, s: usize, i: usize, t: Slot) -> Node
+    requires { ⌜ (s < 92) × (i < 4) ⌝ }
+    ensures { λ r. ⌜ NextY node left f s i t r ⌝ }
+{
+    let letters = node.letters;
+    let ax = node.ax;
+    let ay = node.ay;
+    let kx = left.kx;
+    let ky = left.ky;
+    Node {
+        letters: decided(letters, s, i),
+        ax,
+        ay: with_bound(ay, t),
+        kx,
+        ky: kept::keep(ky, t),
+        lx: node.lx,
+        ly: less(length_of(f), node.lx),
+        here: f,
+    }
+}
+
+// Child i as a node; its slot is t.
+fn next_node(
+    c: Chip,
+    p: usize,
+    node: Node,
+    left: Left,
+    b: Record,
+    s: usize,
+    i: usize,
+    t: Slot,
+) -> Node
+    requires { ⌜ Passed c × NodeOk c p node × Open c p node s × Asks c s i t × LeftOk c p node s 4 left b × (bestOf (childAt (childList left) i) ≡ nothing → ⊥) ⌝ }
+    ensures { λ r. ⌜ NextOk c p node left s i t r ⌝ }
+{
+    let f = child_at(left, i);
+    if i < 2 {
+        return next_x(node, left, f, s, i, t);
+    }
+    next_y(node, left, f, s, i, t)
+}
+
+// Child i is visited: it goes, and its opposite is kept.
+fn visited(left: Left, i: usize, t: Slot) -> Left
+    requires { ⌜ i < 4 ⌝ }
+    ensures { λ r. ⌜ Visited left i t r ⌝ }
+{
+    keep_opposite(put_child(left, i, no_record()), i, t)
+}
+
+// The best so far or a better one: not after any legal placement under the node's letters that keeps its differences.
 pub(crate) fn search(
     c: Chip,
     weights: [u64; 8],
-    letters: [u8; 92],
     p: usize,
-    here: Record,
+    tx: &[u32; 1024],
+    hx: &[u32; 4352],
+    ty: &[u32; 1024],
+    hy: &[u32; 4352],
+    node: Node,
+    sx: &[u32; 4096],
+    ix: usize,
+    sy: &[u32; 4096],
+    iy: usize,
     best: Record,
 ) -> Record
-    requires { ⌜ Passed c × SmallWeights weights × Lettered c letters p × FitHeld c letters p here × Counted (c .n) best ⌝ }
-    ensures { λ r. ⌜ Searched c letters p best r ⌝ }
+    requires { ⌜ Passed c × SmallWeights weights × Arrayed c (now tx) (now ty) × NodeOk c p node × Counted (c .n) best ⌝ }
+    ensures { λ r. ⌜ Searched c (node .letters) p (node .kx) (node .ky) best r ⌝ }
 {
+    let here = node.here;
     if !replaces_best(best, here) {
         return best;
     }
     let spots = here.spots;
-    let s = choose(c, p, weights, letters, spots, best);
+    let kx = node.kx;
+    let ky = node.ky;
+    let pair = choose(c, p, weights, kx, ky, spots, best);
+    let s = pair.s;
     if s == p {
         return replaced(best, here);
     }
-    let mut kids = kids_of(c, letters, p, s);
+    let at = pair.at;
+    let mut pool = [0u32; 4096];
+    let mut left = try_letters(
+        c,
+        p,
+        tx,
+        hx,
+        ty,
+        hy,
+        node,
+        sx,
+        ix,
+        sy,
+        iy,
+        s,
+        at,
+        best,
+        &mut pool,
+    );
     let mut b = best;
     loop {
-        let i = next_kid(kids);
+        let i = next_child(left);
         if 4 <= i {
             return b;
         }
-        let next = kid(kids, i);
-        kids = without(kids, i);
-        b = search(c, weights, decided(letters, s, i), p, next, b);
+        let t = letter_slot(c, at, i);
+        let next = next_node(c, p, node, left, b, s, i, t);
+        left = visited(left, i, t);
+        if i < 2 {
+            b = search(c, weights, p, tx, hx, ty, hy, next, &pool, i, sy, iy, b);
+        } else {
+            b = search(c, weights, p, tx, hx, ty, hy, next, sx, ix, &pool, i, b);
+        }
     }
 }

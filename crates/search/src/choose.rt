@@ -1,10 +1,7 @@
 // The pair to branch on: an overlapping one; while no placement is found, one with at most two open letters first; of those the one with the greatest score. The score is what moving the two apart would cost, in the two cheapest ways, times the weight of their nets; among equal scores the pair of the first macros.
-use crate::ranges::Open;
-use crate::ranges::Ranges;
-use crate::ranges::open_letters;
-use crate::ranges::ranges_across;
-use crate::ranges::ranges_up;
-use crate::ranges::urgency;
+use crate::open::Open;
+use crate::open::open_letters;
+use crate::open::urgency;
 use model::Chip;
 use model::Fix;
 use model::Mac;
@@ -23,8 +20,14 @@ ghost use lib.ListN.{take};
 ghost use Rattle.model.specs.Meaning.{chipOf};
 ghost use Rattle.chip.specs.Valid.{Fine};
 ghost use Rattle.slots.specs.Fit.{letterCount};
-ghost use Rattle.search.specs.Choice.{Small, Meet, overlaps, boxOf, secondOf, Near, SmallSpots, Chosen, partsOf, Laid};
+ghost use Rattle.search.specs.Choice.{Small, Meet, overlaps, boxOf, secondOf, Near, SmallSpots, Chosen, PlaceOf, partsOf, Laid};
 ghost use Rattle.search.specs.Weights.{FineNets, SmallWeights};
+
+// A pair by its place in the order of letters, with the cursor there.
+pub(crate) struct Choice {
+    pub s: usize,
+    pub at: Cursor,
+}
 
 fn lesser(a: u64, b: u64) -> u64
     ensures { λ r. ⌜ r ≡ min a b ⌝ }
@@ -163,8 +166,8 @@ fn pair_score(
     fixes: [Fix; 8],
     spots: [Spot; 8],
     weights: [u64; 8],
-    x: Ranges,
-    y: Ranges,
+    kx: [u32; 128],
+    ky: [u32; 128],
     found: bool,
     at: Cursor,
 ) -> u64
@@ -176,7 +179,10 @@ fn pair_score(
     let j = at.j;
     let a = box_at(macs, spots, i);
     let b = second_box(macs, fixes, spots, fix, j);
-    let open = open_letters(x, y, fix, i, j);
+    if !overlap(a, b) {
+        return 0;
+    }
+    let open = open_letters(macs, fixes, kx, ky, at);
     score(
         a,
         b,
@@ -195,29 +201,36 @@ fn choose_pair(
     k: usize,
     p: usize,
     weights: [u64; 8],
-    x: Ranges,
-    y: Ranges,
+    kx: [u32; 128],
+    ky: [u32; 128],
     found: bool,
     spots: [Spot; 8],
-) -> usize
+) -> Choice
     requires { ⌜ Laid macs n fixes k spots p × SmallWeights weights ⌝ }
-    ensures { λ r. ⌜ Chosen (partsOf macs n fixes k) (take n spots) p r ⌝ }
+    ensures { λ r. ⌜ Chosen (partsOf macs n fixes k) (take n spots) p (r .s) ⌝ }
+    ensures { λ r. ⌜ PlaceOf macs n fixes k p (r .s) (r .at) ⌝ }
 {
     let mut best = p;
     let mut most: u64 = 0;
     let mut at = first_pair(n);
+    let mut best_at = at;
     let mut s: usize = 0;
     while s < p {
-        let v = pair_score(macs, fixes, spots, weights, x, y, found, at);
+        let v = pair_score(macs, fixes, spots, weights, kx, ky, found, at);
         let here = s;
+        let here_at = at;
         at = next_pair(at, n, k);
         s += 1;
         if most < v {
             best = here;
+            best_at = here_at;
             most = v;
         }
     }
-    best
+    Choice {
+        s: best,
+        at: best_at,
+    }
 }
 
 // Whether a record holds a placement.
@@ -229,22 +242,22 @@ fn is_found(best: Record) -> bool {
     }
 }
 
-// The same of a chip that is held as a value, with the ranges that its letters leave; best is the best so far.
+// The same of a chip that is held as a value, with the differences kept; best is the best so far.
 pub(crate) fn choose(
     c: Chip,
     p: usize,
     weights: [u64; 8],
-    letters: [u8; 92],
+    kx: [u32; 128],
+    ky: [u32; 128],
     spots: [Spot; 8],
     best: Record,
-) -> usize
+) -> Choice
     requires { ⌜ Fine c × (p ≡ letterCount (chipOf c)) × SmallSpots (c .n) spots × SmallWeights weights ⌝ }
-    ensures { λ r. ⌜ Chosen (chipOf c) (take (c .n) spots) p r ⌝ }
+    ensures { λ r. ⌜ Chosen (chipOf c) (take (c .n) spots) p (r .s) ⌝ }
+    ensures { λ r. ⌜ PlaceOf (c .macs) (c .n) (c .fixes) (c .k) p (r .s) (r .at) ⌝ }
 {
     let macs = c.macs;
     let fixes = c.fixes;
-    let x = ranges_across(c, letters, p);
-    let y = ranges_up(c, letters, p);
     choose_pair(
         macs,
         c.n,
@@ -252,8 +265,8 @@ pub(crate) fn choose(
         c.k,
         p,
         weights,
-        x,
-        y,
+        kx,
+        ky,
         is_found(best),
         spots,
     )

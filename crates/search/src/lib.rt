@@ -1,6 +1,10 @@
-// The search: the earliest least legal placement of a chip.
+// The search for the earliest least legal placement of a chip: branches over the letters of pairs, each closed by its fit.
 mod best;
 mod branch;
+mod child;
 mod choose;
-mod ranges;
+mod left;
+mod node;
+mod open;
+mod root;
 pub mod service;

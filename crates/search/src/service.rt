@@ -1,13 +1,16 @@
 // The search as a service: of a chip held as a value, and from chip text to record text.
-use crate::branch::fit_record;
-use crate::branch::no_record;
 use crate::branch::search;
 use crate::choose::all_weights;
+use crate::node::no_record;
+use crate::root::root;
 use chipreader::ChipAnswer;
+use half_fit::service::first_half;
+use half_tables::arrays_of;
 use model::Chip;
 use model::Record;
 use model::Tested;
 use model::WriteAnswer;
+use slots::Direction;
 ghost use mathlib.Core.Path.{_≡_};
 ghost use Rattle.model.specs.Meaning.{chipOf, recordOf};
 ghost use Rattle.grammar.specs.Writing.{answerOf};
@@ -20,11 +23,35 @@ fn chip_record(c: Chip) -> Record
     requires { ⌜ Passed c ⌝ }
     ensures { λ r. ⌜ recordOf r ≡ chipRecord (chipOf c) ⌝ }
 {
-    let letters = [46u8; 92];
     let p = pairs::letter_count(c.n, c.k);
     let weights = all_weights(c);
-    let root = fit_record(c, letters, p);
-    search(c, weights, letters, p, root, no_record())
+    let x = arrays_of(c, Direction::Horizontal);
+    let y = arrays_of(c, Direction::Vertical);
+    let tx = x.tab;
+    let ty = y.tab;
+    let ax = x.arcs;
+    let ay = y.arcs;
+    let mut hx = [0u32; 4352];
+    let mut hy = [0u32; 4352];
+    let mut states = [0u32; 4096];
+    first_half(&tx, &mut hx, &ax, &mut states, 0, 4000000000);
+    first_half(&ty, &mut hy, &ay, &mut states, 1, 4000000000);
+    let node = root(c, p, x, y);
+    search(
+        c,
+        weights,
+        p,
+        &tx,
+        &hx,
+        &ty,
+        &hy,
+        node,
+        &states,
+        0,
+        &states,
+        1,
+        no_record(),
+    )
 }
 
 // The record of a chip held as a value, into the lent buffer.

@@ -3,21 +3,17 @@ use borrow.Author.Needs.{needs}
 use Rattle.axis.proofs.propose.far_back.Statement.{statement}
 use Rattle.axis.proofs.propose.far_back.Tie as tie
 
--- nothing is kept
 abbrev Inv-loop : tie.InvT-loop
-Inv-loop ends way v k₀ turn₀ k turn = 0 ≤ turn
+Inv-loop st a w₀ turn₀ w turn = 0 ≤ 0
 
 abbrev μ-loop : tie.MeasureT-loop
-μ-loop ends way v k₀ turn₀ k turn = 10 - turn
+μ-loop st a w₀ turn₀ w turn = 9 - turn
 
 loop-holds : tie.Need-loop-holds Inv-loop μ-loop
 loop-holds c = search needs
 
 parent-of-requires : tie.Need-parent-of-requires Inv-loop μ-loop
 parent-of-requires c κs = search needs
-
-tail-of-requires : tie.Need-tail-of-requires Inv-loop μ-loop
-tail-of-requires c κs = search needs
 
 add-turn : tie.Need-add-turn Inv-loop μ-loop
 add-turn c = search needs
@@ -34,13 +30,4 @@ returns c = search needs
 pub far-back-spec : {M : Type 1} → statement M
 far-back-spec =
     tie.close
-    (tie.spec
-    Inv-loop
-    μ-loop
-    loop-holds
-    parent-of-requires
-    tail-of-requires
-    add-turn
-    loop-less
-    loop-again
-    returns)
+    (tie.spec Inv-loop μ-loop loop-holds parent-of-requires add-turn loop-less loop-again returns)

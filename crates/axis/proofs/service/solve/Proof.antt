@@ -1,5 +1,5 @@
-use Rattle.axis.proofs.FirstAbove.{all-fit}
 use Rattle.axis.proofs.HeldAxes.{shaped}
+use Rattle.axis.proofs.FirstAbove.{all-fit}
 use Rattle.axis.proofs.Served.{malformed, is-held, held-few}
 use borrow.Author.Needs.{needs}
 use Rattle.axis.proofs.service.solve.Statement.{statement}
@@ -23,21 +23,20 @@ too-large-requires c κs = (search is-held, (search needs, search needs))
 returns-2 : tie.Need-returns-2
 returns-2 c = search needs
 
-solve-pairs-requires : tie.Need-solve-pairs-requires
-solve-pairs-requires c κs = (search is-held, search all-fit)
+propose-requires : tie.Need-propose-requires
+propose-requires c κs = search needs
+
+judge-fit-requires : tie.Need-judge-fit-requires
+judge-fit-requires c κs = (search is-held, search all-fit)
 
 returns-3 : tie.Need-returns-3
 returns-3 c = search needs
 
+judge-none-requires : tie.Need-judge-none-requires
+judge-none-requires c κs = (search is-held, search all-fit)
+
+returns-4 : tie.Need-returns-4
+returns-4 c = search needs
+
 pub solve-spec : {M : Type 1} → statement M
-solve-spec =
-    tie.close
-    (tie.spec
-    is-held-requires
-    returns
-    slice-aggregate-first-above
-    first-above-requires
-    too-large-requires
-    returns-2
-    solve-pairs-requires
-    returns-3)
+solve-spec = tie.close (tie.spec is-held-requires returns slice-aggregate-first-above first-above-requires too-large-requires returns-2 propose-requires judge-fit-requires returns-3 judge-none-requires returns-4)

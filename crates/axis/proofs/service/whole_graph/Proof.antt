@@ -3,15 +3,13 @@ use Rattle.axis.proofs.Served.{whole-built}
 use borrow.Author.Needs.{needs}
 use Rattle.axis.proofs.service.whole_graph.Statement.{statement}
 use Rattle.axis.proofs.service.whole_graph.Tie as tie
-use Rattle.axis.proofs.service.whole_graph.Reads as reads
-use Rattle.axis.proofs.service.whole_graph.Lts as lts
-use Rattle.axis.proofs.build.count_pins.Reads as count-pins-reads
-use Rattle.axis.proofs.build.put_ends.Reads as put-ends-reads
-use Rattle.axis.proofs.build.put_nets.Reads as put-nets-reads
 
 -- the axis's arrays are as long as its type says
-shape : (t : lts.Start (count-pins-reads.Asked, count-pins-reads.Learnt, put-nets-reads.Asked, put-nets-reads.Learnt, put-ends-reads.Asked, put-ends-reads.Learnt) reads.Pre reads.Post) → Shaped (t .args .a)
+shape : (t : tie.Start) → Shaped (t .args .a)
 shape t = search shaped
+
+macro-slots-requires : tie.Need-macro-slots-requires
+macro-slots-requires c κs = search needs
 
 count-pins-requires : tie.Need-count-pins-requires
 count-pins-requires c κs = search needs
@@ -51,23 +49,8 @@ put-ends-requires c κs = search needs
 
 returns : tie.Need-returns
 returns c =
-    let t = c .before .before .before .before .before .before .before .before .before .before in
-    whole-built (t .args .a) (shape t) (t .pre .0) (t .args .ss) (t .pre .1) _ (c .before .before .before .put-nets .ensures) _ (c .before .before .before .before .before .before .before .count-pins .ensures) _ (c .put-ends .ensures)
+    let t = c .before .before .before .before .before .before .before .before .before .before .before in
+    whole-built (t .args .a) (shape t) (t .pre) _ (c .before .before .before .before .before .before .before .before .macro-slots .ensures) _ (c .before .before .before .put-nets .ensures) _ (c .before .before .before .before .before .before .before .count-pins .ensures) _ (c .put-ends .ensures)
 
 pub whole-graph-spec : {M : Type 1} → statement M
-whole-graph-spec =
-    tie.close
-    (tie.spec
-    count-pins-requires
-    mul-at
-    add-at
-    mul-end
-    add-end
-    add-h
-    put-nets-requires
-    mul-t10
-    add-t11
-    mul-t12
-    add-t13
-    put-ends-requires
-    returns)
+whole-graph-spec = tie.close (tie.spec macro-slots-requires count-pins-requires mul-at add-at mul-end add-end add-h put-nets-requires mul-t10 add-t11 mul-t12 add-t13 put-ends-requires returns)

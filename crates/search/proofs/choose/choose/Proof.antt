@@ -3,12 +3,6 @@ use borrow.Author.Needs.{needs}
 use Rattle.search.proofs.choose.choose.Statement.{statement}
 use Rattle.search.proofs.choose.choose.Tie as tie
 
-ranges-across-requires : tie.Need-ranges-across-requires
-ranges-across-requires c κs = search needs
-
-ranges-up-requires : tie.Need-ranges-up-requires
-ranges-up-requires c κs = search needs
-
 is-found-requires : tie.Need-is-found-requires
 is-found-requires c κs = search needs
 
@@ -16,14 +10,12 @@ choose-pair-requires : tie.Need-choose-pair-requires
 choose-pair-requires c κs = (search all-laid, search needs)
 
 returns : tie.Need-returns
-returns c = search chip-chosen
+returns c = (search chip-chosen, search needs)
 
 pub choose-spec : {M : Type 1} → statement M
 choose-spec =
     tie.close
     (tie.spec
-    ranges-across-requires
-    ranges-up-requires
     is-found-requires
     choose-pair-requires
     returns)

@@ -1,14 +1,14 @@
 use Prim.Native.Nat.{_-_, _≤_}
 use borrow.Author.Needs.{needs}
-use Rattle.search.proofs.Choosing.{Seen, none-seen, pair-near, taken-seen, left-seen, all-chosen}
+use Rattle.search.proofs.Choosing.{Seen, none-seen, pair-near, taken-seen, left-seen, all-chosen, all-placed}
 use Rattle.search.proofs.choose.choose_pair.Statement.{statement}
 use Rattle.search.proofs.choose.choose_pair.Tie as tie
 
 abbrev Inv-loop : tie.InvT-loop
-Inv-loop macs n fixes k p weights x y found spots best₀ most₀ at₀ s₀ best most at s = (s ≤ p) × Seen macs n fixes k spots p at s best most
+Inv-loop macs n fixes k p weights kx ky found spots best₀ most₀ at₀ on₀ s₀ best most at on s = (s ≤ p) × Seen macs n fixes k spots p at s best on most
 
 abbrev μ-loop : tie.MeasureT-loop
-μ-loop macs n fixes k p weights x y found spots best₀ most₀ at₀ s₀ best most at s = p - s
+μ-loop macs n fixes k p weights kx ky found spots best₀ most₀ at₀ on₀ s₀ best most at on s = p - s
 
 first-pair-requires : tie.Need-first-pair-requires Inv-loop μ-loop
 first-pair-requires c κs = search needs
@@ -38,7 +38,7 @@ loop-again-2 : tie.Need-loop-again-2 Inv-loop μ-loop
 loop-again-2 c = (search needs, search left-seen)
 
 returns : tie.Need-returns Inv-loop μ-loop
-returns c = search all-chosen
+returns c = (search all-chosen, search all-placed)
 
 pub choose-pair-spec : {M : Type 1} → statement M
 choose-pair-spec =

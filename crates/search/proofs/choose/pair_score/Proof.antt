@@ -1,4 +1,4 @@
-use Rattle.search.proofs.Boxes.{first-small, second-small, pair-scored}
+use Rattle.search.proofs.Boxes.{first-small, second-small, pair-scored, apart-scored}
 use borrow.Author.Needs.{needs}
 use Rattle.search.proofs.choose.pair_score.Statement.{statement}
 use Rattle.search.proofs.choose.pair_score.Tie as tie
@@ -8,6 +8,12 @@ box-at-requires c κs = search needs
 
 second-box-requires : tie.Need-second-box-requires
 second-box-requires c κs = search needs
+
+overlap-requires : tie.Need-overlap-requires
+overlap-requires c κs = (search first-small, search second-small)
+
+returns : tie.Need-returns
+returns c = search apart-scored
 
 open-letters-requires : tie.Need-open-letters-requires
 open-letters-requires c κs = search needs
@@ -24,8 +30,8 @@ earliness-requires c κs = search needs
 score-requires : tie.Need-score-requires
 score-requires c κs = (search first-small, search second-small, search needs, search needs, search needs)
 
-returns : tie.Need-returns
-returns c = search pair-scored
+returns-2 : tie.Need-returns-2
+returns-2 c = search pair-scored
 
 pub pair-score-spec : {M : Type 1} → statement M
 pair-score-spec =
@@ -33,9 +39,11 @@ pair-score-spec =
     (tie.spec
     box-at-requires
     second-box-requires
+    overlap-requires
+    returns
     open-letters-requires
     urgency-requires
     pair-weight-requires
     earliness-requires
     score-requires
-    returns)
+    returns-2)

@@ -1,4 +1,4 @@
-use Rattle.search.proofs.Placing.{dots-lettered, start-counted, whole-record}
+use Rattle.search.proofs.Placing.{arrays-hold, arrays-stand, start-counted, whole-record}
 use borrow.Author.Needs.{needs}
 use Rattle.search.proofs.service.chip_record.Statement.{statement}
 use Rattle.search.proofs.service.chip_record.Tie as tie
@@ -9,17 +9,40 @@ letter-count-requires c κs = search needs
 all-weights-requires : tie.Need-all-weights-requires
 all-weights-requires c κs = search needs
 
-fit-record-requires : tie.Need-fit-record-requires
-fit-record-requires c κs = (search needs, search dots-lettered)
+arrays-of-requires : tie.Need-arrays-of-requires
+arrays-of-requires c κs = search needs
+
+arrays-of-requires-2 : tie.Need-arrays-of-requires-2
+arrays-of-requires-2 c κs = search needs
+
+first-half-requires : tie.Need-first-half-requires
+first-half-requires c κs = search needs
+
+first-half-requires-2 : tie.Need-first-half-requires-2
+first-half-requires-2 c κs = search needs
+
+root-requires : tie.Need-root-requires
+root-requires c κs = (search needs, search needs, search arrays-hold, search arrays-hold)
 
 no-record-requires : tie.Need-no-record-requires
 no-record-requires c κs = search needs
 
 search-requires : tie.Need-search-requires
-search-requires c κs = (search needs, search needs, search dots-lettered, search needs, search start-counted)
+search-requires c κs =
+    let first = c .before .before .before .before .before .before .before .before .before .before .before .before .before .before .before .before .before .before .before .before .before .before .before in
+    let start = first .before .before .before in
+    let ok = start .pre in (
+      ok,
+      first .before .all-weights .ensures,
+      arrays-stand _ _ _ _ _ ok (first .arrays-of .ensures) (c .before .before .before .before .before .before .before .before .before .before .before .before .before .before .before .before .before .before .before .before .before .before .arrays-of2 .ensures),
+      c .before .before .before .before .before .before .before .root .ensures .node,
+      start-counted _ _ ok (c .no-record .ensures),
+    )
 
 returns : tie.Need-returns
-returns c = search whole-record
+returns c =
+    let start = c .before .before .before .before .before .before .before .before .before .before .before .before .before .before .before .before .before .before .before .before .before .before .before .before .before .before .before in
+    whole-record _ _ (start .pre) (c .before .before .before .before .before .before .before .before .before .before .before .before .before .before .before .before .before .before .before .before .before .before .before .before .before .before .letter-count .ensures) _ _ _ (c .before .before .before .before .before .before .before .before .root .ensures) (c .before .no-record .ensures) (c .search .ensures)
 
 pub chip-record-spec : {M : Type 1} → statement M
 chip-record-spec =
@@ -27,7 +50,11 @@ chip-record-spec =
     (tie.spec
     letter-count-requires
     all-weights-requires
-    fit-record-requires
+    arrays-of-requires
+    arrays-of-requires-2
+    first-half-requires
+    first-half-requires-2
+    root-requires
     no-record-requires
     search-requires
     returns)

@@ -1,0 +1,3 @@
+pub mod Products
+pub mod Chains
+pub mod Answering

@@ -1,0 +1,85 @@
+use Prim.Native.Nat.{_-_, _≤_}
+use borrow.Author.Needs.{needs}
+use Rattle.half_fit.proofs.state.copy_part.Statement.{statement}
+use Rattle.half_fit.proofs.state.copy_part.Tie as tie
+
+abbrev Inv-loop : tie.InvT-loop
+Inv-loop from a to₀ o p n left right i₀ to i = 0 ≤ 0
+
+abbrev μ-loop : tie.MeasureT-loop
+μ-loop from a to₀ o p n left right i₀ to i = 128 - i
+
+mul-left : tie.Need-mul-left Inv-loop μ-loop
+mul-left c = search needs
+
+mul-left-2 : tie.Need-mul-left-2 Inv-loop μ-loop
+mul-left-2 c = search needs
+
+add-left : tie.Need-add-left Inv-loop μ-loop
+add-left c = search needs
+
+mul-right : tie.Need-mul-right Inv-loop μ-loop
+mul-right c = search needs
+
+mul-right-2 : tie.Need-mul-right-2 Inv-loop μ-loop
+mul-right-2 c = search needs
+
+add-right : tie.Need-add-right Inv-loop μ-loop
+add-right c = search needs
+
+loop-holds : tie.Need-loop-holds Inv-loop μ-loop
+loop-holds c = search needs
+
+add-to : tie.Need-add-to Inv-loop μ-loop
+add-to c = search needs
+
+mul-to : tie.Need-mul-to Inv-loop μ-loop
+mul-to c = search needs
+
+element-copy-out-to : tie.Need-element-copy-out-to Inv-loop μ-loop
+element-copy-out-to c = search needs
+
+add-to-2 : tie.Need-add-to-2 Inv-loop μ-loop
+add-to-2 c = search needs
+
+mul-to-2 : tie.Need-mul-to-2 Inv-loop μ-loop
+mul-to-2 c = search needs
+
+element-write-to : tie.Need-element-write-to Inv-loop μ-loop
+element-write-to c = search needs
+
+add-i : tie.Need-add-i Inv-loop μ-loop
+add-i c = search needs
+
+loop-less : tie.Need-loop-less Inv-loop μ-loop
+loop-less c = search needs
+
+loop-again : tie.Need-loop-again Inv-loop μ-loop
+loop-again c = search needs
+
+returns : tie.Need-returns Inv-loop μ-loop
+returns c = search needs
+
+pub copy-part-spec : {M : Type 1} → statement M
+copy-part-spec =
+    tie.close
+    (tie.spec
+    Inv-loop
+    μ-loop
+    mul-left
+    mul-left-2
+    add-left
+    mul-right
+    mul-right-2
+    add-right
+    loop-holds
+    add-to
+    mul-to
+    element-copy-out-to
+    add-to-2
+    mul-to-2
+    element-write-to
+    add-i
+    loop-less
+    loop-again
+    returns)

@@ -1,0 +1,57 @@
+use Prim.Native.Nat.{_-_, _≤_}
+use borrow.Author.Needs.{needs}
+use Rattle.half_fit.proofs.ways.raise.Statement.{statement}
+use Rattle.half_fit.proofs.ways.raise.Tie as tie
+
+abbrev Inv-loop : tie.InvT-loop
+Inv-loop m s₀ o d r w₀ s w = 0 ≤ 0
+
+abbrev μ-loop : tie.MeasureT-loop
+μ-loop m s₀ o d r w₀ s w = m - w
+
+loop-holds : tie.Need-loop-holds Inv-loop μ-loop
+loop-holds c = search needs
+
+at-requires : tie.Need-at-requires Inv-loop μ-loop
+at-requires c κs = search needs
+
+value-requires : tie.Need-value-requires Inv-loop μ-loop
+value-requires c κs = search needs
+
+wrapping-sub-u32-requires : tie.Need-wrapping-sub-u32-requires Inv-loop μ-loop
+wrapping-sub-u32-requires c κs = search needs
+
+wrapping-add-u32-requires : tie.Need-wrapping-add-u32-requires Inv-loop μ-loop
+wrapping-add-u32-requires c κs = search needs
+
+set-value-requires : tie.Need-set-value-requires Inv-loop μ-loop
+set-value-requires c κs = search needs
+
+add-w : tie.Need-add-w Inv-loop μ-loop
+add-w c = search needs
+
+loop-less : tie.Need-loop-less Inv-loop μ-loop
+loop-less c = search needs
+
+loop-again : tie.Need-loop-again Inv-loop μ-loop
+loop-again c = search needs
+
+returns : tie.Need-returns Inv-loop μ-loop
+returns c = search needs
+
+pub raise-spec : {M : Type 1} → statement M
+raise-spec =
+    tie.close
+    (tie.spec
+    Inv-loop
+    μ-loop
+    loop-holds
+    at-requires
+    value-requires
+    wrapping-sub-u32-requires
+    wrapping-add-u32-requires
+    set-value-requires
+    add-w
+    loop-less
+    loop-again
+    returns)

@@ -1,0 +1,147 @@
+// The push of an amount along the parents of a way.
+use crate::lists::HELP;
+use crate::residual::set_flow;
+use crate::residual::set_hi;
+use crate::residual::set_lo;
+use crate::state::F;
+use crate::state::FAR;
+use crate::state::FWD;
+use crate::state::H;
+use crate::state::L;
+use crate::state::LO;
+use crate::state::POOL;
+use crate::state::REV;
+use crate::state::V;
+use crate::state::at;
+use crate::state::cell;
+use crate::state::get;
+use crate::state::wide;
+use crate::tables::ARCS;
+use crate::tables::TAB;
+use std::num::wrapping_add_u32;
+use std::num::wrapping_sub_u32;
+
+// What the step from p to w can take.
+fn spare(s: &[u32; POOL], o: usize, p: usize, w: usize) -> u32 {
+    let how = get(s, o, V, cell(p, w));
+    if how == FWD {
+        return FAR;
+    }
+    if how == REV {
+        return get(s, o, F, cell(w, p));
+    }
+    if how < LO {
+        return get(s, o, H, wide(how));
+    }
+    get(s, o, L, wide(how) / 256)
+}
+
+// What can be pushed along the parents from u back to v.
+pub(crate) fn narrowest(s: &[u32; POOL], o: usize, par: &[u32; 16], u: usize, v: usize) -> u32 {
+    let mut q = FAR;
+    let mut w = u;
+    let mut turn: usize = 0;
+    while turn < 9 {
+        if w == v {
+            return q;
+        }
+        let p = wide(at(par, w));
+        let a = spare(s, o, p, w);
+        if a < q {
+            q = a;
+        }
+        w = p;
+        turn += 1;
+    }
+    q
+}
+
+// q goes to hi over entry i in place of entry j.
+fn over_hi(
+    tab: &[u32; TAB],
+    help: &[u32; HELP],
+    arcs: &[u32; ARCS],
+    s: &mut [u32; POOL],
+    o: usize,
+    i: usize,
+    j: usize,
+    q: u32,
+) {
+    let a = get(s, o, H, i);
+    set_hi(tab, help, arcs, s, o, i, wrapping_add_u32(a, q));
+    let b = get(s, o, H, j);
+    set_hi(tab, help, arcs, s, o, j, wrapping_sub_u32(b, q));
+}
+
+// q comes from lo over entry j in place of entry i.
+fn over_lo(
+    tab: &[u32; TAB],
+    help: &[u32; HELP],
+    arcs: &[u32; ARCS],
+    s: &mut [u32; POOL],
+    o: usize,
+    i: usize,
+    j: usize,
+    q: u32,
+) {
+    let a = get(s, o, L, i);
+    set_lo(tab, help, arcs, s, o, i, wrapping_sub_u32(a, q));
+    let b = get(s, o, L, j);
+    set_lo(tab, help, arcs, s, o, j, wrapping_add_u32(b, q));
+}
+
+// q over the step from p to w.
+fn step(
+    tab: &[u32; TAB],
+    help: &[u32; HELP],
+    arcs: &[u32; ARCS],
+    s: &mut [u32; POOL],
+    o: usize,
+    p: usize,
+    w: usize,
+    q: u32,
+) {
+    let how = get(s, o, V, cell(p, w));
+    if how == FWD {
+        let a = get(s, o, F, cell(p, w));
+        set_flow(help, arcs, s, o, p, w, wrapping_add_u32(a, q));
+        return;
+    }
+    if how == REV {
+        let a = get(s, o, F, cell(w, p));
+        set_flow(help, arcs, s, o, w, p, wrapping_sub_u32(a, q));
+        return;
+    }
+    let i = wide(how) / 256 % 128;
+    let j = wide(how) % 128;
+    if how < LO {
+        over_hi(tab, help, arcs, s, o, i, j, q);
+        return;
+    }
+    over_lo(tab, help, arcs, s, o, i, j, q);
+}
+
+// q along the parents from u back to v.
+pub(crate) fn carry(
+    tab: &[u32; TAB],
+    help: &[u32; HELP],
+    arcs: &[u32; ARCS],
+    s: &mut [u32; POOL],
+    o: usize,
+    par: &[u32; 16],
+    u: usize,
+    v: usize,
+    q: u32,
+) {
+    let mut w = u;
+    let mut turn: usize = 0;
+    while turn < 9 {
+        if w == v {
+            return;
+        }
+        let p = wide(at(par, w));
+        step(tab, help, arcs, s, o, p, w, q);
+        w = p;
+        turn += 1;
+    }
+}

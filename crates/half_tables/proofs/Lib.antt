@@ -1,0 +1,12 @@
+pub mod Padding
+pub mod HalfHere
+pub mod LetterBounds
+pub mod Stores
+pub mod Spanning
+pub mod Dotting
+pub mod Entering
+pub mod NetTables
+pub mod Covering
+pub mod ChipNets
+pub mod ChipDots
+pub mod Making

@@ -1,0 +1,4 @@
+pub mod Tables
+pub mod Entries
+pub mod Dots
+pub mod Made

@@ -1,0 +1,61 @@
+use borrow.Author.Needs.{needs}
+use Rattle.half_test.proofs.Fitting.{shows-fit}
+use Rattle.half_test.proofs.proposal.test_fit.Statement.{statement}
+use Rattle.half_test.proofs.proposal.test_fit.Tie as tie
+
+coordinates-of-requires : tie.Need-coordinates-of-requires
+coordinates-of-requires c κs = search needs
+
+values-of-requires : tie.Need-values-of-requires
+values-of-requires c κs = search needs
+
+keeps-bounds-requires : tie.Need-keeps-bounds-requires
+keeps-bounds-requires c κs = search needs
+
+returns : tie.Need-returns
+returns c = search needs
+
+reasons-requires : tie.Need-reasons-requires
+reasons-requires c κs = search needs
+
+returns-2 : tie.Need-returns-2
+returns-2 c = search needs
+
+length-at-requires : tie.Need-length-at-requires
+length-at-requires c κs = search needs
+
+worth-of-requires : tie.Need-worth-of-requires
+worth-of-requires c κs = search needs
+
+returns-3 : tie.Need-returns-3
+returns-3 c = search needs
+
+returns-4 : tie.Need-returns-4
+returns-4 c = search needs
+
+passes-requires : tie.Need-passes-requires
+passes-requires c κs = search needs
+
+returns-5 : tie.Need-returns-5
+returns-5 c = search needs
+
+returns-6 : tie.Need-returns-6
+returns-6 c = search shows-fit
+
+pub test-fit-spec : {M : Type 1} → statement M
+test-fit-spec =
+    tie.close
+    (tie.spec
+    coordinates-of-requires
+    values-of-requires
+    keeps-bounds-requires
+    returns
+    reasons-requires
+    returns-2
+    length-at-requires
+    worth-of-requires
+    returns-3
+    returns-4
+    passes-requires
+    returns-5
+    returns-6)

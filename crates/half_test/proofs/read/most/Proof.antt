@@ -1,0 +1,25 @@
+use Rattle.half_test.specs.Arrays.{mostAt}
+use borrow.Author.Needs.{needs}
+use Rattle.half_test.proofs.read.most.Statement.{statement}
+use Rattle.half_test.proofs.read.most.Tie as tie
+use Rattle.half_test.proofs.read.most.Reads as reads
+use Rattle.half_test.proofs.read.most.Lts as lts
+
+add-result : tie.Need-add-result
+add-result c = search needs
+
+mul-result : tie.Need-mul-result
+mul-result c = search needs
+
+element-copy-out-result : tie.Need-element-copy-out-result
+element-copy-out-result c = search needs
+
+cast-result : tie.Need-cast-result
+cast-result c = search needs
+
+returns : tie.Need-returns
+unfolding mostAt
+returns c = search needs
+
+pub most-spec : {M : Type 1} → statement M
+most-spec = tie.close (tie.spec add-result mul-result element-copy-out-result cast-result returns)

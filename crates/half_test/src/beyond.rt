@@ -1,0 +1,26 @@
+// The test of a proposal that a half fit is above a room: by amounts alone, no values are read.
+ghost use Rattle.bounds.specs.Half.{AboveOn};
+ghost use Rattle.half_test.specs.Arrays.{axisOn};
+ghost use Rattle.half_test.specs.Tests.{Says};
+use crate::amounts::passes;
+use crate::worth::worth_of;
+
+// Whether the amounts of state o show that the half fit is above the room or does not exist.
+pub fn shows_beyond(
+    tab: &[u32; 1024],
+    arcs: &[u32; 128],
+    st: &[u32; 4096],
+    o: usize,
+    room: u64,
+) -> bool
+    ensures { λ r. ⌜ Says r (AboveOn (axisOn (now (tab .entry)) (now (arcs .entry))) room) ⌝ }
+{
+    let w = worth_of(tab, arcs, st, o);
+    if w.more <= w.less {
+        return false;
+    }
+    if w.more - w.less <= room {
+        return false;
+    }
+    passes(tab, st, o)
+}

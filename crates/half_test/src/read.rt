@@ -1,0 +1,71 @@
+// Reading the lent arrays: every index is taken modulo its range, every number modulo its limit.
+ghost use Prim.Native.Nat.{_<_};
+ghost use mathlib.Core.Path.{_≡_};
+ghost use Rattle.half_test.specs.Arrays.{boundAt, entryCount, nodeAt, mostAt, leastAt, netAt, weightAt};
+ghost use Rattle.half_test.specs.State.{amountAt, rankAt};
+
+pub(crate) fn bound(arcs: &[u32; 128], c: usize) -> u64
+    ensures { λ r. ⌜ r ≡ boundAt (now (arcs .entry)) c ⌝ }
+{
+    (arcs[c % 128] % 33554432) as u64
+}
+
+pub(crate) fn entries(tab: &[u32; 1024]) -> usize
+    ensures { λ r. ⌜ r ≡ entryCount (now (tab .entry)) ⌝ }
+{
+    (tab[898] % 129) as usize
+}
+
+pub(crate) fn node(tab: &[u32; 1024], e: usize) -> usize
+    ensures { λ r. ⌜ r ≡ nodeAt (now (tab .entry)) e ⌝ }
+{
+    (tab[e % 128] % 9) as usize
+}
+
+pub(crate) fn most(tab: &[u32; 1024], e: usize) -> u64
+    ensures { λ r. ⌜ r ≡ mostAt (now (tab .entry)) e ⌝ }
+{
+    (tab[128 + e % 128] % 65536) as u64
+}
+
+pub(crate) fn least(tab: &[u32; 1024], e: usize) -> u64
+    ensures { λ r. ⌜ r ≡ leastAt (now (tab .entry)) e ⌝ }
+{
+    (tab[256 + e % 128] % 65536) as u64
+}
+
+pub(crate) fn net(tab: &[u32; 1024], e: usize) -> usize
+    ensures { λ r. ⌜ r ≡ netAt (now (tab .entry)) e ⌝ }
+{
+    (tab[384 + e % 128] % 32) as usize
+}
+
+pub(crate) fn weight(tab: &[u32; 1024], j: usize) -> u64
+    ensures { λ r. ⌜ r ≡ weightAt (now (tab .entry)) j ⌝ }
+{
+    (tab[576 + j % 64] % 65536) as u64
+}
+
+pub(crate) fn amount(st: &[u32; 4096], o: usize, p: usize, k: usize) -> u64
+    ensures { λ r. ⌜ r ≡ amountAt (now (st .entry)) o p k ⌝ }
+{
+    (st[o % 4 * 1024 + p % 8 * 128 + k % 128] % 65536) as u64
+}
+
+// The parent of node k.
+pub(crate) fn parent(st: &[u32; 4096], o: usize, k: usize) -> usize
+    ensures { λ r. ⌜ r < 9 ⌝ }
+{
+    (st[o % 4 * 1024 + 800 + k % 16] % 9) as usize
+}
+
+pub(crate) fn rank(st: &[u32; 4096], o: usize, k: usize) -> u32
+    ensures { λ r. ⌜ r ≡ rankAt (now (st .entry)) o k ⌝ }
+{
+    st[o % 4 * 1024 + 816 + k % 16]
+}
+
+// How the residual bound at place c arises.
+pub(crate) fn way(st: &[u32; 4096], o: usize, c: usize) -> u32 {
+    st[o % 4 * 1024 + 128 + c % 128]
+}

@@ -1,0 +1,9 @@
+pub mod Halving
+pub mod Opposite
+pub mod NotAfter
+pub mod Covers
+pub mod Entries
+pub mod Exchanging
+pub mod StillLegal
+pub mod SameLength
+pub mod EqualMacros

@@ -1,0 +1,4 @@
+pub mod Half
+pub mod Kept
+pub mod Exchange
+pub mod Result

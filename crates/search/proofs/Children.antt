@@ -1,0 +1,120 @@
+-- A node's child: the letters with one more, the half of the fit that the letter leaves as it is, and the half fit in the letter's direction.
+use Prim.{tt}
+use Prim.Native.Nat.{ℕ, _<_}
+use mathlib.Core.Path.{_≡_, refl, sym, ap, subst, _∙_}
+use mathlib.Core.List.{List}
+use native.Mathlib.Omega.{arith}
+use lib.ListN.{length, getD, set}
+use Rattle.model.specs.declared.Chip.{Chip as HeldChip}
+use Rattle.model.specs.declared.Record.{Record as HeldRecord}
+use Rattle.model.specs.declared.Spot.{Spot}
+use Rattle.model.specs.Meaning.{Chip, chipOf}
+use Rattle.chip.specs.Passed.{Passed}
+use Rattle.placement.specs.Letters.{Letter, dot}
+use Rattle.placement.specs.Least.{Best, nothing, found}
+use Rattle.bounds.specs.declared.Slot.{Slot}
+use Rattle.bounds.specs.Axis.{Axis, lengthOn}
+use Rattle.bounds.specs.Half.{HalfOn}
+use Rattle.slots.specs.declared.Direction.{Direction}
+use Rattle.slots.specs.declared.Direction.the-variants.{Horizontal as horizontal, Vertical as vertical}
+use Rattle.slots.specs.Slots.{asked, couples}
+use Rattle.slots.specs.Axes.{axisFor, cornersOn}
+use Rattle.slots.proofs.Counting.{letters-count}
+use Rattle.halves.specs.Half.{otherWay}
+use Rattle.halves.proofs.Halving.{fit-half, other-axis}
+use Rattle.half_fit.specs.declared.service.HalfFit.{HalfFit}
+use Rattle.half_fit.specs.declared.service.HalfOutcome.{HalfOutcome}
+use Rattle.half_fit.specs.declared.service.HalfOutcome.the-variants as answer
+use Rattle.half_fit.specs.Answer.{Answers}
+use Rattle.half_tables.specs.Tables.{Tabled, Arced, withBound}
+use Rattle.half_tables.proofs.HalfHere.{half-here, above-here}
+use Rattle.half_tables.proofs.LetterBounds.{arced-letter}
+use Rattle.search.specs.declared.node.Node.{Node}
+use Rattle.search.specs.Best.{bestOf}
+use Rattle.search.specs.Search.{byteOf, lettersIn, letterAt, wayAt, Lettered, roomOf, HalfSaid, ChildHeld, NodeOk}
+use Rattle.search.specs.Turns.{Open, Asks, Beside}
+use Rattle.search.proofs.Asking.{way-of, asks-beside}
+use Rattle.search.proofs.Lettering.{letters-set, letters-long, lettered-set}
+
+-- a result that is not nothing
+pub record Found (b : Best) : Type 0 where
+  pub length : ℕ
+  pub spots : List Spot
+  pub is : b ≡ found length spots
+
+pub not-nothing : (b : Best) → (b ≡ nothing → ⊥) → Found b
+not-nothing nothing h = absurd (h refl)
+not-nothing (found l ps) h = record { length = l; spots = ps; is = refl }
+
+module _ (c : HeldChip) (p : ℕ) (node : Node) (s i : ℕ) where
+  abbrev C : Chip
+  C = chipOf c
+
+  abbrev ls : List Letter
+  ls = lettersIn (node .letters) p
+
+  module _ (t : Slot) (ok : Passed c) (n : NodeOk c p node) (o : Open c p node s) (a : Asks c s i t) where
+    counted : length ls ≡ length (couples C)
+    counted = let g = n .letters .few in let w = n .whole in letters-long (node .letters) p (omega arith) ∙ (n .letters .count ∙ sym (letters-count C))
+
+    place-in : s < length ls
+    place-in = let g = n .letters .few in let w = n .whole in let h = o .place in let m = letters-long (node .letters) p (omega arith) in omega arith
+
+    -- the letters r are those of the node with letter i for pair s
+    module _ (r : List ℕ) (e : r ≡ set (node .letters) s (byteOf i)) where
+      now : lettersIn r p ≡ set ls s (letterAt i)
+      now = ap (λ (z : List ℕ). lettersIn z p) e ∙ letters-set (node .letters) p s (byteOf i) (o .place)
+
+      pub child-lettered : Lettered c r p
+      child-lettered = subst (λ (z : List ℕ). Lettered c z p) (sym e) (lettered-set c (node .letters) p s i (n .letters) (o .place) (a .four))
+
+      pub child-held : (best f : HeldRecord) → ChildHeld c r p best f → ChildHeld c (set (node .letters) s (byteOf i)) p best f
+      child-held best f h = subst (λ (z : List ℕ). ChildHeld c z p best f) e h
+
+      module _ (d : Direction) (w : wayAt i ≡ d) where
+        -- the other direction has the same bounds
+        same : axisFor (otherWay d) C (lettersIn r p) ≡ axisFor (otherWay d) C ls
+        same = ap (axisFor (otherWay d) C) now ∙ other-axis (otherWay d) C ls s (letterAt i) asks
+          where
+            asks : asked (otherWay d) (letterAt i) ≡ asked (otherWay d) (getD ls s dot)
+            asks = subst (λ (v : Direction). asked (otherWay v) (letterAt i) ≡ asked (otherWay v) dot) w (asks-beside i (a .four)) ∙ ap (asked (otherWay d)) (sym (o .undecided))
+
+        beside : (m : ℕ) → ((l : ℕ) (ps : List Spot) → bestOf (node .here) ≡ found l ps → m ≡ lengthOn (axisFor (otherWay d) C ls) (cornersOn (otherWay d) ps)) → Beside c r p (node .here) d m
+        beside m h = record {
+          counted = n .fit .counted;
+          length = f .length;
+          spots = f .spots;
+          found = f .is;
+          half =
+              subst (λ (z : Axis). HalfOn z m (cornersOn (otherWay d) (f .spots))) (sym same)
+              (subst (λ (k : ℕ). HalfOn (axisFor (otherWay d) C ls) k (cornersOn (otherWay d) (f .spots))) (sym (h (f .length) (f .spots) (f .is)))
+              (fit-half C ls (ok .valid) (f .length) (f .spots) (sym (n .fit .is) ∙ f .is) (otherWay d)));
+        }
+          where
+            f : Found (bestOf (node .here))
+            f = not-nothing (bestOf (node .here)) (o .found)
+
+        -- what is known of the half fit of the arrays is known of the chip's
+        said : (tab old arcs : List ℕ) → Tabled d C tab → Arced d C ls old → arcs ≡ withBound old t → (room : ℕ) (f : HalfFit) → Answers tab arcs room (f .outcome) (f .at) → HalfSaid C (lettersIn r p) d room (f .outcome) (f .at)
+        said tab old arcs tabled arced q room f h = by (f .outcome) h
+          where
+            bounded : Arced d C (lettersIn r p) arcs
+            bounded = rw (now, q, a .slot) (arced-letter d C (ok .valid) ls counted s (letterAt i) place-in (o .undecided) old arced (way-of i (a .four) ∙ w))
+
+            by : (k : HalfOutcome) → Answers tab arcs room k (f .at) → HalfSaid C (lettersIn r p) d room k (f .at)
+            by (answer.Fit l) g = half-here d C (lettersIn r p) (ok .valid) tab arcs tabled bounded l (f .at) (g .half)
+            by answer.Beyond g = above-here d C (lettersIn r p) (ok .valid) tab arcs tabled bounded room g
+            by answer.Unshown g = tt
+
+      pub beside-x : wayAt i ≡ horizontal → Beside c r p (node .here) horizontal (node .ly)
+      beside-x w = beside horizontal w (node .ly) (n .halves .y)
+
+      pub beside-y : wayAt i ≡ vertical → Beside c r p (node .here) vertical (node .lx)
+      beside-y w = beside vertical w (node .lx) (n .halves .x)
+
+      module _ (best : HeldRecord) (tab arcs : List ℕ) (room : ℕ) (f : HalfFit) (h : Answers tab arcs room (f .outcome) (f .at)) where
+        pub said-x : wayAt i ≡ horizontal → Tabled horizontal C tab → arcs ≡ withBound (node .ax) t → room ≡ roomOf (best .outcome) (node .ly) → HalfSaid C (lettersIn r p) horizontal (roomOf (best .outcome) (node .ly)) (f .outcome) (f .at)
+        said-x w tabled q m = subst (λ (k : ℕ). HalfSaid C (lettersIn r p) horizontal k (f .outcome) (f .at)) m (said horizontal w tab (node .ax) arcs tabled (n .across) q room f h)
+
+        pub said-y : wayAt i ≡ vertical → Tabled vertical C tab → arcs ≡ withBound (node .ay) t → room ≡ roomOf (best .outcome) (node .lx) → HalfSaid C (lettersIn r p) vertical (roomOf (best .outcome) (node .lx)) (f .outcome) (f .at)
+        said-y w tabled q m = subst (λ (k : ℕ). HalfSaid C (lettersIn r p) vertical k (f .outcome) (f .at)) m (said vertical w tab (node .ay) arcs tabled (n .up) q room f h)

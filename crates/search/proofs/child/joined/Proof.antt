@@ -1,0 +1,49 @@
+use Rattle.search.proofs.Joining.{fit-child, beyond-child, joined-small, joined-child}
+use borrow.Author.Needs.{needs}
+use Rattle.search.proofs.child.joined.Statement.{statement}
+use Rattle.search.proofs.child.joined.Tie as tie
+
+enum-known-outcome : tie.Need-enum-known-outcome
+enum-known-outcome c = search needs
+
+add-t14 : tie.Need-add-t14
+add-t14 c = search (needs, joined-small)
+
+spots-with-requires : tie.Need-spots-with-requires
+spots-with-requires c κs = search needs
+
+enum-told : tie.Need-enum-told
+enum-told c = search needs
+
+no-record-requires : tie.Need-no-record-requires
+no-record-requires c κs = search needs
+
+enum-told-2 : tie.Need-enum-told-2
+enum-told-2 c = search needs
+
+fit-record-requires : tie.Need-fit-record-requires
+fit-record-requires c κs = search needs
+
+returns : tie.Need-returns
+returns c = search (needs, joined-child)
+
+returns-2 : tie.Need-returns-2
+returns-2 c = search (needs, beyond-child)
+
+returns-3 : tie.Need-returns-3
+returns-3 c = search (needs, fit-child)
+
+pub joined-spec : {M : Type 1} → statement M
+joined-spec =
+    tie.close
+    (tie.spec
+    enum-known-outcome
+    add-t14
+    spots-with-requires
+    enum-told
+    no-record-requires
+    enum-told-2
+    fit-record-requires
+    returns
+    returns-2
+    returns-3)

@@ -1,0 +1,66 @@
+// The letters of a pair that the differences leave open. They guide the choice of the pair and nothing else, so nothing is promised of them.
+use model::Fix;
+use model::Mac;
+use pairs::Cursor;
+use pairslots::slot_at;
+use slots::Asked;
+use slots::Direction;
+ghost use Prim.Native.Nat.{_≤_};
+
+pub(crate) struct Open {
+    pub left: bool,
+    pub right: bool,
+    pub below: bool,
+    pub above: bool,
+}
+
+pub(crate) fn open_letters(
+    macs: [Mac; 8],
+    fixes: [Fix; 8],
+    kx: [u32; 128],
+    ky: [u32; 128],
+    at: Cursor,
+) -> Open {
+    Open {
+        left: !kept::excludes(
+            kx,
+            slot_at(at, Asked::Before, macs, fixes, Direction::Horizontal),
+        ),
+        right: !kept::excludes(
+            kx,
+            slot_at(at, Asked::After, macs, fixes, Direction::Horizontal),
+        ),
+        below: !kept::excludes(
+            ky,
+            slot_at(at, Asked::Before, macs, fixes, Direction::Vertical),
+        ),
+        above: !kept::excludes(
+            ky,
+            slot_at(at, Asked::After, macs, fixes, Direction::Vertical),
+        ),
+    }
+}
+
+// 1 for a letter that is not open.
+fn closed(open: bool) -> u64
+    ensures { λ r. ⌜ r ≤ 1 ⌝ }
+{
+    if open {
+        return 0;
+    }
+    1
+}
+
+// How urgent a pair is: while no placement is found, pairs with at most two open letters come first, those with fewer earlier.
+pub(crate) fn urgency(found: bool, open: Open) -> u64
+    ensures { λ r. ⌜ r ≤ 3 ⌝ }
+{
+    if found {
+        return 0;
+    }
+    let count = closed(open.left) + closed(open.right) + closed(open.below) + closed(open.above);
+    if count < 2 {
+        return 0;
+    }
+    count - 1
+}
