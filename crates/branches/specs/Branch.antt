@@ -1,4 +1,4 @@
--- A branch of the search: the earliest least legal placement among those that keep some letters, and the better of two results.
+-- A branch of the search: the legal placements that keep some letters; the better of two results.
 use Prim.Native.Nat.{ℕ, suc}
 use mathlib.Core.List.{List, [], _∷_}
 use mathlib.Core.Bool.{Bool, true, false, _&&_, _||_}
@@ -8,7 +8,7 @@ use Rattle.model.specs.Meaning.{Chip}
 use Rattle.placement.specs.Legal.{legal}
 use Rattle.placement.specs.Order.{before}
 use Rattle.placement.specs.Letters.{Letter, dot, left, right, low, high, keepsLetters}
-use Rattle.placement.specs.Least.{Best, nothing, found, firstLeast}
+use Rattle.placement.specs.Least.{Best, nothing, found}
 
 -- a placement of length l, or an equally long one that comes earlier: document 01, "the best placement so far is replaced by a shorter one, or by an equally short one that comes earlier"
 abbrev pub replaces : ℕ → List Spot → ℕ → List Spot → Bool
@@ -24,12 +24,9 @@ better a nothing = a
 better nothing (found l ps) = found l ps
 better (found m qs) (found l ps) = pick (replaces l ps m qs) (found l ps) (found m qs)
 
--- the earliest least legal placement of those that keep the letters
+-- a legal placement that keeps the letters
 abbrev pub inBranch : Chip → List Letter → List Spot → Bool
 inBranch c ls ps = legal c ps && keepsLetters c ls ps
-
-unfoldable pub underLetters : Chip → List Letter → Best
-underLetters c ls = firstLeast c (inBranch c ls)
 
 abbrev pub isDot : Letter → Bool
 isDot left = false

@@ -203,10 +203,3 @@ arced-other d c ls s m arcs e f a =
       down = λ z l h. subst (λ (t : Axis). Keeps t (take (length (c .macs)) z)) (sym g) (a .down z l h);
       up = λ y k. a .up y (subst (λ (t : Axis). Keeps t y) g k);
     }
-
--- nothing of such a slot is reduced: its place and its bound as they are
-pub plain-place : (n : ℕ) (s : Slot) → n ≤ 8 → Plain n s → placeOn s ≡ s .tail * 9 + s .head
-plain-place n s l p = let a = p .tail in let b = p .head in omega arith
-
-pub plain-bound : (n : ℕ) (s : Slot) → Plain n s → boundOn s ≡ raised + s .plus - s .minus
-plain-bound n s p = let a = p .plus in let b = p .minus in omega arith

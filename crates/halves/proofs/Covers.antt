@@ -1,6 +1,6 @@
 -- What a result covers: it is not after a legal placement under letters, one by one. The fit is not after any; a half fit above the room that the best leaves shows that the best is not; a legal result that is not after any legal placement is the chip's.
 use Prim.{tt}
-use Prim.Native.Nat.{ℕ, _+_, _-_, _≤_, _<_}
+use Prim.Native.Nat.{ℕ, _+_, _≤_, _<_}
 use mathlib.Core.Path.{_≡_, refl, sym, ap, subst, _∙_}
 use mathlib.Core.Bool.{Bool, true, false}
 use mathlib.Core.List.{List}
@@ -15,7 +15,7 @@ use Rattle.placement.specs.Legal.{legal}
 use Rattle.placement.specs.Length.{wirelength}
 use Rattle.placement.specs.Order.{before}
 use Rattle.placement.specs.Letters.{Letter, pairs, keepsLetters}
-use Rattle.placement.specs.Least.{Best, nothing, found, fitOf, firstLeast, earliestLeast}
+use Rattle.placement.specs.Least.{Best, nothing, found, fitOf, earliestLeast}
 use Rattle.placement.proofs.Demand.{earliest-least-found, nothing-legal, nothing-fits}
 use Rattle.bounds.specs.Axis.{Keeps}
 use Rattle.bounds.specs.Half.{HalfOn, AboveOn}
@@ -26,14 +26,14 @@ use Rattle.slots.proofs.Keeping.{keeps-splits}
 use Rattle.slots.proofs.Lengths.{lengths-split}
 use Rattle.branches.specs.Branch.{replaces, pick, better, inBranch}
 use Rattle.branches.proofs.Replaces.{true-false, not-true-false, replaces-says}
-use Rattle.branches.proofs.Betters.{Sized, better-sized}
+use Rattle.branches.proofs.Betters.{Sized}
 use Rattle.branches.proofs.Overlaps.{and-both, keepsAt, keeps-set}
-use Rattle.branches.proofs.Unions.{Stands, passes-long, only-answer, earliest-stands}
-use Rattle.branches.proofs.Closing.{legal-inside, letters-inside, branch-inside, fit-sized, fit-first}
+use Rattle.branches.proofs.Unions.{Stands, passes-long, earliest-stands}
+use Rattle.branches.proofs.Closing.{legal-inside, branch-inside, fit-sized, fit-first}
 use Rattle.halves.specs.Half.{otherWay}
 use Rattle.halves.specs.Kept.{keepsOne, asksAt, oppositeAt}
 use Rattle.halves.specs.Result.{placed, NotAfter, Real}
-use Rattle.halves.proofs.NotAfter.{after-same, after-trans, after-antisym}
+use Rattle.halves.proofs.NotAfter.{after-trans, after-antisym}
 use Rattle.halves.proofs.Opposite.{opposite, place-difference, past}
 
 module _ (c : Chip) where

@@ -1,16 +1,15 @@
 -- Of a net's pins on one node only the greatest and the least place count. An axis with other bounds and other pins that keeps the same coordinates and gives them the same length has the same half fit.
 use Prim.Native.Nat.{ℕ, _≤_, _<_}
-use Prim.{Unit}
-use mathlib.Core.Path.{_≡_, refl, ap}
-use mathlib.Core.List.{List, [], _∷_}
+use mathlib.Core.Path.{_≡_, ap}
+use mathlib.Core.List.{List}
 use native.Mathlib.Omega.{arith}
 use lib.ListN.{length, getD}
 use Rattle.numbers.specs.Spread.{spread}
 use Rattle.numbers.proofs.Spreads.{top, bottom, top-bottom, each-le-top, bottom-le-each, top-le, le-bottom}
 use Rattle.bounds.specs.declared.AxisPin.{AxisPin}
-use Rattle.bounds.specs.Axis.{NetOn, Axis, noPin, valueAt, Keeps, places, netsLength, lengthOn}
+use Rattle.bounds.specs.Axis.{noPin, valueAt, places}
 use Rattle.bounds.proofs.Places.{length-places, place-at}
-use Rattle.halves.specs.Half.{Half, noHalf, half, IsHalf}
+use Rattle.halves.specs.Half.{half}
 
 -- one of the pins is on the node of p, and its place is not less than that of p
 pub record Over (qs : List AxisPin) (p : AxisPin) : Type 0 where
@@ -61,17 +60,3 @@ entries-spread z ps qs f g =
     let a = top-covered z ps qs f in let b = top-covered z qs ps g in let c = bottom-covered z ps qs f in let d = bottom-covered z qs ps g in
     let e = top-bottom (places z ps) in let h = top-bottom (places z qs) in
     omega arith
-
--- nets of the same weights whose pins cover each other
-abbrev pub SameNets : List NetOn → List NetOn → Type 0
-SameNets [] [] = Unit {0}
-SameNets [] (u ∷ us) = ⊥
-SameNets (t ∷ ts) [] = ⊥
-SameNets (t ∷ ts) (u ∷ us) = (t .weight ≡ u .weight) × Covered (t .pins) (u .pins) × Covered (u .pins) (t .pins) × SameNets ts us
-
-pub entries-length : (z : List ℕ) (ts us : List NetOn) → SameNets ts us → netsLength z ts ≡ netsLength z us
-unfolding netsLength
-entries-length z [] [] s = refl
-entries-length z [] (u ∷ us) s = absurd s
-entries-length z (t ∷ ts) [] s = absurd s
-entries-length z (t ∷ ts) (u ∷ us) (w, f, g, s) = rw (w, entries-spread z (t .pins) (u .pins) f g, entries-length z ts us s)

@@ -49,12 +49,6 @@ spots-y [] (y ∷ ys) e = absurd (omega arith)
 spots-y (x ∷ xs) [] e = absurd (omega arith)
 spots-y (x ∷ xs) (y ∷ ys) e = ap (λ (s : List ℕ). y ∷ s) (spots-y xs ys (omega arith))
 
--- a placement is its two directions
-pub spots-back : (ps : List Spot) → spotsOf (cornersOn horizontal ps) (cornersOn vertical ps) ≡ ps
-unfolding spotsOf
-spots-back [] = refl
-spots-back (p ∷ ps) = ap (λ (s : List Spot). p ∷ s) (spots-back ps)
-
 same-numbers : (s t : List ℕ) → length s ≡ length t → ((i : ℕ) → getD s i 0 ≡ getD t i 0) → s ≡ t
 same-numbers [] [] e h = refl
 same-numbers [] (b ∷ t) e h = absurd (omega arith)
@@ -222,6 +216,3 @@ slots-set d (l ∷ ls) (q ∷ qs) (suc s) m e = rw (slots-set d ls qs s m e)
 pub other-axis : (d : Direction) (c : Chip) (ls : List Letter) (s : ℕ) (m : Letter) → asked d m ≡ asked d (getD ls s dot) → axisFor d c (set ls s m) ≡ axisFor d c ls
 unfolding axisFor
 other-axis d c ls s m e = rw (slots-set d ls (couples c) s m e)
-
-pub other-half : (d : Direction) (c : Chip) (ls : List Letter) (s : ℕ) (m : Letter) → asked d m ≡ asked d (getD ls s dot) → (h : Half) → IsHalf (axisFor d c ls) h → IsHalf (axisFor d c (set ls s m)) h
-other-half d c ls s m e h = subst (λ (a : Axis). IsHalf a h) (sym (other-axis d c ls s m e))

@@ -1,16 +1,15 @@
 -- A placement that does not keep a letter keeps its opposite, one track the other way.
 use Prim.Native.Nat.{ℕ, suc, _+_, _≤_, _<_}
 use mathlib.Core.Path.{_≡_, refl, sym, ap, _∙_}
-use mathlib.Core.Bool.{Bool, true, false, not, _&&_, _||_, or-true, false≢true}
-use mathlib.Core.List.{List, _∷_}
+use mathlib.Core.Bool.{Bool, true, false, not, false≢true}
+use mathlib.Core.List.{List}
 use mathlib.Core.Logic.{_⊎_, inl, inr}
 use native.Mathlib.Decide.{decLe}
 use native.Mathlib.Omega.{arith}
-use lib.ListN.{length, getD, set, List·getD-map}
+use lib.ListN.{length, getD, List·getD-map}
 use borrow.Author.Tests.{leb-true, le-leb, lt-leb}
 use Rattle.model.specs.declared.Spot.{Spot}
 use Rattle.model.specs.Meaning.{Chip}
-use Rattle.grammar.proofs.Lacks.{and-left, and-right}
 use Rattle.placement.specs.Legal.{legal}
 use Rattle.placement.specs.Letters.{Letter, left, right, low, high, dot, keeps, Pair, pairs, keepsLetters}
 use Rattle.placement.proofs.FitIs.{letters-long}
@@ -21,7 +20,7 @@ use Rattle.slots.specs.declared.Direction.the-variants.{Horizontal as horizonta
 use Rattle.slots.specs.Slots.{asked, Couple, twoMacs, macFix, couples}
 use Rattle.slots.specs.Axes.{heldSlot, cornersOn}
 use Rattle.slots.proofs.Pairs.{pairOf, pairs-couples, kept-slot, slot-kept}
-use Rattle.branches.proofs.Overlaps.{and-both, keepsAt, letters-pairs-long, keeps-set, legal-apart-at}
+use Rattle.branches.proofs.Overlaps.{keepsAt, letters-pairs-long, legal-apart-at}
 use Rattle.branches.proofs.Branching.{same-test}
 use Rattle.halves.specs.Kept.{Difference, valueOn, keepsOne, contrary, wayOf, asks, noCouple, asksAt, oppositeAt}
 
@@ -102,14 +101,6 @@ module _ (c : Chip) (ps : List Spot) where
 -- ---- under letters
 
 module _ (c : Chip) (ls : List Letter) (s : ℕ) (h : s < length ls) (undecided : getD ls s dot ≡ dot) where
-  -- one letter: a placement under the letters is under the letter at place s, or keeps its opposite
-  pub opposite-under : (m : Letter) (ps : List Spot) → keepsLetters c ls ps ≡ true → (keepsLetters c (set ls s m) ps ≡ true) ⊎ (keepsOne ps (oppositeAt c s m) ≡ true)
-  opposite-under m ps k = by (opposite c ps (letters-long c ls ps k) s m)
-    where
-      by : (keepsAt c (past c ps) m (pairs c ps) s ≡ true) ⊎ (keepsOne ps (oppositeAt c s m) ≡ true) → (keepsLetters c (set ls s m) ps ≡ true) ⊎ (keepsOne ps (oppositeAt c s m) ≡ true)
-      by (inl r) = inl (keeps-set c ls ps k (past c ps) s m r)
-      by (inr r) = inr r
-
   -- a legal placement under the letters does not keep the opposites of all four letters
   pub not-all-opposite : (ps : List Spot) → legal c ps ≡ true → keepsLetters c ls ps ≡ true → ((m : Letter) → Says m → keepsOne ps (oppositeAt c s m) ≡ true) → ⊥
   not-all-opposite ps a k f = by (apart-keeps c (getD (pairs c ps) s (past c ps) .first) (getD (pairs c ps) s (past c ps) .second) (legal-apart-at c ps (past c ps) s a (let q = letters-pairs-long c ls ps k in omega arith)))

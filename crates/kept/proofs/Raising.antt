@@ -1,15 +1,13 @@
 -- A bound raised in a table: what follows from the others may be put in, and nothing is lost.
-use Prim.Native.Nat.{ℕ, _+_, _-_, _*_, _/_, _%_, _≤_, _<_}
+use Prim.Native.Nat.{ℕ, _+_, _-_, _/_, _%_, _≤_, _<_}
 use mathlib.Core.Path.{_≡_, refl, sym, subst, _∙_}
-use mathlib.Core.Bool.{Bool, true, false, _&&_, cond}
 use mathlib.Core.List.{List}
 use native.Mathlib.Decide.{ℕ-discrete, decLt}
 use native.Mathlib.Omega.{arith}
-use lib.Dec.{ltb}
 use lib.ListN.{length, getD, set}
 use lib.Seq.{set-out, getD-set-same, getD-set-other}
 use borrow.Author.Tests.{lt-ltb, le-ltb}
-use Rattle.kept.specs.Differences.{raised, boundIn, KeptBy, raisedAt, Follows, Starts}
+use Rattle.kept.specs.Differences.{raised, boundIn, KeptBy, raisedAt}
 
 module _ (e : List ℕ) (c w : ℕ) where
   abbrev v : ℕ

@@ -1,39 +1,21 @@
 -- Differences of both directions: one more in either, tables that nothing keeps, and a letter that they exclude.
-use Prim.Native.Nat.{ℕ, zero, suc, _≤_, _<_}
+use Prim.Native.Nat.{ℕ, _≤_, _<_}
 use mathlib.Core.Path.{_≡_, refl, sym, subst, _∙_}
-use mathlib.Core.Bool.{Bool, true, false}
+use mathlib.Core.Bool.{Bool, true}
 use mathlib.Core.List.{List}
-use mathlib.Core.Logic.{_⊎_, inl, inr}
+use mathlib.Core.Logic.{inl, inr}
 use native.Mathlib.Omega.{arith}
-use borrow.Author.Tests.{lt-ltb, le-ltb}
-use Rattle.model.specs.declared.Spot.{Spot}
-use Rattle.model.specs.declared.Record.{Record as HeldRecord}
 use Rattle.placement.specs.Least.{nothing}
 use Rattle.bounds.specs.declared.Slot.{Slot}
 use Rattle.slots.specs.declared.Direction.{Direction}
 use Rattle.slots.specs.declared.Direction.the-variants.{Horizontal as horizontal, Vertical as vertical}
-use Rattle.halves.specs.Kept.{valueOn, wayOf}
-use Rattle.kept.specs.Differences.{Adds, Holds, limited, Limited, contrary, excluded, contradicts}
+use Rattle.halves.specs.Kept.{valueOn}
+use Rattle.kept.specs.Differences.{Adds, Holds, limited, contrary, excluded, contradicts}
 use Rattle.kept.proofs.Adding.{excluded-none, contradicts-none, limited-small}
-use Rattle.search.specs.Best.{bestOf}
-use Rattle.search.specs.Search.{letterAt, wayAt, KeepsBoth, AddsOn, childList, childAt, NextChild}
+use Rattle.search.specs.Search.{wayAt, AddsOn, childList, NextChild}
 use Rattle.search.specs.Turns.{Over, ExcludedBy, OppositeKept, NextOrOver}
 use Rattle.search.specs.declared.left.Left.{Left}
-
--- the direction of a letter
-pub way-x : (i : ℕ) → i < 2 → horizontal ≡ wayAt i
-way-x i h = rw (lt-ltb i 2 h)
-
-pub way-y : (i : ℕ) → 2 ≤ i → vertical ≡ wayAt i
-way-y i h = rw (le-ltb i 2 h)
-
--- the direction of letter i is that of its difference
-pub letter-way : (i : ℕ) → i < 4 → wayOf (letterAt i) ≡ wayAt i
-letter-way zero h = refl
-letter-way (suc zero) h = refl
-letter-way (suc (suc zero)) h = refl
-letter-way (suc (suc (suc zero))) h = refl
-letter-way (suc (suc (suc (suc i)))) h = absurd (omega arith)
+use Rattle.search.proofs.Asking.{way-across, way-up}
 
 pub across-not-up : horizontal ≡ vertical → ⊥
 across-not-up q = let w : _≡_ {A = ℕ} 0 1 = cc in absurd (omega arith)
@@ -54,10 +36,10 @@ module _ (kx ky : List ℕ) (s : Slot) where
   }
 
   pub adds-across : (i : ℕ) → i < 2 → (rx ry : List ℕ) → Adds kx s rx → ry ≡ ky → AddsOn (wayAt i) kx ky s rx ry
-  adds-across i h rx ry a e = subst (λ (d : Direction). AddsOn d kx ky s rx ry) (way-x i h) (rw e (adds-x rx a))
+  adds-across i h rx ry a e = subst (λ (d : Direction). AddsOn d kx ky s rx ry) (way-across i h) (rw e (adds-x rx a))
 
   pub adds-up : (i : ℕ) → 2 ≤ i → (rx ry : List ℕ) → rx ≡ kx → Adds ky s ry → AddsOn (wayAt i) kx ky s rx ry
-  adds-up i h rx ry e a = subst (λ (d : Direction). AddsOn d kx ky s rx ry) (way-y i h) (rw e (adds-y ry a))
+  adds-up i h rx ry e a = subst (λ (d : Direction). AddsOn d kx ky s rx ry) (way-up i h) (rw e (adds-y ry a))
 
 -- ---- what is left of a node
 
@@ -80,10 +62,10 @@ module _ (kx ky : List ℕ) where
     excluded-over b o q = record { none = λ z ps k h. o .none q ps k }
 
     pub excluded-across : i < 2 → (b : Bool) → b ≡ excluded kx (limited s) → ExcludedBy b i s kx ky
-    excluded-across l b e = record { none = λ q ps k h. excluded-none kx (limited s) (limited-small s) (sym e ∙ q) (valueOn horizontal ps) (k .x) (subst (λ (d : Direction). Holds (valueOn d ps) (limited s)) (sym (way-x i l)) h) }
+    excluded-across l b e = record { none = λ q ps k h. excluded-none kx (limited s) (limited-small s) (sym e ∙ q) (valueOn horizontal ps) (k .x) (subst (λ (d : Direction). Holds (valueOn d ps) (limited s)) (sym (way-across i l)) h) }
 
     pub excluded-up : 2 ≤ i → (b : Bool) → b ≡ excluded ky (limited s) → ExcludedBy b i s kx ky
-    excluded-up l b e = record { none = λ q ps k h. excluded-none ky (limited s) (limited-small s) (sym e ∙ q) (valueOn vertical ps) (k .y) (subst (λ (d : Direction). Holds (valueOn d ps) (limited s)) (sym (way-y i l)) h) }
+    excluded-up l b e = record { none = λ q ps k h. excluded-none ky (limited s) (limited-small s) (sym e ∙ q) (valueOn vertical ps) (k .y) (subst (λ (d : Direction). Holds (valueOn d ps) (limited s)) (sym (way-up i l)) h) }
 
 module _ (t : Left) where
   pub next-over : (b : Bool) → Over b (t .kx) (t .ky) → b ≡ true → NextOrOver t 4

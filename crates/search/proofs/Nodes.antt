@@ -1,10 +1,9 @@
 -- A child as a node: its letters, the bounds, the fit, the lengths of its halves, and the differences.
-use Prim.Native.Nat.{ℕ, zero, suc, _+_, _-_, _≤_, _<_}
+use Prim.Native.Nat.{ℕ, zero, suc, _+_, _≤_, _<_}
 use mathlib.Core.Path.{_≡_, refl, sym, ap, subst, _∙_}
-use mathlib.Core.Bool.{Bool, true}
 use mathlib.Core.List.{List, [], _∷_}
 use native.Mathlib.Omega.{arith}
-use lib.ListN.{length, getD, set, length-set}
+use lib.ListN.{length, set, length-set}
 use Rattle.model.specs.declared.Chip.{Chip as HeldChip}
 use Rattle.model.specs.declared.Spot.{Spot}
 use Rattle.model.specs.declared.Record.{Record as HeldRecord}
@@ -23,18 +22,18 @@ use Rattle.slots.specs.Slots.{asked, couples}
 use Rattle.slots.specs.Axes.{axisFor, cornersOn}
 use Rattle.slots.proofs.Counting.{letters-count}
 use Rattle.halves.specs.Half.{half}
-use Rattle.halves.specs.Kept.{wayOf, asksAt}
 use Rattle.halves.proofs.Halving.{half-one, fit-half, fit-sum, other-axis}
 use Rattle.kept.specs.Differences.{limited, contrary}
 use Rattle.half_tables.specs.Tables.{Arced, withBound}
 use Rattle.half_tables.proofs.LetterBounds.{arced-letter, arced-other}
-use Rattle.search.specs.Best.{resultOf, bestOf, Counted}
-use Rattle.search.specs.Search.{noRecord, lengthOf, byteOf, lettersIn, Lettered, letterAt, wayAt, AddsOn, FitHeld, Halved, NodeOk, childList, childAt}
+use Rattle.search.specs.Best.{resultOf, bestOf}
+use Rattle.search.specs.Search.{noRecord, lengthOf, byteOf, lettersIn, Lettered, letterAt, wayAt, AddsOn, FitHeld, NodeOk, childList, childAt}
 use Rattle.search.specs.Turns.{OppositeKept, SameKept, Open, Asks, Untried, Visited, LeftOk, NextX, NextY, NextOk}
 use Rattle.search.specs.declared.node.Node.{Node}
 use Rattle.search.specs.declared.left.Left.{Left}
 use Rattle.search.proofs.Lettering.{letters-set, letters-long, lettered-set}
-use Rattle.search.proofs.Differing.{across-not-up, way-x, way-y, letter-way, adds-across, adds-up}
+use Rattle.search.proofs.Differing.{across-not-up, adds-across, adds-up}
+use Rattle.search.proofs.Asking.{way-across, way-up, way-of}
 
 -- ---- what is left
 
@@ -106,7 +105,7 @@ module _ (c : HeldChip) (p : ℕ) (node : Node) (t : Left) (b : HeldRecord) (s i
   arced : (d : Direction) (arcs : List ℕ) → wayAt i ≡ d → Arced d C ls arcs → Arced d C ls′ (withBound arcs u)
   arced d arcs e a = subst (λ (x : List Letter). Arced d C x (withBound arcs u)) (sym is)
       (subst (λ (x : Slot). Arced d C (set ls s (letterAt i)) (withBound arcs x)) (sym (asks .slot))
-      (let q = free .place in let l = long in arced-letter d C (ok .valid) ls enough s (letterAt i) (omega arith) (free .undecided) arcs a (letter-way i (asks .four) ∙ e)))
+      (let q = free .place in let l = long in arced-letter d C (ok .valid) ls enough s (letterAt i) (omega arith) (free .undecided) arcs a (way-of i (asks .four) ∙ e)))
 
   kept-arcs : (d : Direction) (arcs : List ℕ) → (wayAt i ≡ d → ⊥) → Arced d C ls arcs → Arced d C ls′ arcs
   kept-arcs d arcs n a = subst (λ (x : List Letter). Arced d C x arcs) (sym is) (arced-other d C ls s (letterAt i) arcs (other-nothing i (asks .four) d n) (free .undecided) a)
@@ -164,7 +163,7 @@ module _ (c : HeldChip) (p : ℕ) (node : Node) (t : Left) (b : HeldRecord) (s i
       node = record {
         letters = rw (x .letters) lettered;
         whole = ap length (x .letters) ∙ whole;
-        across = rw (x .letters, x .ax) (arced horizontal (node .ax) (sym (way-x i h)) (at .across));
+        across = rw (x .letters, x .ax) (arced horizontal (node .ax) (sym (way-across i h)) (at .across));
         up = rw (x .letters, x .ay) (kept-arcs vertical (node .ay) not-up (at .up));
         fit = rw (x .letters, x .here, e) fit;
         halves = rw (x .letters, x .here, e) (record { x = own; y = other });
@@ -174,7 +173,7 @@ module _ (c : HeldChip) (p : ℕ) (node : Node) (t : Left) (b : HeldRecord) (s i
     }
       where
         not-up : wayAt i ≡ vertical → ⊥
-        not-up q = across-not-up (way-x i h ∙ q)
+        not-up q = across-not-up (way-across i h ∙ q)
 
         other : (l : ℕ) (ps : List Spot) → bestOf f ≡ found l ps → r .ly ≡ lengthOn (axisFor vertical C ls′) (cornersOn vertical ps)
         other l ps q = x .ly ∙ untouched vertical not-up (node .ly) (at .halves .y) l ps q
@@ -188,7 +187,7 @@ module _ (c : HeldChip) (p : ℕ) (node : Node) (t : Left) (b : HeldRecord) (s i
         letters = rw (y .letters) lettered;
         whole = ap length (y .letters) ∙ whole;
         across = rw (y .letters, y .ax) (kept-arcs horizontal (node .ax) not-across (at .across));
-        up = rw (y .letters, y .ay) (arced vertical (node .ay) (sym (way-y i h)) (at .up));
+        up = rw (y .letters, y .ay) (arced vertical (node .ay) (sym (way-up i h)) (at .up));
         fit = rw (y .letters, y .here, e) fit;
         halves = rw (y .letters, y .here, e) (record { x = other; y = own });
       };
@@ -197,7 +196,7 @@ module _ (c : HeldChip) (p : ℕ) (node : Node) (t : Left) (b : HeldRecord) (s i
     }
       where
         not-across : wayAt i ≡ horizontal → ⊥
-        not-across q = across-not-up (sym (way-y i h ∙ q))
+        not-across q = across-not-up (sym (way-up i h ∙ q))
 
         other : (l : ℕ) (ps : List Spot) → bestOf f ≡ found l ps → r .lx ≡ lengthOn (axisFor horizontal C ls′) (cornersOn horizontal ps)
         other l ps q = y .lx ∙ untouched horizontal not-across (node .lx) (at .halves .x) l ps q

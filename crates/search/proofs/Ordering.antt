@@ -1,9 +1,8 @@
 -- The differences of equal macros, which the chip's earliest least placement keeps.
 use Prim.Native.Nat.{ℕ, suc, _+_, _%_, _≤_, _<_}
-use mathlib.Core.Path.{_≡_, refl, sym, ap, subst}
-use mathlib.Core.Bool.{Bool, true, false, not}
+use mathlib.Core.Path.{_≡_, ap}
+use mathlib.Core.Bool.{Bool, false, not}
 use mathlib.Core.List.{List}
-use native.Mathlib.Numerals.{add-one}
 use native.Mathlib.Omega.{arith}
 use lib.ListN.{getD}
 use borrow.Author.Tests.{not-false}
@@ -16,7 +15,7 @@ use Rattle.halves.specs.Exchange.{Alike}
 use Rattle.halves.specs.Kept.{valueOn}
 use Rattle.equal.specs.Answer.{Yes}
 use Rattle.kept.specs.Differences.{Adds, Holds, limited}
-use Rattle.search.specs.Turns.{Ordered, OrderKept}
+use Rattle.search.specs.Turns.{OrderKept}
 
 pub order-same : (c : Chip) (e : List ℕ) → OrderKept c e e
 order-same c e = record { to = λ ps o k. k }

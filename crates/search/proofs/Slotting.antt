@@ -1,5 +1,5 @@
 -- The pair at hand: the slot that a letter asks of it, and the pair that is chosen.
-use Prim.Native.Nat.{ℕ, zero, suc, _≤_, _<_}
+use Prim.Native.Nat.{ℕ, zero, suc, _<_}
 use mathlib.Core.Path.{_≡_, refl, sym, ap, _∙_}
 use native.Mathlib.Omega.{arith}
 use lib.ListN.{getD}
@@ -12,7 +12,7 @@ use Rattle.slots.specs.Axes.{heldSlot}
 use Rattle.pairs.specs.declared.Cursor.{Cursor}
 use Rattle.pairs.proofs.Cursors.{on-near}
 use Rattle.pairslots.proofs.Reading.{slot-read}
-use Rattle.halves.specs.Kept.{noCouple, asks, asksAt}
+use Rattle.halves.specs.Kept.{noCouple, asks}
 use Rattle.search.specs.Choice.{PlaceOf}
 use Rattle.search.specs.Search.{letterAt, wayAt, askedAt, slotAsked}
 use Rattle.search.specs.Turns.{Asks, Placed}

@@ -1,14 +1,14 @@
 -- The turns of a node: its letters tried one by one, then visited in any order. At each time a legal placement of the branch that keeps the node's differences is covered by the best so far, or keeps the differences that are left; a letter that is closed, excluded or visited leaves its opposite. When all four are gone nothing is left.
-use Prim.Native.Nat.{ℕ, zero, suc, _+_, _%_, _≤_, _<_}
+use Prim.Native.Nat.{ℕ, _+_, _%_, _≤_, _<_}
 use mathlib.Core.Path.{_≡_, refl, sym, ap, subst, _∙_}
 use mathlib.Core.Bool.{Bool, true, false, false≢true}
-use mathlib.Core.List.{List, [], _∷_}
+use mathlib.Core.List.{List}
 use mathlib.Core.Logic.{_⊎_, inl, inr}
 use native.Mathlib.Decide.{ℕ-discrete}
 use native.Mathlib.Omega.{arith}
-use lib.ListN.{length, getD, set}
+use lib.ListN.{length, set}
 use lib.Seq.{getD-set-same, getD-set-other}
-use borrow.Author.Tests.{leb-true, le-leb, not-true}
+use borrow.Author.Tests.{leb-true, le-leb}
 use Rattle.model.specs.declared.Chip.{Chip as HeldChip}
 use Rattle.model.specs.declared.Spot.{Spot}
 use Rattle.model.specs.declared.Record.{Record as HeldRecord}
@@ -25,19 +25,19 @@ use Rattle.slots.proofs.Counting.{letters-count}
 use Rattle.branches.specs.Branch.{pick, better, inBranch, undecided}
 use Rattle.branches.proofs.Betters.{Sized}
 use Rattle.branches.proofs.Undecided.{undecided-less}
-use Rattle.halves.specs.Kept.{valueOn, keepsOne, wayOf, asksAt, oppositeAt}
-use Rattle.halves.specs.Result.{placed, NotAfter, Real}
+use Rattle.halves.specs.Kept.{valueOn, keepsOne, asksAt, oppositeAt}
+use Rattle.halves.specs.Result.{placed, NotAfter}
 use Rattle.halves.proofs.NotAfter.{after-same, after-trans}
 use Rattle.halves.proofs.Opposite.{not-all-opposite}
 use Rattle.halves.proofs.Covers.{branch-legal, branch-keeps, covers-on, closed-covers, letter-or-opposite}
 use Rattle.kept.specs.Differences.{Holds, limited, contrary}
 use Rattle.half_tables.proofs.LetterBounds.{Plain, letter-plain}
-use Rattle.search.specs.Best.{bestOf, Counted, Told, Alike}
-use Rattle.search.specs.Search.{noRecord, byteOf, lettersIn, Lettered, letterAt, wayAt, KeepsBoth, AddsOn, ChildHeld, NodeOk, childList, childAt, ChildrenCounted, Searched}
+use Rattle.search.specs.Best.{bestOf, Counted, Told}
+use Rattle.search.specs.Search.{noRecord, byteOf, lettersIn, letterAt, wayAt, KeepsBoth, AddsOn, ChildHeld, NodeOk, childList, childAt, ChildrenCounted, Searched}
 use Rattle.search.specs.Turns.{ExcludedBy, OppositeKept, SameKept, NextOrOver, Open, Asks, Untried, Visited, Shut, LeftOk, Grown, NextOk}
 use Rattle.search.specs.declared.node.Node.{Node}
 use Rattle.search.specs.declared.left.Left.{Left}
-use Rattle.search.proofs.Differing.{letter-way}
+use Rattle.search.proofs.Asking.{way-of}
 use Rattle.search.proofs.Holding.{no-best, heldIn, held-fewer}
 use Rattle.search.proofs.FourChildren.{nothing-none}
 use Rattle.search.proofs.Lettering.{letters-set, letters-long, no-dot}
@@ -93,7 +93,7 @@ module _ (c : HeldChip) (p : ℕ) (node : Node) (s : ℕ) where
       module _ (i : ℕ) (u : Slot) (asks : Asks c s i u) where
         -- nothing of the slot is reduced
         plain : Plain n (asksAt C s (letterAt i) .bound)
-        plain = let g = free .place in let l = long in letter-plain (wayAt i) C (ok .valid) ls enough s (letterAt i) (omega arith) (free .undecided) (letter-way i (asks .four))
+        plain = let g = free .place in let l = long in letter-plain (wayAt i) C (ok .valid) ls enough s (letterAt i) (omega arith) (free .undecided) (way-of i (asks .four))
 
         same : limited u ≡ asksAt C s (letterAt i) .bound
         same = ap limited (asks .slot) ∙ reduced (asksAt C s (letterAt i) .bound) plain
@@ -112,14 +112,14 @@ module _ (c : HeldChip) (p : ℕ) (node : Node) (s : ℕ) where
         -- the letter's difference, and its opposite, as the tables hold them
         holds : (ps : List Spot) → keepsOne ps (asksAt C s (letterAt i)) ≡ true → Holds (valueOn (wayAt i) ps) (limited u)
         holds ps k = subst (λ (b : Slot). Holds (valueOn (wayAt i) ps) b) (sym same)
-            (subst (λ (d : Direction). Holds (valueOn d ps) (asksAt C s (letterAt i) .bound)) (letter-way i (asks .four)) (leb-true _ _ k))
+            (subst (λ (d : Direction). Holds (valueOn d ps) (asksAt C s (letterAt i) .bound)) (way-of i (asks .four)) (leb-true _ _ k))
 
         opposed : (ps : List Spot) → keepsOne ps (oppositeAt C s (letterAt i)) ≡ true → Holds (valueOn (wayAt i) ps) (contrary (limited u))
         opposed ps k = subst (λ (b : Slot). Holds (valueOn (wayAt i) ps) (contrary b)) (sym same)
-            (subst (λ (d : Direction). Holds (valueOn d ps) (contrary (asksAt C s (letterAt i) .bound))) (letter-way i (asks .four)) (leb-true _ _ k))
+            (subst (λ (d : Direction). Holds (valueOn d ps) (contrary (asksAt C s (letterAt i) .bound))) (way-of i (asks .four)) (leb-true _ _ k))
 
         opposes : (ps : List Spot) → Holds (valueOn (wayAt i) ps) (contrary (limited u)) → keepsOne ps (oppositeAt C s (letterAt i)) ≡ true
-        opposes ps h = le-leb _ _ (subst (λ (d : Direction). Holds (valueOn d ps) (contrary (asksAt C s (letterAt i) .bound))) (sym (letter-way i (asks .four)))
+        opposes ps h = le-leb _ _ (subst (λ (d : Direction). Holds (valueOn d ps) (contrary (asksAt C s (letterAt i) .bound))) (sym (way-of i (asks .four)))
             (subst (λ (b : Slot). Holds (valueOn (wayAt i) ps) (contrary b)) same h))
 
         -- a placement of the branch is in that of the letter, or keeps its opposite

@@ -1,12 +1,11 @@
 -- What the search holds: a chip whose test is passed, one letter for each pair, the fit of the letters as a record with the lengths of its halves, the differences kept, the fits of a pair's four letters, and the answer.
 use Prim.{Unit}
-use Prim.Native.Nat.{ℕ, _+_, _-_, _≤_, _<_}
+use Prim.Native.Nat.{ℕ, _-_, _≤_, _<_}
 use mathlib.Core.Path.{_≡_}
-use mathlib.Core.Bool.{Bool, true, cond}
+use mathlib.Core.Bool.{true, cond}
 use mathlib.Core.List.{List, [], _∷_}
-use mathlib.Core.Logic.{_⊎_}
 use lib.Dec.{ltb}
-use lib.ListN.{length, getD, take, set, replicate}
+use lib.ListN.{length, getD, take, replicate}
 use Rattle.model.specs.declared.Chip.{Chip as HeldChip}
 use Rattle.model.specs.declared.Mac.{Mac}
 use Rattle.model.specs.declared.Fix.{Fix}
@@ -16,9 +15,8 @@ use Rattle.model.specs.declared.Outcome.{Outcome}
 use Rattle.model.specs.declared.Outcome.the-variants as outcome
 use Rattle.model.specs.Meaning.{Chip, chipOf, blankSpot}
 use Rattle.placement.specs.Legal.{legal}
-use Rattle.placement.specs.Length.{wirelength}
 use Rattle.placement.specs.Letters.{Letter}
-use Rattle.placement.specs.Least.{Best, nothing, found, fitOf}
+use Rattle.placement.specs.Least.{nothing, found, fitOf}
 use Rattle.bounds.specs.declared.Slot.{Slot}
 use Rattle.bounds.specs.Axis.{lengthOn}
 use Rattle.bounds.specs.Half.{HalfOn, AboveOn}

@@ -11,7 +11,7 @@ use Rattle.model.specs.declared.Record.{Record as HeldRecord}
 use Rattle.model.specs.Meaning.{Chip, chipOf, blankSpot}
 use Rattle.placement.specs.Legal.{legal}
 use Rattle.placement.specs.Letters.{Letter, dot}
-use Rattle.placement.specs.Least.{Best, nothing, fitOf}
+use Rattle.placement.specs.Least.{nothing, fitOf}
 use Rattle.placement.specs.Least as least
 use Rattle.bounds.specs.declared.Slot.{Slot}
 use Rattle.bounds.specs.Half.{HalfOn}

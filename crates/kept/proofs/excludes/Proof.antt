@@ -1,6 +1,3 @@
-use mathlib.Core.Path.{ap}
-use Rattle.kept.specs.Differences.{excluded}
-use Rattle.kept.proofs.Adding.{of-limited}
 use borrow.Author.Needs.{needs}
 use Rattle.kept.proofs.excludes.Statement.{statement}
 use Rattle.kept.proofs.excludes.Tie as tie

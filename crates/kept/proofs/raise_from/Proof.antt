@@ -1,4 +1,4 @@
-use Rattle.kept.proofs.Adding.{follows-none, from-more}
+use Rattle.kept.proofs.Adding.{from-more}
 use borrow.Author.Needs.{needs}
 use Rattle.kept.proofs.raise_from.Statement.{statement}
 use Rattle.kept.proofs.raise_from.Tie as tie

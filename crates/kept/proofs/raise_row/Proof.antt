@@ -1,4 +1,4 @@
-use Prim.Native.Nat.{_≤_, _-_, _<_}
+use Prim.Native.Nat.{_≤_, _-_}
 use borrow.Author.Needs.{needs}
 use Rattle.kept.specs.Differences.{Follows}
 use Rattle.kept.proofs.Adding.{follows-none, row-next}

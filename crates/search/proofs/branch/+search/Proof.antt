@@ -1,5 +1,3 @@
-use lib.ListN.{length}
-use mathlib.Core.Path.{_≡_}
 use borrow.Author.Needs.{needs}
 use Rattle.branches.specs.Branch.{undecided}
 use Rattle.search.specs.Search.{lettersIn, childList}

@@ -1,4 +1,4 @@
-use Rattle.search.proofs.Nodes.{next-across, next-up, place-small}
+use Rattle.search.proofs.Nodes.{next-across, next-up}
 use borrow.Author.Needs.{needs}
 use Rattle.search.proofs.branch.next_node.Statement.{statement}
 use Rattle.search.proofs.branch.next_node.Tie as tie

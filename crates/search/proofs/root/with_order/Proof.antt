@@ -1,4 +1,4 @@
-use Rattle.search.proofs.Ordering.{order-same, order-equal}
+use Rattle.search.proofs.Ordering.{order-equal}
 use borrow.Author.Needs.{needs}
 use Rattle.search.proofs.root.with_order.Statement.{statement}
 use Rattle.search.proofs.root.with_order.Tie as tie
