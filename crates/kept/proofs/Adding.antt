@@ -80,8 +80,8 @@ module _ (e : List ℕ) (s : Slot) (m : Limited s) (le : length e ≡ 128) where
           let b : getD (set e 0 16777217) 0 0 ≡ 16777217 = getD-set-same e 0 16777217 0 (omega arith) in
           omega arith
 
-  pub adds-more : (b : ℕ) (q r : List ℕ) → b ≡ heldBound s → q ≡ raisedAt e (u * 9 + v) (b + raised) → Follows q u v b r → Adds e s r
-  adds-more b q r j i₀ f₀ = more (rw j at i₀) (rw j at f₀)
+  pub adds-more : (b : ℕ) (q t r : List ℕ) → b ≡ heldBound s → q ≡ raisedAt e (u * 9 + v) (b + raised) → Follows q u v b t → Follows t u v b r → Adds e s r
+  adds-more b q t r j i₀ f₀ g₀ = more (rw j at i₀) (rw j at (follows-more q u v b t r f₀ g₀))
     where
       more : q ≡ raisedAt e (u * 9 + v) (heldBound s + raised) → Follows q u v (heldBound s) r → Adds e s r
       more i f = record {

@@ -119,6 +119,7 @@ fn add(e: [u32; 128], a: Slot) -> [u32; 128]
     }
     let mut r = e;
     raise(&mut r, c, b + RAISED);
+    raise_row(&mut r, a.tail, a.head, b);
     raise_all(&mut r, a.tail, a.head, b);
     r
 }

@@ -33,6 +33,9 @@ add-raise c = search needs
 raise-requires : tie.Need-raise-requires
 raise-requires c κs = search needs
 
+raise-row-requires : tie.Need-raise-row-requires
+raise-row-requires c κs = search needs
+
 raise-all-requires : tie.Need-raise-all-requires
 raise-all-requires c κs = search needs
 
@@ -53,5 +56,6 @@ add-spec =
     returns-2
     add-raise
     raise-requires
+    raise-row-requires
     raise-all-requires
     returns-3)
