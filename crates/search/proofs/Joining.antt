@@ -130,11 +130,11 @@ module _ (c : HeldChip) (letters : List ℕ) (p : ℕ) where
           omega arith
 
       -- the two halves
-      pub joined-child : (ps : List Spot) → length ps ≡ 8 → ps ≡ spotsWith d (f .at) (here .spots) → ChildHeld c letters p best (record { outcome = outcome.Least (l + other) (c .n); spots = ps })
-      joined-child ps long ep = fit-child best (record { outcome = outcome.Least (l + other) (c .n); spots = ps }) (record {
+      pub joined-child : (m : ℕ) → m ≡ c .n → (ps : List Spot) → length ps ≡ 8 → ps ≡ spotsWith d (f .at) (here .spots) → ChildHeld c letters p best (record { outcome = outcome.Least (l + other) m; spots = ps })
+      joined-child m q ps long ep = rw q (fit-child best (record { outcome = outcome.Least (l + other) (c .n); spots = ps }) (record {
         is = held ∙ sym is;
         counted = record { few = ok .fine .macCount; whole = long; count = refl };
-      })
+      }))
         where
           first : firstOf blankSpot (c .n) ps ≡ spotsWith d (take n (f .at)) (b .spots)
           first =
@@ -146,3 +146,12 @@ module _ (c : HeldChip) (letters : List ℕ) (p : ℕ) where
 
           held : bestOf (record { outcome = outcome.Least (l + other) (c .n); spots = ps }) ≡ found (l + other) (spotsWith d (take n (f .at)) (b .spots))
           held = least-held (l + other) (c .n) ps ∙ ap (found (l + other)) first
+
+-- ---- the chip as it is read from the array
+
+module _ (a b : HeldChip) (e : a ≡ b) (letters : List ℕ) (p : ℕ) where
+  pub read-asked : Passed b → Lettered b letters p → Passed a × Lettered a letters p
+  read-asked ok l = rw e (ok, l)
+
+  pub read-held : (r : HeldRecord) → FitHeld a letters p r → FitHeld b letters p r
+  read-held r h = rw e at h

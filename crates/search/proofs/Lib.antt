@@ -24,3 +24,4 @@ pub mod Joining
 pub mod Children
 pub mod Rooting
 pub mod Ordering
+pub mod Parts

@@ -1,9 +1,12 @@
 -- A child as a node: its letters, the bounds, the fit, the lengths of its halves, and the differences.
 use Prim.Native.Nat.{ℕ, zero, suc, _+_, _≤_, _<_}
 use mathlib.Core.Path.{_≡_, refl, sym, ap, subst, _∙_}
+use mathlib.Core.Bool.{Bool, true, false}
 use mathlib.Core.List.{List, [], _∷_}
 use native.Mathlib.Omega.{arith}
+use lib.Dec.{ltb}
 use lib.ListN.{length, set, length-set}
+use borrow.Author.Tests.{ltb-true, ltb-false}
 use Rattle.model.specs.declared.Chip.{Chip as HeldChip}
 use Rattle.model.specs.declared.Spot.{Spot}
 use Rattle.model.specs.declared.Record.{Record as HeldRecord}
@@ -28,7 +31,7 @@ use Rattle.half_tables.specs.Tables.{Arced, withBound}
 use Rattle.half_tables.proofs.LetterBounds.{arced-letter, arced-other}
 use Rattle.search.specs.Best.{resultOf, bestOf}
 use Rattle.search.specs.Search.{noRecord, lengthOf, byteOf, lettersIn, Lettered, letterAt, wayAt, AddsOn, FitHeld, NodeOk, childList, childAt}
-use Rattle.search.specs.Turns.{OppositeKept, SameKept, Open, Asks, Untried, Visited, LeftOk, NextX, NextY, NextOk}
+use Rattle.search.specs.Turns.{OppositeKept, SameKept, Open, Asks, Untried, Visited, LeftOk, NextX, NextY, NextOf, NextOk}
 use Rattle.search.specs.declared.node.Node.{Node}
 use Rattle.search.specs.declared.left.Left.{Left}
 use Rattle.search.proofs.Lettering.{letters-set, letters-long, lettered-set}
@@ -54,6 +57,15 @@ visited-is t i u n m r e a b = record {
       (subst (λ (k : List ℕ). AddsOn (wayAt i) (m .kx) k (contrary (limited u)) (r .kx) (r .ky)) (a .y) (b .adds));
 }
 
+-- ---- what a child takes
+
+module _ (node : Node) (t : Left) (s i : ℕ) (u : Slot) (f : HeldRecord) (r : Node) (e : f ≡ childAt (childList t) i) where
+  pub of-across : i < 2 → NextX node t f s i u r → NextOf node t s i u r
+  of-across h x = record { across = λ _. rw e at x; up = λ g. absurd (omega arith) }
+
+  pub of-up : 2 ≤ i → NextY node t f s i u r → NextOf node t s i u r
+  of-up h y = record { across = λ g. absurd (omega arith); up = λ _. rw e at y }
+
 -- ---- the length of a record's placement
 
 found-length : (r : HeldRecord) (l : ℕ) (ps : List Spot) → bestOf r ≡ found l ps → lengthOf (r .outcome) ≡ l
@@ -76,10 +88,10 @@ other-nothing (suc (suc (suc zero))) h horizontal n = refl
 other-nothing (suc (suc (suc zero))) h vertical n = absurd (n refl)
 other-nothing (suc (suc (suc (suc i)))) h d n = absurd (omega arith)
 
-module _ (c : HeldChip) (p : ℕ) (node : Node) (t : Left) (b : HeldRecord) (s i : ℕ) (u : Slot) (ok : Passed c) (at : NodeOk c p node) (free : Open c p node s) (asks : Asks c s i u) (okay : LeftOk c p node s 4 t b) (some : bestOf (childAt (childList t) i) ≡ nothing → ⊥) where
-  pub place-small : s < 92
-  place-small = let q = free .place in let f = at .letters .few in omega arith
+pub place-small : (c : HeldChip) (p : ℕ) (node : Node) (s : ℕ) → NodeOk c p node → Open c p node s → s < 92
+place-small c p node s at free = let q = free .place in let f = at .letters .few in omega arith
 
+module _ (c : HeldChip) (p : ℕ) (node : Node) (t : Left) (b : HeldRecord) (s i : ℕ) (u : Slot) (ok : Passed c) (at : NodeOk c p node) (free : Open c p node s) (asks : Asks c s i u) (okay : LeftOk c p node s 4 t b) (some : bestOf (childAt (childList t) i) ≡ nothing → ⊥) where
   abbrev C : Chip
   C = chipOf c
 
@@ -203,3 +215,10 @@ module _ (c : HeldChip) (p : ℕ) (node : Node) (t : Left) (b : HeldRecord) (s i
 
         own : (l : ℕ) (ps : List Spot) → bestOf f ≡ found l ps → r .ly ≡ lengthOn (axisFor vertical C ls′) (cornersOn vertical ps)
         own l ps q = let a = child-sum l ps q in let b = other l ps q in let d = child-length l ps q in let m = y .lx in let z = y .ly in omega arith
+
+  pub next-ok : (r : Node) → NextOf node t s i u r → NextOk c p node t s i u r
+  next-ok r n = by (ltb i 2) refl
+    where
+      by : (b : Bool) → ltb i 2 ≡ b → NextOk c p node t s i u r
+      by true e = let h = ltb-true i 2 e in next-across r f refl h (n .across h)
+      by false e = let h = ltb-false i 2 e in next-up r f refl h (n .up h)

@@ -37,7 +37,9 @@ use Rattle.half_fit.specs.declared.service.HalfOutcome.{HalfOutcome}
 use Rattle.half_fit.specs.declared.service.HalfOutcome.the-variants as half
 use Rattle.half_tables.specs.Tables.{Tabled, Arced}
 use Rattle.search.specs.Best.{bestOf, Counted}
+use Rattle.search.specs.Weights.{SmallWeights}
 use Rattle.search.specs.declared.node.Node.{Node}
+use Rattle.search.specs.declared.node.Parts.{Parts}
 use Rattle.search.specs.declared.left.Left.{Left}
 
 -- ---- letters
@@ -130,6 +132,14 @@ pub record ChildHeld (c : HeldChip) (letters : List ℕ) (p : ℕ) (best r : Hel
   pub closed : bestOf r ≡ nothing → (ps : List Spot) → inBranch (chipOf c) (lettersIn letters p) ps ≡ true → NotAfter (bestOf best) (placed (chipOf c) ps)
 
 -- ---- a node
+
+-- the parts that the search reads are those of the chip; the weights are small
+pub record PartsOf (c : HeldChip) (parts : Parts) : Type 0 where
+  pub n : parts .n ≡ c .n
+  pub k : parts .k ≡ c .k
+  pub macs : parts .macs ≡ c .macs
+  pub fixes : parts .fixes ≡ c .fixes
+  pub weights : SmallWeights (parts .weights)
 
 -- the arrays stand for the chip
 pub record Arrayed (c : HeldChip) (tx ty : List ℕ) : Type 0 where

@@ -138,6 +138,11 @@ pub record NextY (above : Node) (t : Left) (f : HeldRecord) (s i : ℕ) (u : Slo
   pub lx : r .lx ≡ above .lx
   pub ly : r .ly ≡ lengthOf (f .outcome) - above .lx
 
+-- r is what child i takes from its node, whose fit stands in t
+pub record NextOf (above : Node) (t : Left) (s i : ℕ) (u : Slot) (r : Node) : Type 0 where
+  pub across : i < 2 → NextX above t (childAt (childList t) i) s i u r
+  pub up : 2 ≤ i → NextY above t (childAt (childList t) i) s i u r
+
 -- child i of a node, as a node: letter i decided, its difference kept
 pub record NextOk (c : HeldChip) (p : ℕ) (above : Node) (t : Left) (s i : ℕ) (u : Slot) (r : Node) : Type 0 where
   pub node : NodeOk c p r

@@ -11,23 +11,22 @@ use crate::left::keep_opposite;
 use crate::left::next_child;
 use crate::left::put_child;
 use crate::node::Node;
+use crate::node::Parts;
 use crate::node::decided;
 use crate::node::less;
 use crate::node::no_record;
 use bounds::Slot;
 use half_tables::with_bound;
-use model::Chip;
 use model::Outcome;
 use model::Record;
 use pairs::Cursor;
 ghost use mathlib.Core.Path.{_≡_};
 ghost use Prim.Native.Nat.{_+_, _<_};
 ghost use Rattle.chip.specs.Passed.{Passed};
-ghost use Rattle.placement.specs.Least.{nothing};
-ghost use Rattle.search.specs.Best.{bestOf, Counted};
-ghost use Rattle.search.specs.Weights.{SmallWeights};
-ghost use Rattle.search.specs.Search.{lengthOf, Arrayed, NodeOk, Searched, childList, childAt};
-ghost use Rattle.search.specs.Turns.{Open, Asks, Placed, Untried, LeftOk, NextX, NextY, NextOk, Visited};
+ghost use Rattle.chip_array.specs.Array.{chipIn};
+ghost use Rattle.search.specs.Best.{Counted};
+ghost use Rattle.search.specs.Search.{lengthOf, PartsOf, Arrayed, NodeOk, Searched};
+ghost use Rattle.search.specs.Turns.{Open, Placed, Untried, LeftOk, NextX, NextY, NextOf, Visited};
 
 // A branch of which no letter of a pair is tried.
 fn untried(node: Node) -> Left
@@ -47,7 +46,8 @@ fn untried(node: Node) -> Left
 
 // Letter i of pair s is tried: excluded by the differences, closed, or left with its fit.
 fn try_letter(
-    c: Chip,
+    cs: &[u64; 640],
+    parts: Parts,
     p: usize,
     tx: &[u32; 1024],
     hx: &[u32; 4352],
@@ -65,15 +65,15 @@ fn try_letter(
     left: Left,
     pool: &mut [u32; 4096],
 ) -> Left
-    requires { ⌜ Passed c × Arrayed c (now tx) (now ty) × NodeOk c p node × Open c p node s × Placed c s at × (i < 4) × Counted (c .n) best × LeftOk c p node s i left best ⌝ }
-    ensures { λ r. ⌜ LeftOk c p node s (i + 1) r best ⌝ }
+    requires { ⌜ Passed (chipIn (now cs)) × PartsOf (chipIn (now cs)) parts × Arrayed (chipIn (now cs)) (now tx) (now ty) × NodeOk (chipIn (now cs)) p node × Open (chipIn (now cs)) p node s × Placed (chipIn (now cs)) s at × (i < 4) × Counted (chipIn (now cs) .n) best × LeftOk (chipIn (now cs)) p node s i left best ⌝ }
+    ensures { λ r. ⌜ LeftOk (chipIn (now (cs .entry))) p node s (i + 1) r best ⌝ }
 {
-    let t = letter_slot(c, at, i);
+    let t = letter_slot(parts, at, i);
     if is_excluded(left, i, t) {
         return left;
     }
     let f = child(
-        c,
+        cs,
         p,
         tx,
         hx,
@@ -98,7 +98,8 @@ fn try_letter(
 
 // The four letters of pair s are tried.
 fn try_letters(
-    c: Chip,
+    cs: &[u64; 640],
+    parts: Parts,
     p: usize,
     tx: &[u32; 1024],
     hx: &[u32; 4352],
@@ -114,14 +115,15 @@ fn try_letters(
     best: Record,
     pool: &mut [u32; 4096],
 ) -> Left
-    requires { ⌜ Passed c × Arrayed c (now tx) (now ty) × NodeOk c p node × Open c p node s × Placed c s at × Counted (c .n) best ⌝ }
-    ensures { λ r. ⌜ LeftOk c p node s 4 r best ⌝ }
+    requires { ⌜ Passed (chipIn (now cs)) × PartsOf (chipIn (now cs)) parts × Arrayed (chipIn (now cs)) (now tx) (now ty) × NodeOk (chipIn (now cs)) p node × Open (chipIn (now cs)) p node s × Placed (chipIn (now cs)) s at × Counted (chipIn (now cs) .n) best ⌝ }
+    ensures { λ r. ⌜ LeftOk (chipIn (now (cs .entry))) p node s 4 r best ⌝ }
 {
     let mut left = untried(node);
     let mut i: usize = 0;
     while i < 4 {
         left = try_letter(
-            c,
+            cs,
+            parts,
             p,
             tx,
             hx,
@@ -199,18 +201,9 @@ fn next_y(node: Node, left: Left, f: Record, s: usize, i: usize, t: Slot) -> Nod
 }
 
 // Child i as a node; its slot is t.
-fn next_node(
-    c: Chip,
-    p: usize,
-    node: Node,
-    left: Left,
-    b: Record,
-    s: usize,
-    i: usize,
-    t: Slot,
-) -> Node
-    requires { ⌜ Passed c × NodeOk c p node × Open c p node s × Asks c s i t × LeftOk c p node s 4 left b × (bestOf (childAt (childList left) i) ≡ nothing → ⊥) ⌝ }
-    ensures { λ r. ⌜ NextOk c p node left s i t r ⌝ }
+fn next_node(node: Node, left: Left, s: usize, i: usize, t: Slot) -> Node
+    requires { ⌜ (s < 92) × (i < 4) ⌝ }
+    ensures { λ r. ⌜ NextOf node left s i t r ⌝ }
 {
     let f = child_at(left, i);
     if i < 2 {
@@ -229,8 +222,8 @@ fn visited(left: Left, i: usize, t: Slot) -> Left
 
 // The best so far or a better one: not after any legal placement under the node's letters that keeps its differences.
 pub(crate) fn search(
-    c: Chip,
-    weights: [u64; 8],
+    cs: &[u64; 640],
+    parts: Parts,
     p: usize,
     tx: &[u32; 1024],
     hx: &[u32; 4352],
@@ -243,17 +236,14 @@ pub(crate) fn search(
     iy: usize,
     best: Record,
 ) -> Record
-    requires { ⌜ Passed c × SmallWeights weights × Arrayed c (now tx) (now ty) × NodeOk c p node × Counted (c .n) best ⌝ }
-    ensures { λ r. ⌜ Searched c (node .letters) p (node .kx) (node .ky) best r ⌝ }
+    requires { ⌜ Passed (chipIn (now cs)) × PartsOf (chipIn (now cs)) parts × Arrayed (chipIn (now cs)) (now tx) (now ty) × NodeOk (chipIn (now cs)) p node × Counted (chipIn (now cs) .n) best ⌝ }
+    ensures { λ r. ⌜ Searched (chipIn (now (cs .entry))) (node .letters) p (node .kx) (node .ky) best r ⌝ }
 {
     let here = node.here;
     if !replaces_best(best, here) {
         return best;
     }
-    let spots = here.spots;
-    let kx = node.kx;
-    let ky = node.ky;
-    let pair = choose(c, p, weights, kx, ky, spots, best);
+    let pair = choose(parts, p, node, best);
     let s = pair.s;
     if s == p {
         return replaced(best, here);
@@ -261,7 +251,8 @@ pub(crate) fn search(
     let at = pair.at;
     let mut pool = [0u32; 4096];
     let mut left = try_letters(
-        c,
+        cs,
+        parts,
         p,
         tx,
         hx,
@@ -283,13 +274,13 @@ pub(crate) fn search(
         if 4 <= i {
             return b;
         }
-        let t = letter_slot(c, at, i);
-        let next = next_node(c, p, node, left, b, s, i, t);
+        let t = letter_slot(parts, at, i);
+        let next = next_node(node, left, s, i, t);
         left = visited(left, i, t);
         if i < 2 {
-            b = search(c, weights, p, tx, hx, ty, hy, next, &pool, i, sy, iy, b);
+            b = search(cs, parts, p, tx, hx, ty, hy, next, &pool, i, sy, iy, b);
         } else {
-            b = search(c, weights, p, tx, hx, ty, hy, next, sx, ix, &pool, i, b);
+            b = search(cs, parts, p, tx, hx, ty, hy, next, sx, ix, &pool, i, b);
         }
     }
 }

@@ -1,9 +1,12 @@
 // The fit of a branch with one letter more, from the half fit of the letter's direction.
 use crate::node::Node;
+use crate::node::Parts;
 use crate::node::decided;
 use crate::node::no_record;
 use crate::node::room;
 use bounds::Slot;
+use chip_array::chip_in;
+use chip_array::macro_count;
 use fit::FitOutcome;
 use half_fit::service::HalfFit;
 use half_fit::service::HalfOutcome;
@@ -21,6 +24,7 @@ ghost use Prim.Native.Nat.{_<_};
 ghost use Rattle.model.specs.Meaning.{chipOf};
 ghost use lib.ListN.{set};
 ghost use Rattle.chip.specs.Passed.{Passed};
+ghost use Rattle.chip_array.specs.Array.{chipIn};
 ghost use Rattle.half_tables.specs.Tables.{Tabled};
 ghost use Rattle.search.specs.Search.{byteOf, lettersIn, Lettered, FitHeld, wayAt, askedAt, slotAsked, roomOf, HalfSaid, spotWith, spotsWith, ChildHeld, Arrayed, NodeOk};
 ghost use Rattle.search.specs.Turns.{Open, Asks, Beside};
@@ -50,12 +54,12 @@ fn asked(i: usize) -> Asked
 }
 
 // The slot that letter i asks of the pair at hand.
-pub(crate) fn letter_slot(c: Chip, at: Cursor, i: usize) -> Slot
+pub(crate) fn letter_slot(parts: Parts, at: Cursor, i: usize) -> Slot
     requires { ⌜ i < 4 ⌝ }
-    ensures { λ r. ⌜ r ≡ slotAsked (c .macs) (c .fixes) at i ⌝ }
+    ensures { λ r. ⌜ r ≡ slotAsked (parts .macs) (parts .fixes) at i ⌝ }
 {
-    let macs = c.macs;
-    let fixes = c.fixes;
+    let macs = parts.macs;
+    let fixes = parts.fixes;
     slot_at(at, asked(i), macs, fixes, way(i))
 }
 
@@ -76,6 +80,15 @@ pub(crate) fn fit_record(c: Chip, letters: [u8; 92], p: usize) -> Record
         FitOutcome::NoFit => no_record(),
         FitOutcome::Refused(_) => no_record(),
     }
+}
+
+// The same of a chip that is lent as an array.
+fn fit_again(cs: &[u64; 640], letters: [u8; 92], p: usize) -> Record
+    requires { ⌜ Passed (chipIn (now cs)) × Lettered (chipIn (now cs)) letters p ⌝ }
+    ensures { λ r. ⌜ FitHeld (chipIn (now (cs .entry))) letters p r ⌝ }
+{
+    let c = chip_in(cs);
+    fit_record(c, letters, p)
 }
 
 // A corner with another coordinate in a direction.
@@ -103,7 +116,7 @@ fn spots_with(d: Direction, at: [u64; 8], spots: [Spot; 8]) -> [Spot; 8]
 
 // The fit of the letters: one half is f, the other that of the fit before, of length other.
 fn joined(
-    c: Chip,
+    cs: &[u64; 640],
     p: usize,
     letters: [u8; 92],
     here: Record,
@@ -112,25 +125,25 @@ fn joined(
     f: HalfFit,
     other: u64,
 ) -> Record
-    requires { ⌜ Passed c × Lettered c letters p × Beside c letters p here d other × HalfSaid (chipOf c) (lettersIn letters p) d (roomOf (best .outcome) other) (f .outcome) (f .at) ⌝ }
-    ensures { λ r. ⌜ ChildHeld c letters p best r ⌝ }
+    requires { ⌜ Passed (chipIn (now cs)) × Lettered (chipIn (now cs)) letters p × Beside (chipIn (now cs)) letters p here d other × HalfSaid (chipOf (chipIn (now cs))) (lettersIn letters p) d (roomOf (best .outcome) other) (f .outcome) (f .at) ⌝ }
+    ensures { λ r. ⌜ ChildHeld (chipIn (now (cs .entry))) letters p best r ⌝ }
 {
     let outcome = f.outcome;
     let at = f.at;
     let spots = here.spots;
     match outcome {
         HalfOutcome::Fit(l) => Record {
-            outcome: Outcome::Least(l + other, c.n),
+            outcome: Outcome::Least(l + other, macro_count(cs)),
             spots: spots_with(d, at, spots),
         },
         HalfOutcome::Beyond => no_record(),
-        HalfOutcome::Unshown => fit_record(c, letters, p),
+        HalfOutcome::Unshown => fit_again(cs, letters, p),
     }
 }
 
 // Letter i of pair s, in x: its slot is t. Its state goes into the pool.
 fn child_x(
-    c: Chip,
+    cs: &[u64; 640],
     p: usize,
     tab: &[u32; 1024],
     help: &[u32; 4352],
@@ -143,8 +156,8 @@ fn child_x(
     best: Record,
     pool: &mut [u32; 4096],
 ) -> Record
-    requires { ⌜ Passed c × Tabled Direction.Horizontal (chipOf c) (now tab) × NodeOk c p node × Open c p node s × Asks c s i t × (wayAt i ≡ Direction.Horizontal) ⌝ }
-    ensures { λ r. ⌜ ChildHeld c (set (node .letters) s (byteOf i)) p best r ⌝ }
+    requires { ⌜ Passed (chipIn (now cs)) × Tabled Direction.Horizontal (chipOf (chipIn (now cs))) (now tab) × NodeOk (chipIn (now cs)) p node × Open (chipIn (now cs)) p node s × Asks (chipIn (now cs)) s i t × (wayAt i ≡ Direction.Horizontal) ⌝ }
+    ensures { λ r. ⌜ ChildHeld (chipIn (now (cs .entry))) (set (node .letters) s (byteOf i)) p best r ⌝ }
 {
     let letters = node.letters;
     let before = node.ax;
@@ -164,7 +177,7 @@ fn child_x(
         room(best, other),
     );
     joined(
-        c,
+        cs,
         p,
         decided(letters, s, i),
         here,
@@ -177,7 +190,7 @@ fn child_x(
 
 // Letter i of pair s, in y.
 fn child_y(
-    c: Chip,
+    cs: &[u64; 640],
     p: usize,
     tab: &[u32; 1024],
     help: &[u32; 4352],
@@ -190,8 +203,8 @@ fn child_y(
     best: Record,
     pool: &mut [u32; 4096],
 ) -> Record
-    requires { ⌜ Passed c × Tabled Direction.Vertical (chipOf c) (now tab) × NodeOk c p node × Open c p node s × Asks c s i t × (wayAt i ≡ Direction.Vertical) ⌝ }
-    ensures { λ r. ⌜ ChildHeld c (set (node .letters) s (byteOf i)) p best r ⌝ }
+    requires { ⌜ Passed (chipIn (now cs)) × Tabled Direction.Vertical (chipOf (chipIn (now cs))) (now tab) × NodeOk (chipIn (now cs)) p node × Open (chipIn (now cs)) p node s × Asks (chipIn (now cs)) s i t × (wayAt i ≡ Direction.Vertical) ⌝ }
+    ensures { λ r. ⌜ ChildHeld (chipIn (now (cs .entry))) (set (node .letters) s (byteOf i)) p best r ⌝ }
 {
     let letters = node.letters;
     let before = node.ay;
@@ -211,7 +224,7 @@ fn child_y(
         room(best, other),
     );
     joined(
-        c,
+        cs,
         p,
         decided(letters, s, i),
         here,
@@ -224,7 +237,7 @@ fn child_y(
 
 // Letter i of pair s, whose slot is t. Its state goes into the pool.
 pub(crate) fn child(
-    c: Chip,
+    cs: &[u64; 640],
     p: usize,
     tx: &[u32; 1024],
     hx: &[u32; 4352],
@@ -241,11 +254,11 @@ pub(crate) fn child(
     best: Record,
     pool: &mut [u32; 4096],
 ) -> Record
-    requires { ⌜ Passed c × Arrayed c (now tx) (now ty) × NodeOk c p node × Open c p node s × Asks c s i t ⌝ }
-    ensures { λ r. ⌜ ChildHeld c (set (node .letters) s (byteOf i)) p best r ⌝ }
+    requires { ⌜ Passed (chipIn (now cs)) × Arrayed (chipIn (now cs)) (now tx) (now ty) × NodeOk (chipIn (now cs)) p node × Open (chipIn (now cs)) p node s × Asks (chipIn (now cs)) s i t ⌝ }
+    ensures { λ r. ⌜ ChildHeld (chipIn (now (cs .entry))) (set (node .letters) s (byteOf i)) p best r ⌝ }
 {
     if i < 2 {
-        return child_x(c, p, tx, hx, node, sx, ix, s, i, t, best, pool);
+        return child_x(cs, p, tx, hx, node, sx, ix, s, i, t, best, pool);
     }
-    child_y(c, p, ty, hy, node, sy, iy, s, i, t, best, pool)
+    child_y(cs, p, ty, hy, node, sy, iy, s, i, t, best, pool)
 }

@@ -1,4 +1,6 @@
 // The pair to branch on: an overlapping one; while no placement is found, one with at most two open letters first; of those the one with the greatest score. The score is what moving the two apart would cost, in the two cheapest ways, times the weight of their nets; among equal scores the pair of the first macros.
+use crate::node::Node;
+use crate::node::Parts;
 use crate::open::Open;
 use crate::open::open_letters;
 use crate::open::urgency;
@@ -17,10 +19,8 @@ ghost use mathlib.Core.Path.{_≡_};
 ghost use Prim.Native.Nat.{_+_, _≤_, _<_, min, max};
 ghost use lib.Dec.{ltb};
 ghost use lib.ListN.{take};
-ghost use Rattle.model.specs.Meaning.{chipOf};
 ghost use Rattle.chip.specs.Valid.{Fine};
-ghost use Rattle.slots.specs.Fit.{letterCount};
-ghost use Rattle.search.specs.Choice.{Small, Meet, overlaps, boxOf, secondOf, Near, SmallSpots, Chosen, PlaceOf, partsOf, Laid};
+ghost use Rattle.search.specs.Choice.{Small, Meet, overlaps, boxOf, secondOf, Near, Chosen, PlaceOf, partsOf, Laid};
 ghost use Rattle.search.specs.Weights.{FineNets, SmallWeights};
 
 // A pair by its place in the order of letters, with the cursor there.
@@ -242,27 +242,24 @@ fn is_found(best: Record) -> bool {
     }
 }
 
-// The same of a chip that is held as a value, with the differences kept; best is the best so far.
-pub(crate) fn choose(
-    c: Chip,
-    p: usize,
-    weights: [u64; 8],
-    kx: [u32; 128],
-    ky: [u32; 128],
-    spots: [Spot; 8],
-    best: Record,
-) -> Choice
-    requires { ⌜ Fine c × (p ≡ letterCount (chipOf c)) × SmallSpots (c .n) spots × SmallWeights weights ⌝ }
-    ensures { λ r. ⌜ Chosen (chipOf c) (take (c .n) spots) p (r .s) ⌝ }
-    ensures { λ r. ⌜ PlaceOf (c .macs) (c .n) (c .fixes) (c .k) p (r .s) (r .at) ⌝ }
+// The same of a chip's parts, with the differences kept at a node; best is the best so far.
+pub(crate) fn choose(parts: Parts, p: usize, node: Node, best: Record) -> Choice
+    requires { ⌜ Laid (parts .macs) (parts .n) (parts .fixes) (parts .k) (node .here .spots) p × SmallWeights (parts .weights) ⌝ }
+    ensures { λ r. ⌜ Chosen (partsOf (parts .macs) (parts .n) (parts .fixes) (parts .k)) (take (parts .n) (node .here .spots)) p (r .s) ⌝ }
+    ensures { λ r. ⌜ PlaceOf (parts .macs) (parts .n) (parts .fixes) (parts .k) p (r .s) (r .at) ⌝ }
 {
-    let macs = c.macs;
-    let fixes = c.fixes;
+    let macs = parts.macs;
+    let fixes = parts.fixes;
+    let weights = parts.weights;
+    let kx = node.kx;
+    let ky = node.ky;
+    let here = node.here;
+    let spots = here.spots;
     choose_pair(
         macs,
-        c.n,
+        parts.n,
         fixes,
-        c.k,
+        parts.k,
         p,
         weights,
         kx,

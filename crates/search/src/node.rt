@@ -1,4 +1,6 @@
 // A branch of the search.
+use model::Fix;
+use model::Mac;
 use model::Outcome;
 use model::Record;
 use model::Spot;
@@ -6,6 +8,15 @@ ghost use mathlib.Core.Path.{_≡_};
 ghost use Prim.Native.Nat.{_-_, _<_};
 ghost use lib.ListN.{set};
 ghost use Rattle.search.specs.Search.{byteOf, noRecord, roomOf};
+
+// What the search reads of a chip: its macros, its fixes, and the weight of each macro's nets.
+pub(crate) struct Parts {
+    pub n: usize,
+    pub k: usize,
+    pub macs: [Mac; 8],
+    pub fixes: [Fix; 8],
+    pub weights: [u64; 8],
+}
 
 // The letters; in each direction the greatest bounds between nodes, the differences kept and the length of the half fit; the fit.
 pub(crate) struct Node {

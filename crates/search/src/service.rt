@@ -1,8 +1,10 @@
 // The search as a service: of a chip held as a value, and from chip text to record text.
 use crate::branch::search;
 use crate::choose::all_weights;
+use crate::node::Parts;
 use crate::node::no_record;
 use crate::root::root;
+use chip_array::array_of;
 use chipreader::ChipAnswer;
 use half_fit::service::first_half;
 use half_tables::arrays_of;
@@ -16,7 +18,25 @@ ghost use Rattle.model.specs.Meaning.{chipOf, recordOf};
 ghost use Rattle.grammar.specs.Writing.{answerOf};
 ghost use Rattle.chip.specs.Passed.{Passed};
 ghost use Rattle.placement.specs.Least.{chipRecord};
+ghost use Rattle.search.specs.Search.{PartsOf};
 ghost use Rattle.search.specs.Place.{searchChip, placeText};
+
+// The parts of a chip that the search reads.
+fn parts_of(c: Chip) -> Parts
+    requires { ⌜ Passed c ⌝ }
+    ensures { λ r. ⌜ PartsOf c r ⌝ }
+{
+    let macs = c.macs;
+    let fixes = c.fixes;
+    let weights = all_weights(c);
+    Parts {
+        n: c.n,
+        k: c.k,
+        macs,
+        fixes,
+        weights,
+    }
+}
 
 // The record of a chip whose test is passed: the search from dots alone, with no placement so far.
 fn chip_record(c: Chip) -> Record
@@ -24,7 +44,8 @@ fn chip_record(c: Chip) -> Record
     ensures { λ r. ⌜ recordOf r ≡ chipRecord (chipOf c) ⌝ }
 {
     let p = pairs::letter_count(c.n, c.k);
-    let weights = all_weights(c);
+    let parts = parts_of(c);
+    let cs = array_of(c);
     let x = arrays_of(c, Direction::Horizontal);
     let y = arrays_of(c, Direction::Vertical);
     let tx = x.tab;
@@ -38,8 +59,8 @@ fn chip_record(c: Chip) -> Record
     first_half(&ty, &mut hy, &ay, &mut states, 1, 4000000000);
     let node = root(c, p, x, y);
     search(
-        c,
-        weights,
+        &cs,
+        parts,
         p,
         &tx,
         &hx,

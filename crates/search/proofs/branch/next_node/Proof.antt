@@ -1,4 +1,4 @@
-use Rattle.search.proofs.Nodes.{next-across, next-up}
+use Rattle.search.proofs.Nodes.{of-across, of-up}
 use borrow.Author.Needs.{needs}
 use Rattle.search.proofs.branch.next_node.Statement.{statement}
 use Rattle.search.proofs.branch.next_node.Tie as tie
@@ -10,13 +10,13 @@ next-x-requires : tie.Need-next-x-requires
 next-x-requires c κs = search needs
 
 returns : tie.Need-returns
-returns c = search next-across
+returns c = search of-across
 
 next-y-requires : tie.Need-next-y-requires
 next-y-requires c κs = search needs
 
 returns-2 : tie.Need-returns-2
-returns-2 c = search next-up
+returns-2 c = search of-up
 
 pub next-node-spec : {M : Type 1} → statement M
 next-node-spec =

@@ -1,4 +1,5 @@
 use Prim.Native.Nat.{_-_, _≤_}
+use Rattle.chip_array.specs.Array.{chipIn}
 use Rattle.search.specs.Turns.{LeftOk}
 use Rattle.search.proofs.Turning.{untried-left, all-tried}
 use borrow.Author.Needs.{needs}
@@ -6,10 +7,10 @@ use Rattle.search.proofs.branch.try_letters.Statement.{statement}
 use Rattle.search.proofs.branch.try_letters.Tie as tie
 
 abbrev Inv-loop : tie.InvT-loop
-Inv-loop c p tx hx ty hy node sx ix sy iy s at best pool₀ left₀ i₀ pool left i = (i ≤ 4) × LeftOk c p node s i left best
+Inv-loop cs parts p tx hx ty hy node sx ix sy iy s at best pool₀ left₀ i₀ pool left i = (i ≤ 4) × LeftOk (chipIn cs) p node s i left best
 
 abbrev μ-loop : tie.MeasureT-loop
-μ-loop c p tx hx ty hy node sx ix sy iy s at best pool₀ left₀ i₀ pool left i = 4 - i
+μ-loop cs parts p tx hx ty hy node sx ix sy iy s at best pool₀ left₀ i₀ pool left i = 4 - i
 
 untried-requires : tie.Need-untried-requires Inv-loop μ-loop
 untried-requires c κs = search needs

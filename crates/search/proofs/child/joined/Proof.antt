@@ -9,6 +9,9 @@ enum-known-outcome c = search needs
 add-t14 : tie.Need-add-t14
 add-t14 c = search (needs, joined-small)
 
+macro-count-requires : tie.Need-macro-count-requires
+macro-count-requires c κs = search needs
+
 spots-with-requires : tie.Need-spots-with-requires
 spots-with-requires c κs = search needs
 
@@ -21,8 +24,8 @@ no-record-requires c κs = search needs
 enum-told-2 : tie.Need-enum-told-2
 enum-told-2 c = search needs
 
-fit-record-requires : tie.Need-fit-record-requires
-fit-record-requires c κs = search needs
+fit-again-requires : tie.Need-fit-again-requires
+fit-again-requires c κs = search needs
 
 returns : tie.Need-returns
 returns c = search (needs, joined-child)
@@ -39,11 +42,12 @@ joined-spec =
     (tie.spec
     enum-known-outcome
     add-t14
+    macro-count-requires
     spots-with-requires
     enum-told
     no-record-requires
     enum-told-2
-    fit-record-requires
+    fit-again-requires
     returns
     returns-2
     returns-3)

@@ -1,4 +1,3 @@
-use Rattle.search.proofs.Choosing.{all-laid, chip-chosen}
 use borrow.Author.Needs.{needs}
 use Rattle.search.proofs.choose.choose.Statement.{statement}
 use Rattle.search.proofs.choose.choose.Tie as tie
@@ -7,10 +6,10 @@ is-found-requires : tie.Need-is-found-requires
 is-found-requires c κs = search needs
 
 choose-pair-requires : tie.Need-choose-pair-requires
-choose-pair-requires c κs = (search all-laid, search needs)
+choose-pair-requires c κs = search needs
 
 returns : tie.Need-returns
-returns c = (search chip-chosen, search needs)
+returns c = (search needs, search needs)
 
 pub choose-spec : {M : Type 1} → statement M
 choose-spec =

@@ -1,0 +1,122 @@
+-- The whole chip: read from the array, and read back from the array that it is stored in.
+use Prim.Native.Nat.{ℕ, _+_, _<_}
+use mathlib.Core.Path.{_≡_, refl, ap, _∙_}
+use mathlib.Core.List.{List, [], _∷_, flatMap}
+use native.Mathlib.Omega.{arith}
+use lib.ListN.{length, getD}
+use lib.Seq.{sets, length-sets}
+use Rattle.model.specs.declared.Fix.{Fix}
+use Rattle.model.specs.declared.Mac.{Mac}
+use Rattle.model.specs.declared.Net.{Net}
+use Rattle.model.specs.declared.Pin.{Pin}
+use Rattle.model.specs.declared.Chip.{Chip as HeldChip}
+use Rattle.model.specs.Meaning.{blankFix, blankMac, blankNet, blankPin}
+use Rattle.chip.proofs.Passing.{Whole}
+use Rattle.chip_array.specs.Array.{macsAt, netsAt, pinsAt, fixesAt, macNumbers, netNumbers, pinNumbers, fixNumbers}
+use Rattle.chip_array.specs.Array.{num, dieIn, macsIn, netsIn, pinsIn, fixesIn, chipIn}
+use Rattle.chip_array.proofs.Runs.{sets-before, sets-in, stand-put}
+use Rattle.chip_array.proofs.Items.{macs-back, nets-back, pins-back, fixes-back}
+
+pub chip-read : (s : List ℕ) (fs : List Fix) (ms : List Mac) (ts : List Net) (ps : List Pin)
+    → fs ≡ fixesIn s → ms ≡ macsIn s → ts ≡ netsIn s → ps ≡ pinsIn s
+    → _≡_ {A = HeldChip} (record { die = dieIn s; k = num s 0; fixes = fs; n = num s 1; macs = ms; t = num s 2; nets = ts; pins = ps }) (chipIn s)
+unfolding chipIn
+chip-read s fs ms ts ps a b c d = rw (a, b, c, d)
+
+-- the count of macros
+pub count-read : (s : List ℕ) → num s 1 ≡ chipIn s .n
+unfolding chipIn
+count-read s = refl
+
+-- ---- stored and read back
+
+-- the counts and the die
+abbrev headNumbers : HeldChip → List ℕ
+headNumbers c = c .k ∷ c .n ∷ c .t ∷ c .die .w ∷ c .die .h ∷ []
+
+-- the stores into the array z, one kind after the other
+module _ (z : List ℕ) (long : length z ≡ 640) (c : HeldChip) (whole : Whole c) where
+  abbrev head : List ℕ
+  head = sets z 0 (headNumbers c)
+
+  abbrev withMacs : List ℕ
+  withMacs = sets head macsAt (flatMap macNumbers (c .macs))
+
+  abbrev withNets : List ℕ
+  withNets = sets withMacs netsAt (flatMap netNumbers (c .nets))
+
+  abbrev withPins : List ℕ
+  withPins = sets withNets pinsAt (flatMap pinNumbers (c .pins))
+
+  abbrev withFixes : List ℕ
+  withFixes = sets withPins fixesAt (flatMap fixNumbers (c .fixes))
+
+  head-long : length head ≡ 640
+  head-long = length-sets z 0 (headNumbers c) ∙ long
+
+  macs-long : length withMacs ≡ 640
+  macs-long = length-sets head macsAt (flatMap macNumbers (c .macs)) ∙ head-long
+
+  nets-long : length withNets ≡ 640
+  nets-long = length-sets withMacs netsAt (flatMap netNumbers (c .nets)) ∙ macs-long
+
+  pins-long : length withPins ≡ 640
+  pins-long = length-sets withNets pinsAt (flatMap pinNumbers (c .pins)) ∙ nets-long
+
+  -- what later stores leave as it is
+  after-pins : (j : ℕ) → j < fixesAt → num withFixes j ≡ num withPins j
+  after-pins j h = sets-before withPins (flatMap fixNumbers (c .fixes)) fixesAt j h
+
+  after-nets : (j : ℕ) → j < pinsAt → num withFixes j ≡ num withNets j
+  after-nets j h = after-pins j (omega arith) ∙ sets-before withNets (flatMap pinNumbers (c .pins)) pinsAt j h
+
+  after-macs : (j : ℕ) → j < netsAt → num withFixes j ≡ num withMacs j
+  after-macs j h = after-nets j (omega arith) ∙ sets-before withMacs (flatMap netNumbers (c .nets)) netsAt j h
+
+  after-head : (j : ℕ) → j < macsAt → num withFixes j ≡ num head j
+  after-head j h = after-macs j (omega arith) ∙ sets-before head (flatMap macNumbers (c .macs)) macsAt j h
+
+  macs-stand : macsIn withFixes ≡ c .macs
+  macs-stand =
+      let l = whole .macs in
+      let h = head-long in
+      macs-back withFixes (c .macs) l
+      (stand-put macNumbers 2 (λ a. refl) macsAt (c .macs) blankMac head withFixes (omega arith) (λ j b. after-macs j (omega arith)))
+
+  nets-stand : netsIn withFixes ≡ c .nets
+  nets-stand =
+      let l = whole .nets in
+      let h = macs-long in
+      nets-back withFixes (c .nets) l
+      (stand-put netNumbers 2 (λ a. refl) netsAt (c .nets) blankNet withMacs withFixes (omega arith) (λ j b. after-nets j (omega arith)))
+
+  pins-stand : pinsIn withFixes ≡ c .pins
+  pins-stand =
+      let l = whole .pins in
+      let h = nets-long in
+      pins-back withFixes (c .pins) l
+      (stand-put pinNumbers 3 (λ a. refl) pinsAt (c .pins) blankPin withNets withFixes (omega arith) (λ j b. after-pins j (omega arith)))
+
+  fixes-stand : fixesIn withFixes ≡ c .fixes
+  fixes-stand =
+      let l = whole .fixes in
+      let h = pins-long in
+      fixes-back withFixes (c .fixes) l
+      (stand-put fixNumbers 4 (λ a. refl) fixesAt (c .fixes) blankFix withPins withFixes (omega arith) (λ j b. refl))
+
+  head-stands : (j : ℕ) → j < 5 → num withFixes j ≡ getD (headNumbers c) j 0
+  head-stands j h =
+      let e : j ≡ 0 + j = omega arith in
+      after-head j (omega arith) ∙ ap (num head) e ∙ sets-in z (headNumbers c) 0 j h (omega arith)
+
+  pub chip-back : (s₁ s₂ s₃ s₄ : List ℕ) → s₁ ≡ sets head macsAt (flatMap macNumbers (c .macs))
+      → s₂ ≡ sets s₁ netsAt (flatMap netNumbers (c .nets)) → s₃ ≡ sets s₂ pinsAt (flatMap pinNumbers (c .pins))
+      → s₄ ≡ sets s₃ fixesAt (flatMap fixNumbers (c .fixes)) → chipIn s₄ ≡ c
+  unfolding chipIn
+  chip-back s₁ s₂ s₃ s₄ e₁ e₂ e₃ e₄ =
+      let k = head-stands 0 (omega arith) in
+      let n = head-stands 1 (omega arith) in
+      let t = head-stands 2 (omega arith) in
+      let x = head-stands 3 (omega arith) in
+      let y = head-stands 4 (omega arith) in
+      rw (e₄, e₃, e₂, e₁, k, n, t, x, y, macs-stand, nets-stand, pins-stand, fixes-stand)

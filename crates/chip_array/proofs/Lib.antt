@@ -1,0 +1,4 @@
+pub mod Tables
+pub mod Runs
+pub mod Items
+pub mod Chips

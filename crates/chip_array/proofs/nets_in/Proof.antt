@@ -1,0 +1,76 @@
+use borrow.Author.Needs.{needs}
+use Prim.Native.Nat.{_-_, _≤_}
+use Rattle.chip_array.specs.Array.{netRoom, netIn}
+use Rattle.chip_array.proofs.Tables.{Filled, filled-none}
+use Rattle.chip_array.proofs.Items.{nets-filled, nets-all}
+use Rattle.chip_array.proofs.nets_in.Statement.{statement}
+use Rattle.chip_array.proofs.nets_in.Tie as tie
+
+abbrev Inv-loop : tie.InvT-loop
+Inv-loop cs nets₀ i₀ nets i = (i ≤ netRoom) × Filled (netIn cs) netRoom nets i
+
+abbrev μ-loop : tie.MeasureT-loop
+μ-loop cs nets₀ i₀ nets i = netRoom - i
+
+loop-holds : tie.Need-loop-holds Inv-loop μ-loop
+loop-holds c = (search needs, search (needs, filled-none))
+
+mul-p : tie.Need-mul-p Inv-loop μ-loop
+mul-p c = search needs
+
+add-p : tie.Need-add-p Inv-loop μ-loop
+add-p c = search needs
+
+mul-t7 : tie.Need-mul-t7 Inv-loop μ-loop
+mul-t7 c = search needs
+
+element-copy-out-t10 : tie.Need-element-copy-out-t10 Inv-loop μ-loop
+element-copy-out-t10 c = search needs
+
+add-t11 : tie.Need-add-t11 Inv-loop μ-loop
+add-t11 c = search needs
+
+mul-t12 : tie.Need-mul-t12 Inv-loop μ-loop
+mul-t12 c = search needs
+
+element-copy-out-t15 : tie.Need-element-copy-out-t15 Inv-loop μ-loop
+element-copy-out-t15 c = search needs
+
+mul-nets : tie.Need-mul-nets Inv-loop μ-loop
+mul-nets c = search needs
+
+array-set-from-nets : tie.Need-array-set-from-nets Inv-loop μ-loop
+array-set-from-nets c = search needs
+
+add-i : tie.Need-add-i Inv-loop μ-loop
+add-i c = search needs
+
+loop-less : tie.Need-loop-less Inv-loop μ-loop
+loop-less c = search needs
+
+loop-again : tie.Need-loop-again Inv-loop μ-loop
+loop-again c = (search needs, search (needs, nets-filled))
+
+returns : tie.Need-returns Inv-loop μ-loop
+returns c = search (needs, nets-all)
+
+pub nets-in-spec : {M : Type 1} → statement M
+nets-in-spec =
+    tie.close
+    (tie.spec
+    Inv-loop
+    μ-loop
+    loop-holds
+    mul-p
+    add-p
+    mul-t7
+    element-copy-out-t10
+    add-t11
+    mul-t12
+    element-copy-out-t15
+    mul-nets
+    array-set-from-nets
+    add-i
+    loop-less
+    loop-again
+    returns)

@@ -1,0 +1,80 @@
+use borrow.Author.Needs.{needs}
+use Prim.Native.Nat.{_-_, _≤_}
+use mathlib.Core.Path.{_≡_}
+use mathlib.Core.List.{flatMap}
+use lib.ListN.{take}
+use lib.Seq.{sets}
+use Rattle.chip_array.specs.Array.{macRoom, macsAt, macNumbers}
+use Rattle.chip_array.proofs.Runs.{items-none, items-all}
+use Rattle.chip_array.proofs.Items.{macs-more}
+use Rattle.chip_array.proofs.put_macs.Statement.{statement}
+use Rattle.chip_array.proofs.put_macs.Tie as tie
+
+abbrev Inv-loop : tie.InvT-loop
+Inv-loop cs₀ macs i₀ cs i = (i ≤ macRoom) × (cs ≡ sets cs₀ macsAt (flatMap macNumbers (take i macs)))
+
+abbrev μ-loop : tie.MeasureT-loop
+μ-loop cs₀ macs i₀ cs i = macRoom - i
+
+loop-holds : tie.Need-loop-holds Inv-loop μ-loop
+loop-holds c = (search needs, search items-none)
+
+mul-m : tie.Need-mul-m Inv-loop μ-loop
+mul-m c = search needs
+
+array-copy-out-m : tie.Need-array-copy-out-m Inv-loop μ-loop
+array-copy-out-m c = search needs
+
+mul-p : tie.Need-mul-p Inv-loop μ-loop
+mul-p c = search needs
+
+add-p : tie.Need-add-p Inv-loop μ-loop
+add-p c = search needs
+
+mul-cs : tie.Need-mul-cs Inv-loop μ-loop
+mul-cs c = search needs
+
+element-write-cs : tie.Need-element-write-cs Inv-loop μ-loop
+element-write-cs c = search needs
+
+add-cs : tie.Need-add-cs Inv-loop μ-loop
+add-cs c = search needs
+
+mul-cs-2 : tie.Need-mul-cs-2 Inv-loop μ-loop
+mul-cs-2 c = search needs
+
+element-write-cs-2 : tie.Need-element-write-cs-2 Inv-loop μ-loop
+element-write-cs-2 c = search needs
+
+add-i : tie.Need-add-i Inv-loop μ-loop
+add-i c = search needs
+
+loop-less : tie.Need-loop-less Inv-loop μ-loop
+loop-less c = search needs
+
+loop-again : tie.Need-loop-again Inv-loop μ-loop
+loop-again c = (search needs, search (needs, macs-more))
+
+returns : tie.Need-returns Inv-loop μ-loop
+returns c = search (needs, items-all)
+
+pub put-macs-spec : {M : Type 1} → statement M
+put-macs-spec =
+    tie.close
+    (tie.spec
+    Inv-loop
+    μ-loop
+    loop-holds
+    mul-m
+    array-copy-out-m
+    mul-p
+    add-p
+    mul-cs
+    element-write-cs
+    add-cs
+    mul-cs-2
+    element-write-cs-2
+    add-i
+    loop-less
+    loop-again
+    returns)
