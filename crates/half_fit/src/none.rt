@@ -11,7 +11,7 @@ use crate::tables::ARCS;
 fn parent(s: &[u32; POOL], o: usize, w: usize) -> usize
     ensures { λ r. ⌜ r < 9 ⌝ }
 {
-    (s[o % 4 * 1024 + 800 + w % 16] % 9) as usize
+    (s[o % 4 * 608 + 576 + w % 16] % 9) as usize
 }
 
 // The bound at place c.

@@ -54,16 +54,16 @@ fn try_letter(
     ty: &[u32; 1024],
     hy: &[u32; 4352],
     node: Node,
-    sx: &[u32; 4096],
+    sx: &[u32; 2560],
     ix: usize,
-    sy: &[u32; 4096],
+    sy: &[u32; 2560],
     iy: usize,
     s: usize,
     at: Cursor,
     i: usize,
     best: Record,
     left: Left,
-    pool: &mut [u32; 4096],
+    pool: &mut [u32; 2560],
 ) -> Left
     requires { ⌜ Passed c × Arrayed c (now tx) (now ty) × NodeOk c p node × Open c p node s × Placed c s at × (i < 4) × Counted (c .n) best × LeftOk c p node s i left best ⌝ }
     ensures { λ r. ⌜ LeftOk c p node s (i + 1) r best ⌝ }
@@ -105,14 +105,14 @@ fn try_letters(
     ty: &[u32; 1024],
     hy: &[u32; 4352],
     node: Node,
-    sx: &[u32; 4096],
+    sx: &[u32; 2560],
     ix: usize,
-    sy: &[u32; 4096],
+    sy: &[u32; 2560],
     iy: usize,
     s: usize,
     at: Cursor,
     best: Record,
-    pool: &mut [u32; 4096],
+    pool: &mut [u32; 2560],
 ) -> Left
     requires { ⌜ Passed c × Arrayed c (now tx) (now ty) × NodeOk c p node × Open c p node s × Placed c s at × Counted (c .n) best ⌝ }
     ensures { λ r. ⌜ LeftOk c p node s 4 r best ⌝ }
@@ -237,9 +237,9 @@ pub(crate) fn search(
     ty: &[u32; 1024],
     hy: &[u32; 4352],
     node: Node,
-    sx: &[u32; 4096],
+    sx: &[u32; 2560],
     ix: usize,
-    sy: &[u32; 4096],
+    sy: &[u32; 2560],
     iy: usize,
     best: Record,
 ) -> Record
@@ -259,7 +259,7 @@ pub(crate) fn search(
         return replaced(best, here);
     }
     let at = pair.at;
-    let mut pool = [0u32; 4096];
+    let mut pool = [0u32; 2560];
     let mut left = try_letters(
         c,
         p,

@@ -135,13 +135,13 @@ fn child_x(
     tab: &[u32; 1024],
     help: &[u32; 4352],
     node: Node,
-    state: &[u32; 4096],
+    state: &[u32; 2560],
     k: usize,
     s: usize,
     i: usize,
     t: Slot,
     best: Record,
-    pool: &mut [u32; 4096],
+    pool: &mut [u32; 2560],
 ) -> Record
     requires { ⌜ Passed c × Tabled Direction.Horizontal (chipOf c) (now tab) × NodeOk c p node × Open c p node s × Asks c s i t × (wayAt i ≡ Direction.Horizontal) ⌝ }
     ensures { λ r. ⌜ ChildHeld c (set (node .letters) s (byteOf i)) p best r ⌝ }
@@ -182,13 +182,13 @@ fn child_y(
     tab: &[u32; 1024],
     help: &[u32; 4352],
     node: Node,
-    state: &[u32; 4096],
+    state: &[u32; 2560],
     k: usize,
     s: usize,
     i: usize,
     t: Slot,
     best: Record,
-    pool: &mut [u32; 4096],
+    pool: &mut [u32; 2560],
 ) -> Record
     requires { ⌜ Passed c × Tabled Direction.Vertical (chipOf c) (now tab) × NodeOk c p node × Open c p node s × Asks c s i t × (wayAt i ≡ Direction.Vertical) ⌝ }
     ensures { λ r. ⌜ ChildHeld c (set (node .letters) s (byteOf i)) p best r ⌝ }
@@ -231,15 +231,15 @@ pub(crate) fn child(
     ty: &[u32; 1024],
     hy: &[u32; 4352],
     node: Node,
-    sx: &[u32; 4096],
+    sx: &[u32; 2560],
     ix: usize,
-    sy: &[u32; 4096],
+    sy: &[u32; 2560],
     iy: usize,
     s: usize,
     i: usize,
     t: Slot,
     best: Record,
-    pool: &mut [u32; 4096],
+    pool: &mut [u32; 2560],
 ) -> Record
     requires { ⌜ Passed c × Arrayed c (now tx) (now ty) × NodeOk c p node × Open c p node s × Asks c s i t ⌝ }
     ensures { λ r. ⌜ ChildHeld c (set (node .letters) s (byteOf i)) p best r ⌝ }
