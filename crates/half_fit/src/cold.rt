@@ -11,6 +11,7 @@ use crate::state::K;
 use crate::state::L;
 use crate::state::LEN;
 use crate::state::POOL;
+use crate::state::STATE;
 use crate::state::V;
 use crate::state::X;
 use crate::state::at;
@@ -47,9 +48,9 @@ use std::num::wrapping_sub_u32;
 
 // No amounts, all values 0.
 fn clear(s: &mut [u32; POOL], o: usize) {
-    let from = o % 4 * 608;
+    let from = o % 4 * STATE;
     let mut i: usize = 0;
-    while i < 608 {
+    while i < STATE {
         s[from + i] = 0;
         i += 1;
     }

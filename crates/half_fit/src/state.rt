@@ -7,6 +7,9 @@
 use std::num::wrapping_add_u32;
 use std::num::wrapping_sub_u32;
 
+// The numbers of a state, and of a pool.
+pub(crate) const STATE: usize = 608;
+
 pub(crate) const POOL: usize = 2560;
 
 pub(crate) const K: usize = 0;
@@ -68,11 +71,11 @@ pub(crate) fn cell(u: usize, v: usize) -> usize {
 
 // Number k of part p of state o.
 pub(crate) fn get(s: &[u32; POOL], o: usize, p: usize, k: usize) -> u32 {
-    s[o % 4 * 608 + p % 20 * 32 + k % 128]
+    s[o % 4 * STATE + p % 20 * 32 + k % 128]
 }
 
 pub(crate) fn put(s: &mut [u32; POOL], o: usize, p: usize, k: usize, v: u32) {
-    s[o % 4 * 608 + p % 20 * 32 + k % 128] = v;
+    s[o % 4 * STATE + p % 20 * 32 + k % 128] = v;
 }
 
 // One number for each node.
@@ -108,23 +111,13 @@ pub(crate) fn lack_of(s: &[u32; POOL], o: usize, u: usize, v: usize, b: u32) -> 
     wrapping_sub_u32(need, have)
 }
 
-// The first n numbers of part p of a state, from another pool into this one.
-fn copy_part(from: &[u32; POOL], a: usize, to: &mut [u32; POOL], o: usize, p: usize, n: usize) {
-    let left = a % 4 * 608 + p % 20 * 32;
-    let right = o % 4 * 608 + p % 20 * 32;
+// State a of another pool into state o of this one.
+pub(crate) fn copy(from: &[u32; POOL], a: usize, to: &mut [u32; POOL], o: usize) {
+    let left = a % 4 * STATE;
+    let right = o % 4 * STATE;
     let mut i: usize = 0;
-    while i < n % 129 {
+    while i < STATE {
         to[right + i] = from[left + i];
         i += 1;
     }
-}
-
-// A state of another pool into this one: the numbers that are used where there are n entries.
-pub(crate) fn copy(from: &[u32; POOL], a: usize, to: &mut [u32; POOL], o: usize, n: usize) {
-    copy_part(from, a, to, o, K, 81);
-    copy_part(from, a, to, o, V, 81);
-    copy_part(from, a, to, o, F, 81);
-    copy_part(from, a, to, o, H, n);
-    copy_part(from, a, to, o, L, n);
-    copy_part(from, a, to, o, X, 64);
 }
