@@ -26,20 +26,20 @@ pub(crate) const NODES: usize = 128;
 
 pub(crate) const WAYS: usize = 256;
 
-// The numbers of a pool, of which the first 1,024 are a state.
-const POOL: usize = 4096;
+// The numbers of a pool, of which the first 608 are a state.
+const POOL: usize = 2560;
 
 // The parts of a state that are read: how residual bounds arise, what bounds carry, what entries carry to hi and from lo, and the
 // values, with the parents and the ranks behind them.
-const V: usize = 1;
+const V: usize = 3;
 
-const F: usize = 3;
+const F: usize = 6;
 
-const H: usize = 4;
+const H: usize = 9;
 
-const L: usize = 5;
+const L: usize = 13;
 
-const X: usize = 6;
+const X: usize = 17;
 
 // How a residual bound arises: the bound, the bound of the other way, two entries with hi, or with lo.
 const FWD: u32 = 0;
@@ -65,9 +65,9 @@ pub(crate) struct Proposal {
     pub way: [usize; WAYS],
 }
 
-// Number k of part p of the state.
+// Number k of the part of the state that begins 32 p numbers in.
 fn get(st: &[u32; POOL], p: usize, k: usize) -> u32 {
-    st[p % 8 * 128 + k % 128]
+    st[p % 20 * 32 + k % 128]
 }
 
 fn parent_of(st: &[u32; POOL], v: usize) -> usize {

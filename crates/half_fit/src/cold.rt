@@ -4,7 +4,6 @@ use crate::push::carry;
 use crate::push::narrowest;
 use crate::residual::set_hi;
 use crate::residual::set_lo;
-use crate::state::F;
 use crate::state::FAR;
 use crate::state::FWD;
 use crate::state::H;
@@ -12,6 +11,7 @@ use crate::state::K;
 use crate::state::L;
 use crate::state::LEN;
 use crate::state::POOL;
+use crate::state::STATE;
 use crate::state::V;
 use crate::state::X;
 use crate::state::at;
@@ -46,17 +46,23 @@ use crate::ways::settle;
 use std::num::wrapping_add_u32;
 use std::num::wrapping_sub_u32;
 
-// No amounts, all values 0, and the bounds as residual bounds.
-fn clear(arcs: &[u32; ARCS], s: &mut [u32; POOL], o: usize) {
-    let mut k: usize = 0;
-    while k < 128 {
-        put(s, o, K, k, arc(arcs, k));
-        put(s, o, V, k, FWD);
-        put(s, o, F, k, 0);
-        put(s, o, H, k, 0);
-        put(s, o, L, k, 0);
-        put(s, o, X, k, 0);
-        k += 1;
+// No amounts, all values 0.
+fn clear(s: &mut [u32; POOL], o: usize) {
+    let from = o % 4 * STATE;
+    let mut i: usize = 0;
+    while i < STATE {
+        s[from + i] = 0;
+        i += 1;
+    }
+}
+
+// The bounds as residual bounds.
+fn begin_bounds(arcs: &[u32; ARCS], s: &mut [u32; POOL], o: usize) {
+    let mut c: usize = 0;
+    while c < 81 {
+        put(s, o, K, c, arc(arcs, c));
+        put(s, o, V, c, FWD);
+        c += 1;
     }
 }
 
@@ -333,7 +339,8 @@ pub(crate) fn cold(
     s: &mut [u32; POOL],
     o: usize,
 ) -> u32 {
-    clear(arcs, s, o);
+    clear(s, o);
+    begin_bounds(arcs, s, o);
     tie_all(s, o);
     if !keep_bounds(arcs, s, o) {
         return 1;

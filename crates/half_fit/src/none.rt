@@ -5,13 +5,14 @@ ghost use Rattle.half_test.specs.Arrays.{boundAt};
 ghost use Rattle.half_test.specs.Tests.{Says};
 ghost use Rattle.half_fit.specs.Chain.{Empty};
 use crate::state::POOL;
+use crate::state::STATE;
 use crate::tables::ARCS;
 
 // The parent of a node in state o.
 fn parent(s: &[u32; POOL], o: usize, w: usize) -> usize
     ensures { λ r. ⌜ r < 9 ⌝ }
 {
-    (s[o % 4 * 1024 + 800 + w % 16] % 9) as usize
+    (s[o % 4 * STATE + 576 + w % 16] % 9) as usize
 }
 
 // The bound at place c.

@@ -11,7 +11,6 @@ use crate::state::POOL;
 use crate::state::copy;
 use crate::tables::ARCS;
 use crate::tables::TAB;
-use crate::tables::entry_count;
 use half_test::beyond::shows_beyond;
 use half_test::proposal::Shown;
 use half_test::proposal::test_fit;
@@ -104,7 +103,7 @@ pub fn first_half(
     tab: &[u32; 1024],
     help: &mut [u32; 4352],
     arcs: &[u32; 128],
-    st: &mut [u32; 4096],
+    st: &mut [u32; 2560],
     o: usize,
     room: u64,
 ) -> HalfFit
@@ -120,9 +119,9 @@ pub fn half_fit(
     tab: &[u32; 1024],
     help: &[u32; 4352],
     arcs: &[u32; 128],
-    from: &[u32; 4096],
+    from: &[u32; 2560],
     j: usize,
-    st: &mut [u32; 4096],
+    st: &mut [u32; 2560],
     o: usize,
     u: usize,
     v: usize,
@@ -130,7 +129,7 @@ pub fn half_fit(
 ) -> HalfFit
     ensures { λ r. ⌜ Answers (now (tab .entry)) (now (arcs .entry)) room (r .outcome) (r .at) ⌝ }
 {
-    copy(from, j, st, o, entry_count(tab));
+    copy(from, j, st, o);
     let proposal = insert(tab, help, arcs, st, o, u, v, room);
     judge(tab, arcs, st, o, room, proposal)
 }

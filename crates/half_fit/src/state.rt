@@ -1,24 +1,28 @@
 // The arrays that proposals are made on. Every index is taken modulo its range and sums modulo 2^32, so nothing is asked of a caller.
 //
-// A pool is four states of 1,024 numbers, lent whole with the number o of a state. A state is eight parts of 128 numbers, of which it uses
-// six: K residual bounds between two nodes, V how they arise, F what the bounds carry, H and L what the entries carry to hi and from lo,
-// X values of the nodes, and behind them the length, the parents and the ranks of the smallest values.
+// A pool is four states of 608 numbers, lent whole with the number o of a state. A part of a state is named by where it begins, in units of
+// 32 numbers: K residual bounds between two nodes, V how they arise, F what the bounds carry (96 numbers each, of which the 81 pairs of
+// nodes use the first), H and L what the entries carry to hi and from lo (128 each), X values of the nodes, and behind them the length, the
+// parents and the ranks of the smallest values (64).
 use std::num::wrapping_add_u32;
 use std::num::wrapping_sub_u32;
 
-pub(crate) const POOL: usize = 4096;
+// The numbers of a state, and of a pool.
+pub(crate) const STATE: usize = 608;
+
+pub(crate) const POOL: usize = 2560;
 
 pub(crate) const K: usize = 0;
 
-pub(crate) const V: usize = 1;
+pub(crate) const V: usize = 3;
 
-pub(crate) const F: usize = 3;
+pub(crate) const F: usize = 6;
 
-pub(crate) const H: usize = 4;
+pub(crate) const H: usize = 9;
 
-pub(crate) const L: usize = 5;
+pub(crate) const L: usize = 13;
 
-pub(crate) const X: usize = 6;
+pub(crate) const X: usize = 17;
 
 // In part X.
 pub(crate) const LEN: usize = 16;
@@ -67,11 +71,11 @@ pub(crate) fn cell(u: usize, v: usize) -> usize {
 
 // Number k of part p of state o.
 pub(crate) fn get(s: &[u32; POOL], o: usize, p: usize, k: usize) -> u32 {
-    s[o % 4 * 1024 + p % 8 * 128 + k % 128]
+    s[o % 4 * STATE + p % 20 * 32 + k % 128]
 }
 
 pub(crate) fn put(s: &mut [u32; POOL], o: usize, p: usize, k: usize, v: u32) {
-    s[o % 4 * 1024 + p % 8 * 128 + k % 128] = v;
+    s[o % 4 * STATE + p % 20 * 32 + k % 128] = v;
 }
 
 // One number for each node.
@@ -107,23 +111,13 @@ pub(crate) fn lack_of(s: &[u32; POOL], o: usize, u: usize, v: usize, b: u32) -> 
     wrapping_sub_u32(need, have)
 }
 
-// The first n numbers of part p of a state, from another pool into this one.
-fn copy_part(from: &[u32; POOL], a: usize, to: &mut [u32; POOL], o: usize, p: usize, n: usize) {
-    let left = a % 4 * 1024 + p % 8 * 128;
-    let right = o % 4 * 1024 + p % 8 * 128;
+// State a of another pool into state o of this one.
+pub(crate) fn copy(from: &[u32; POOL], a: usize, to: &mut [u32; POOL], o: usize) {
+    let left = a % 4 * STATE;
+    let right = o % 4 * STATE;
     let mut i: usize = 0;
-    while i < n % 129 {
+    while i < STATE {
         to[right + i] = from[left + i];
         i += 1;
     }
-}
-
-// A state of another pool into this one: the numbers that are used where there are n entries.
-pub(crate) fn copy(from: &[u32; POOL], a: usize, to: &mut [u32; POOL], o: usize, n: usize) {
-    copy_part(from, a, to, o, K, 81);
-    copy_part(from, a, to, o, V, 81);
-    copy_part(from, a, to, o, F, 81);
-    copy_part(from, a, to, o, H, n);
-    copy_part(from, a, to, o, L, n);
-    copy_part(from, a, to, o, X, 64);
 }

@@ -17,7 +17,7 @@ use Rattle.numbers.proofs.Sums.{when-le}
 use Rattle.flow.specs.Flow.{atNode}
 use Rattle.half_test.specs.Arrays.{entryCount, nodeAt, netAt}
 use Rattle.half_test.specs.Amounts.{fromNode, toNode}
-use Rattle.half_test.specs.State.{amountAt, flowAt, hiAt, loAt}
+use Rattle.half_test.specs.State.{amountAt, flowPart, flowAt, hiAt, loAt}
 use Rattle.half_test.specs.Tests.{Gathers, NodeSums, NetSums, EndSums}
 
 pub amount-most : (st : List ℕ) (o p k : ℕ) → amountAt st o p k ≤ 65535
@@ -146,16 +146,16 @@ module _ (st : List ℕ) (o : ℕ) where
 
   module _ (i a : ℕ) (r : List ℕ) (lt : i < 81) (ea : a ≡ flowAt st o i) where
     pub into-fits : Gathers toNode (flowAt st o) i 9 r → Fits w64 (getD r (i % 9) 0 + a)
-    into-fits g = any-fits toNode st o 3 9 i (i % 9) a r g (omega arith) ea (omega arith)
+    into-fits g = any-fits toNode st o flowPart 9 i (i % 9) a r g (omega arith) ea (omega arith)
 
     pub from-fits : Gathers fromNode (flowAt st o) i 9 r → Fits w64 (getD r (i / 9) 0 + a)
-    from-fits g = any-fits fromNode st o 3 9 i (i / 9) a r g (omega arith) ea (omega arith)
+    from-fits g = any-fits fromNode st o flowPart 9 i (i / 9) a r g (omega arith) ea (omega arith)
 
     pub into-more : Gathers toNode (flowAt st o) i 9 r → Gathers toNode (flowAt st o) (i + 1) 9 (set r (i % 9) (getD r (i % 9) 0 + a))
-    into-more g = any-more toNode st o 3 9 i (i % 9) a r g refl (omega arith) ea
+    into-more g = any-more toNode st o flowPart 9 i (i % 9) a r g refl (omega arith) ea
 
     pub from-more : Gathers fromNode (flowAt st o) i 9 r → Gathers fromNode (flowAt st o) (i + 1) 9 (set r (i / 9) (getD r (i / 9) 0 + a))
-    from-more g = any-more fromNode st o 3 9 i (i / 9) a r g refl (omega arith) ea
+    from-more g = any-more fromNode st o flowPart 9 i (i / 9) a r g refl (omega arith) ea
 
   pub ends-all : (i : ℕ) (is os : List ℕ) → i ≤ 81 → 81 ≤ i → Gathers toNode (flowAt st o) i 9 is → Gathers fromNode (flowAt st o) i 9 os → EndSums st o is os
   ends-all i is os le ge g h = let e : 81 ≡ i = omega arith in record { into = rw e g; out = rw e h }

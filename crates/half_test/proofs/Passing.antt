@@ -9,7 +9,7 @@ use lib.ListN.{getD}
 use mir.Syntax.{w64}
 use mir.Val.{Fits}
 use Rattle.half_test.specs.Arrays.{entryCount, nodeAt, weightAt}
-use Rattle.half_test.specs.State.{flowAt, hiAt, loAt}
+use Rattle.half_test.specs.State.{flowPart, hiPart, loPart, flowAt, hiAt, loAt}
 use Rattle.half_test.specs.Amounts.{fromNode, toNode, Balances, GivesWeights, Passes}
 use Rattle.half_test.specs.Tests.{Says, NodeSums, NetSums, EndSums, Level, Given}
 use Rattle.half_test.proofs.Answers.{said}
@@ -30,14 +30,14 @@ level-next into low out high k h e = record { at = λ i l. by i l (ℕ-discrete 
 module _ (tab st : List ℕ) (o : ℕ) (low high into out : List ℕ) (n : NodeSums tab st o high low) (b : EndSums st o into out) where
   pub into-low-fits : (k : ℕ) → Fits w64 (getD into k 0 + getD low k 0)
   into-low-fits k =
-      let x = sum-below toNode (flowAt st o) 9 81 into (b .into) (amount-most st o 3) (omega arith) k in
-      let y = sum-below (nodeAt tab) (loAt st o) 9 (entryCount tab) low (n .low) (amount-most st o 5) (count-most tab) k in
+      let x = sum-below toNode (flowAt st o) 9 81 into (b .into) (amount-most st o flowPart) (omega arith) k in
+      let y = sum-below (nodeAt tab) (loAt st o) 9 (entryCount tab) low (n .low) (amount-most st o loPart) (count-most tab) k in
       omega arith
 
   pub out-high-fits : (k : ℕ) → Fits w64 (getD out k 0 + getD high k 0)
   out-high-fits k =
-      let x = sum-below fromNode (flowAt st o) 9 81 out (b .out) (amount-most st o 3) (omega arith) k in
-      let y = sum-below (nodeAt tab) (hiAt st o) 9 (entryCount tab) high (n .high) (amount-most st o 4) (count-most tab) k in
+      let x = sum-below fromNode (flowAt st o) 9 81 out (b .out) (amount-most st o flowPart) (omega arith) k in
+      let y = sum-below (nodeAt tab) (hiAt st o) 9 (entryCount tab) high (n .high) (amount-most st o hiPart) (count-most tab) k in
       omega arith
 
   pub level-all : (k : ℕ) → Level into low out high k → 9 ≤ k → Says true (Balances tab (flowAt st o) (hiAt st o) (loAt st o))

@@ -10,7 +10,7 @@ use mir.Val.{Fits}
 use Rattle.numbers.specs.Sum.{sum}
 use Rattle.flow.specs.Flow.{weigh}
 use Rattle.half_test.specs.Arrays.{boundAt, entryCount, mostAt, leastAt}
-use Rattle.half_test.specs.State.{amountAt, flowAt, hiAt, loAt}
+use Rattle.half_test.specs.State.{amountAt, flowPart, hiPart, loPart, flowAt, hiAt, loAt}
 use Rattle.half_test.specs.Amounts.{gained, lost}
 use Rattle.half_test.specs.Tests.{PlaceSums, BoundSums, WorthSums}
 use Rattle.half_test.proofs.Gathering.{amount-most, count-most}
@@ -61,36 +61,36 @@ places-all tab st o i m u d eu ed l g q = let r : i ≡ entryCount tab = omega a
 module _ (st : List ℕ) (o i x y : ℕ) where
   module _ (arcs : List ℕ) (ex : x ≡ boundAt arcs i) (ey : y ≡ flowAt st o i) where
     pub bound-product : Fits w64 (x * y)
-    bound-product = product-fits (boundAt arcs) st o 3 (bound-most arcs) i x y ex ey
+    bound-product = product-fits (boundAt arcs) st o flowPart (bound-most arcs) i x y ex ey
 
     module _ (w : ℕ) (e : w ≡ weigh (boundAt arcs) (flowAt st o) i) where
       pub bound-fits : i < 81 → Fits w64 (w + x * y)
-      bound-fits l = adds-fits (boundAt arcs) st o 3 (bound-most arcs) i w x y (omega arith) e ex ey
+      bound-fits l = adds-fits (boundAt arcs) st o flowPart (bound-most arcs) i w x y (omega arith) e ex ey
 
       pub bound-more : w + x * y ≡ weigh (boundAt arcs) (flowAt st o) (i + 1)
-      bound-more = adds-more (boundAt arcs) st o 3 (bound-most arcs) i w x y e ex ey
+      bound-more = adds-more (boundAt arcs) st o flowPart (bound-most arcs) i w x y e ex ey
 
   module _ (tab : List ℕ) (ex : x ≡ mostAt tab i) (ey : y ≡ hiAt st o i) where
     pub most-product : Fits w64 (x * y)
-    most-product = product-fits (mostAt tab) st o 4 (most-most tab) i x y ex ey
+    most-product = product-fits (mostAt tab) st o hiPart (most-most tab) i x y ex ey
 
     module _ (w : ℕ) (e : w ≡ weigh (mostAt tab) (hiAt st o) i) where
       pub most-fits : (m : ℕ) → i < m → m ≡ entryCount tab → Fits w64 (w + x * y)
-      most-fits m l em = adds-fits (mostAt tab) st o 4 (most-most tab) i w x y (let c = count-most tab in omega arith) e ex ey
+      most-fits m l em = adds-fits (mostAt tab) st o hiPart (most-most tab) i w x y (let c = count-most tab in omega arith) e ex ey
 
       pub most-more : w + x * y ≡ weigh (mostAt tab) (hiAt st o) (i + 1)
-      most-more = adds-more (mostAt tab) st o 4 (most-most tab) i w x y e ex ey
+      most-more = adds-more (mostAt tab) st o hiPart (most-most tab) i w x y e ex ey
 
   module _ (tab : List ℕ) (ex : x ≡ leastAt tab i) (ey : y ≡ loAt st o i) where
     pub least-product : Fits w64 (x * y)
-    least-product = product-fits (leastAt tab) st o 5 (least-most tab) i x y ex ey
+    least-product = product-fits (leastAt tab) st o loPart (least-most tab) i x y ex ey
 
     module _ (w : ℕ) (e : w ≡ weigh (leastAt tab) (loAt st o) i) where
       pub least-fits : (m : ℕ) → i < m → m ≡ entryCount tab → Fits w64 (w + x * y)
-      least-fits m l em = adds-fits (leastAt tab) st o 5 (least-most tab) i w x y (let c = count-most tab in omega arith) e ex ey
+      least-fits m l em = adds-fits (leastAt tab) st o loPart (least-most tab) i w x y (let c = count-most tab in omega arith) e ex ey
 
       pub least-more : w + x * y ≡ weigh (leastAt tab) (loAt st o) (i + 1)
-      least-more = adds-more (leastAt tab) st o 5 (least-most tab) i w x y e ex ey
+      least-more = adds-more (leastAt tab) st o loPart (least-most tab) i w x y e ex ey
 
 -- ---- all that the bounds carry
 
@@ -98,7 +98,7 @@ module _ (st : List ℕ) (o : ℕ) where
   sum-most : (i : ℕ) → sum (flowAt st o) i ≤ i * 65535
   unfolding sum
   sum-most zero = omega arith
-  sum-most (suc i) = let q = sum-most i in let r = amount-most st o 3 i in omega arith
+  sum-most (suc i) = let q = sum-most i in let r = amount-most st o flowPart i in omega arith
 
   sum-next : (i : ℕ) → sum (flowAt st o) (i + 1) ≡ sum (flowAt st o) i + flowAt st o i
   unfolding sum
@@ -110,7 +110,7 @@ module _ (st : List ℕ) (o : ℕ) where
 
   module _ (i w a : ℕ) (e : w ≡ sum (flowAt st o) i) where
     pub sum-fits : a ≡ flowAt st o i → i < 81 → Fits w64 (w + a)
-    sum-fits ea l = let q = sum-most i in let r = amount-most st o 3 i in omega arith
+    sum-fits ea l = let q = sum-most i in let r = amount-most st o flowPart i in omega arith
 
     pub sum-more : a ≡ flowAt st o i → w + a ≡ sum (flowAt st o) (i + 1)
     sum-more ea = let q = sum-next i in omega arith
@@ -122,13 +122,13 @@ module _ (st : List ℕ) (o : ℕ) where
 
 module _ (tab arcs st : List ℕ) (o u d a b : ℕ) (p : PlaceSums tab st o u d) (q : BoundSums arcs st o a b) where
   pub more-fits : Fits w64 (u + b)
-  more-fits = let eu = p .up in let eb = q .by in let x = weigh-most (mostAt tab) st o 4 (most-most tab) (entryCount tab) in let y = weigh-most (boundAt arcs) st o 3 (bound-most arcs) 81 in let c = count-most tab in omega arith
+  more-fits = let eu = p .up in let eb = q .by in let x = weigh-most (mostAt tab) st o hiPart (most-most tab) (entryCount tab) in let y = weigh-most (boundAt arcs) st o flowPart (bound-most arcs) 81 in let c = count-most tab in omega arith
 
   pub base-fits : Fits w64 (16777216 * a)
   base-fits = let ea = q .all in let x = sum-most st o 81 in omega arith
 
   pub less-fits : Fits w64 (d + 16777216 * a)
-  less-fits = let ea = q .all in let ed = p .down in let x = sum-most st o 81 in let y = weigh-most (leastAt tab) st o 5 (least-most tab) (entryCount tab) in let c = count-most tab in omega arith
+  less-fits = let ea = q .all in let ed = p .down in let x = sum-most st o 81 in let y = weigh-most (leastAt tab) st o loPart (least-most tab) (entryCount tab) in let c = count-most tab in omega arith
 
   pub worth-is : WorthSums tab arcs st o (u + b) (d + 16777216 * a)
   unfolding gained lost

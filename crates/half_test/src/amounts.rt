@@ -7,7 +7,7 @@ use crate::gather::at_nodes;
 use crate::gather::on_nets;
 use crate::read::weight;
 
-fn balances(tab: &[u32; 1024], st: &[u32; 4096], o: usize) -> bool
+fn balances(tab: &[u32; 1024], st: &[u32; 2560], o: usize) -> bool
     ensures { λ r. ⌜ Says r (Balances (now (tab .entry)) (flowAt (now (st .entry)) o) (hiAt (now (st .entry)) o) (loAt (now (st .entry)) o)) ⌝ }
 {
     let n = at_nodes(tab, st, o);
@@ -22,7 +22,7 @@ fn balances(tab: &[u32; 1024], st: &[u32; 4096], o: usize) -> bool
     true
 }
 
-fn gives_weights(tab: &[u32; 1024], st: &[u32; 4096], o: usize) -> bool
+fn gives_weights(tab: &[u32; 1024], st: &[u32; 2560], o: usize) -> bool
     ensures { λ r. ⌜ Says r (GivesWeights (now (tab .entry)) (hiAt (now (st .entry)) o) (loAt (now (st .entry)) o)) ⌝ }
 {
     let n = on_nets(tab, st, o);
@@ -41,7 +41,7 @@ fn gives_weights(tab: &[u32; 1024], st: &[u32; 4096], o: usize) -> bool
 }
 
 // Whether the amounts of state o balance and give each net its weight at hi and at lo.
-pub(crate) fn passes(tab: &[u32; 1024], st: &[u32; 4096], o: usize) -> bool
+pub(crate) fn passes(tab: &[u32; 1024], st: &[u32; 2560], o: usize) -> bool
     ensures { λ r. ⌜ Says r (Passes (now (tab .entry)) (flowAt (now (st .entry)) o) (hiAt (now (st .entry)) o) (loAt (now (st .entry)) o)) ⌝ }
 {
     if !balances(tab, st, o) {

@@ -9,7 +9,7 @@ use crate::worth::worth_of;
 pub fn shows_beyond(
     tab: &[u32; 1024],
     arcs: &[u32; 128],
-    st: &[u32; 4096],
+    st: &[u32; 2560],
     o: usize,
     room: u64,
 ) -> bool

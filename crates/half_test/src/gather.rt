@@ -1,5 +1,8 @@
 // What amounts give at the nodes and on the nets, each in one pass over the entries or the bounds.
 ghost use Rattle.half_test.specs.Tests.{NodeSums, NetSums, EndSums};
+use crate::read::FLOWS;
+use crate::read::HIGHS;
+use crate::read::LOWS;
 use crate::read::amount;
 use crate::read::entries;
 use crate::read::net;
@@ -22,7 +25,7 @@ pub(crate) struct AtEnds {
     pub out: [u64; 9],
 }
 
-pub(crate) fn at_nodes(tab: &[u32; 1024], st: &[u32; 4096], o: usize) -> AtNodes
+pub(crate) fn at_nodes(tab: &[u32; 1024], st: &[u32; 2560], o: usize) -> AtNodes
     ensures { λ r. ⌜ NodeSums (now (tab .entry)) (now (st .entry)) o (r .high) (r .low) ⌝ }
 {
     let mut high = [0u64; 9];
@@ -31,8 +34,8 @@ pub(crate) fn at_nodes(tab: &[u32; 1024], st: &[u32; 4096], o: usize) -> AtNodes
     let mut e: usize = 0;
     while e < m {
         let k = node(tab, e);
-        let a = amount(st, o, 4, e);
-        let b = amount(st, o, 5, e);
+        let a = amount(st, o, HIGHS, e);
+        let b = amount(st, o, LOWS, e);
         high[k] += a;
         low[k] += b;
         e += 1;
@@ -40,7 +43,7 @@ pub(crate) fn at_nodes(tab: &[u32; 1024], st: &[u32; 4096], o: usize) -> AtNodes
     AtNodes { high, low }
 }
 
-pub(crate) fn on_nets(tab: &[u32; 1024], st: &[u32; 4096], o: usize) -> OnNets
+pub(crate) fn on_nets(tab: &[u32; 1024], st: &[u32; 2560], o: usize) -> OnNets
     ensures { λ r. ⌜ NetSums (now (tab .entry)) (now (st .entry)) o (r .high) (r .low) ⌝ }
 {
     let mut high = [0u64; 32];
@@ -49,8 +52,8 @@ pub(crate) fn on_nets(tab: &[u32; 1024], st: &[u32; 4096], o: usize) -> OnNets
     let mut e: usize = 0;
     while e < m {
         let k = net(tab, e);
-        let a = amount(st, o, 4, e);
-        let b = amount(st, o, 5, e);
+        let a = amount(st, o, HIGHS, e);
+        let b = amount(st, o, LOWS, e);
         high[k] += a;
         low[k] += b;
         e += 1;
@@ -58,14 +61,14 @@ pub(crate) fn on_nets(tab: &[u32; 1024], st: &[u32; 4096], o: usize) -> OnNets
     OnNets { high, low }
 }
 
-pub(crate) fn at_ends(st: &[u32; 4096], o: usize) -> AtEnds
+pub(crate) fn at_ends(st: &[u32; 2560], o: usize) -> AtEnds
     ensures { λ r. ⌜ EndSums (now (st .entry)) o (r .into) (r .out) ⌝ }
 {
     let mut into = [0u64; 9];
     let mut out = [0u64; 9];
     let mut c: usize = 0;
     while c < 81 {
-        let a = amount(st, o, 3, c);
+        let a = amount(st, o, FLOWS, c);
         into[c % 9] += a;
         out[c / 9] += a;
         c += 1;

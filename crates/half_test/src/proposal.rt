@@ -16,7 +16,7 @@ pub enum Shown {
 }
 
 // Whether what state o proposes is the half fit of the arrays.
-pub fn test_fit(tab: &[u32; 1024], arcs: &[u32; 128], st: &[u32; 4096], o: usize) -> Shown
+pub fn test_fit(tab: &[u32; 1024], arcs: &[u32; 128], st: &[u32; 2560], o: usize) -> Shown
     ensures { λ r. ⌜ ShownOk (now (tab .entry)) (now (arcs .entry)) (coordinates (now (st .entry)) o) r ⌝ }
 {
     let z = coordinates_of(st, o);

@@ -4,6 +4,13 @@ ghost use mathlib.Core.Path.{_≡_};
 ghost use Rattle.half_test.specs.Arrays.{boundAt, entryCount, nodeAt, mostAt, leastAt, netAt, weightAt};
 ghost use Rattle.half_test.specs.State.{amountAt, rankAt};
 
+// The parts of what bounds carry, and of what entries carry to hi and from lo.
+pub(crate) const FLOWS: usize = 6;
+
+pub(crate) const HIGHS: usize = 9;
+
+pub(crate) const LOWS: usize = 13;
+
 pub(crate) fn bound(arcs: &[u32; 128], c: usize) -> u64
     ensures { λ r. ⌜ r ≡ boundAt (now (arcs .entry)) c ⌝ }
 {
@@ -46,26 +53,26 @@ pub(crate) fn weight(tab: &[u32; 1024], j: usize) -> u64
     (tab[576 + j % 64] % 65536) as u64
 }
 
-pub(crate) fn amount(st: &[u32; 4096], o: usize, p: usize, k: usize) -> u64
+pub(crate) fn amount(st: &[u32; 2560], o: usize, p: usize, k: usize) -> u64
     ensures { λ r. ⌜ r ≡ amountAt (now (st .entry)) o p k ⌝ }
 {
-    (st[o % 4 * 1024 + p % 8 * 128 + k % 128] % 65536) as u64
+    (st[o % 4 * 608 + p % 20 * 32 + k % 128] % 65536) as u64
 }
 
 // The parent of node k.
-pub(crate) fn parent(st: &[u32; 4096], o: usize, k: usize) -> usize
+pub(crate) fn parent(st: &[u32; 2560], o: usize, k: usize) -> usize
     ensures { λ r. ⌜ r < 9 ⌝ }
 {
-    (st[o % 4 * 1024 + 800 + k % 16] % 9) as usize
+    (st[o % 4 * 608 + 576 + k % 16] % 9) as usize
 }
 
-pub(crate) fn rank(st: &[u32; 4096], o: usize, k: usize) -> u32
+pub(crate) fn rank(st: &[u32; 2560], o: usize, k: usize) -> u32
     ensures { λ r. ⌜ r ≡ rankAt (now (st .entry)) o k ⌝ }
 {
-    st[o % 4 * 1024 + 816 + k % 16]
+    st[o % 4 * 608 + 592 + k % 16]
 }
 
 // How the residual bound at place c arises.
-pub(crate) fn way(st: &[u32; 4096], o: usize, c: usize) -> u32 {
-    st[o % 4 * 1024 + 128 + c % 128]
+pub(crate) fn way(st: &[u32; 2560], o: usize, c: usize) -> u32 {
+    st[o % 4 * 608 + 96 + c % 128]
 }

@@ -3,6 +3,9 @@ ghost use Prim.Native.Nat.{_<_};
 ghost use Rattle.half_test.specs.State.{flowAt, hiAt, loAt, rankAt};
 ghost use Rattle.half_test.specs.Reasons.{TightAt, Beside, HighAt, LowAt, Follows, Reason, Reasons};
 ghost use Rattle.half_test.specs.Tests.{Says, Values, macros};
+use crate::read::FLOWS;
+use crate::read::HIGHS;
+use crate::read::LOWS;
 use crate::read::amount;
 use crate::read::bound;
 use crate::read::entries;
@@ -44,7 +47,7 @@ fn beside(tab: &[u32; 1024], p: usize, k: usize, i: usize, j: usize) -> bool
 
 fn high(
     tab: &[u32; 1024],
-    st: &[u32; 4096],
+    st: &[u32; 2560],
     o: usize,
     x: &[u64; 9],
     p: usize,
@@ -58,7 +61,7 @@ fn high(
     if !beside(tab, p, k, i, j) {
         return false;
     }
-    let a = amount(st, o, 4, j);
+    let a = amount(st, o, HIGHS, j);
     if a == 0 {
         return false;
     }
@@ -69,7 +72,7 @@ fn high(
 
 fn low(
     tab: &[u32; 1024],
-    st: &[u32; 4096],
+    st: &[u32; 2560],
     o: usize,
     x: &[u64; 9],
     p: usize,
@@ -83,7 +86,7 @@ fn low(
     if !beside(tab, p, k, i, j) {
         return false;
     }
-    let a = amount(st, o, 5, i);
+    let a = amount(st, o, LOWS, i);
     if a == 0 {
         return false;
     }
@@ -96,7 +99,7 @@ fn low(
 fn follows(
     tab: &[u32; 1024],
     arcs: &[u32; 128],
-    st: &[u32; 4096],
+    st: &[u32; 2560],
     o: usize,
     x: &[u64; 9],
     p: usize,
@@ -110,7 +113,7 @@ fn follows(
         return tight(arcs, x, p, k);
     }
     if how == 65536 {
-        let a = amount(st, o, 3, k * 9 + p);
+        let a = amount(st, o, FLOWS, k * 9 + p);
         return 0 < a;
     }
     let i = (how / 256 % 128) as usize;
@@ -125,7 +128,7 @@ fn follows(
 fn has_reason(
     tab: &[u32; 1024],
     arcs: &[u32; 128],
-    st: &[u32; 4096],
+    st: &[u32; 2560],
     o: usize,
     x: &[u64; 9],
     k: usize,
@@ -145,7 +148,7 @@ fn has_reason(
 pub(crate) fn reasons(
     tab: &[u32; 1024],
     arcs: &[u32; 128],
-    st: &[u32; 4096],
+    st: &[u32; 2560],
     o: usize,
     x: &[u64; 9],
 ) -> bool

@@ -3,14 +3,14 @@ ghost use mathlib.Core.Path.{_≡_};
 ghost use Rattle.half_test.specs.State.{coordinateAt, coordinates, limited};
 ghost use Rattle.half_test.specs.Tests.{ValuesOf};
 
-fn coordinate(st: &[u32; 4096], o: usize, k: usize) -> u64
+fn coordinate(st: &[u32; 2560], o: usize, k: usize) -> u64
     ensures { λ r. ⌜ r ≡ coordinateAt (now (st .entry)) o k ⌝ }
 {
-    (st[o % 4 * 1024 + 768 + k % 16] % 8192) as u64
+    (st[o % 4 * 608 + 544 + k % 16] % 8192) as u64
 }
 
 // The macros' coordinates in state o.
-pub fn coordinates_of(st: &[u32; 4096], o: usize) -> [u64; 8]
+pub fn coordinates_of(st: &[u32; 2560], o: usize) -> [u64; 8]
     ensures { λ r. ⌜ r ≡ coordinates (now (st .entry)) o ⌝ }
 {
     let a = coordinate(st, o, 1);

@@ -1,5 +1,8 @@
 // Sums of amounts times places and bounds.
 ghost use Rattle.half_test.specs.Tests.{PlaceSums, BoundSums, WorthSums};
+use crate::read::FLOWS;
+use crate::read::HIGHS;
+use crate::read::LOWS;
 use crate::read::amount;
 use crate::read::bound;
 use crate::read::entries;
@@ -24,7 +27,7 @@ pub(crate) struct Worth {
     pub less: u64,
 }
 
-fn by_places(tab: &[u32; 1024], st: &[u32; 4096], o: usize) -> ByPlaces
+fn by_places(tab: &[u32; 1024], st: &[u32; 2560], o: usize) -> ByPlaces
     ensures { λ r. ⌜ PlaceSums (now (tab .entry)) (now (st .entry)) o (r .up) (r .down) ⌝ }
 {
     let mut up: u64 = 0;
@@ -33,9 +36,9 @@ fn by_places(tab: &[u32; 1024], st: &[u32; 4096], o: usize) -> ByPlaces
     let mut e: usize = 0;
     while e < m {
         let p = most(tab, e);
-        let a = amount(st, o, 4, e);
+        let a = amount(st, o, HIGHS, e);
         let q = least(tab, e);
-        let b = amount(st, o, 5, e);
+        let b = amount(st, o, LOWS, e);
         up += p * a;
         down += q * b;
         e += 1;
@@ -43,7 +46,7 @@ fn by_places(tab: &[u32; 1024], st: &[u32; 4096], o: usize) -> ByPlaces
     ByPlaces { up, down }
 }
 
-fn by_bounds(arcs: &[u32; 128], st: &[u32; 4096], o: usize) -> ByBounds
+fn by_bounds(arcs: &[u32; 128], st: &[u32; 2560], o: usize) -> ByBounds
     ensures { λ r. ⌜ BoundSums (now (arcs .entry)) (now (st .entry)) o (r .all) (r .by) ⌝ }
 {
     let mut all: u64 = 0;
@@ -51,7 +54,7 @@ fn by_bounds(arcs: &[u32; 128], st: &[u32; 4096], o: usize) -> ByBounds
     let mut c: usize = 0;
     while c < 81 {
         let b = bound(arcs, c);
-        let a = amount(st, o, 3, c);
+        let a = amount(st, o, FLOWS, c);
         all += a;
         by += b * a;
         c += 1;
@@ -59,7 +62,7 @@ fn by_bounds(arcs: &[u32; 128], st: &[u32; 4096], o: usize) -> ByBounds
     ByBounds { all, by }
 }
 
-pub(crate) fn worth_of(tab: &[u32; 1024], arcs: &[u32; 128], st: &[u32; 4096], o: usize) -> Worth
+pub(crate) fn worth_of(tab: &[u32; 1024], arcs: &[u32; 128], st: &[u32; 2560], o: usize) -> Worth
     ensures { λ r. ⌜ WorthSums (now (tab .entry)) (now (arcs .entry)) (now (st .entry)) o (r .more) (r .less) ⌝ }
 {
     let p = by_places(tab, st, o);

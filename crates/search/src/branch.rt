@@ -54,16 +54,16 @@ fn try_letter(
     ty: &[u32; 1024],
     hy: &[u32; 4352],
     node: Node,
-    sx: &[u32; 4096],
+    sx: &[u32; 2560],
     ix: usize,
-    sy: &[u32; 4096],
+    sy: &[u32; 2560],
     iy: usize,
     s: usize,
     at: Cursor,
     i: usize,
     best: Record,
     left: Left,
-    pool: &mut [u32; 4096],
+    pool: &mut [u32; 2560],
 ) -> Left
     requires { ⌜ Passed (chipIn (now cs)) × PartsOf (chipIn (now cs)) parts × Arrayed (chipIn (now cs)) (now tx) (now ty) × NodeOk (chipIn (now cs)) p node × Open (chipIn (now cs)) p node s × Placed (chipIn (now cs)) s at × (i < 4) × Counted (chipIn (now cs) .n) best × LeftOk (chipIn (now cs)) p node s i left best ⌝ }
     ensures { λ r. ⌜ LeftOk (chipIn (now (cs .entry))) p node s (i + 1) r best ⌝ }
@@ -106,14 +106,14 @@ fn try_letters(
     ty: &[u32; 1024],
     hy: &[u32; 4352],
     node: Node,
-    sx: &[u32; 4096],
+    sx: &[u32; 2560],
     ix: usize,
-    sy: &[u32; 4096],
+    sy: &[u32; 2560],
     iy: usize,
     s: usize,
     at: Cursor,
     best: Record,
-    pool: &mut [u32; 4096],
+    pool: &mut [u32; 2560],
 ) -> Left
     requires { ⌜ Passed (chipIn (now cs)) × PartsOf (chipIn (now cs)) parts × Arrayed (chipIn (now cs)) (now tx) (now ty) × NodeOk (chipIn (now cs)) p node × Open (chipIn (now cs)) p node s × Placed (chipIn (now cs)) s at × Counted (chipIn (now cs) .n) best ⌝ }
     ensures { λ r. ⌜ LeftOk (chipIn (now (cs .entry))) p node s 4 r best ⌝ }
@@ -230,9 +230,9 @@ pub(crate) fn search(
     ty: &[u32; 1024],
     hy: &[u32; 4352],
     node: Node,
-    sx: &[u32; 4096],
+    sx: &[u32; 2560],
     ix: usize,
-    sy: &[u32; 4096],
+    sy: &[u32; 2560],
     iy: usize,
     best: Record,
 ) -> Record
@@ -249,7 +249,7 @@ pub(crate) fn search(
         return replaced(best, here);
     }
     let at = pair.at;
-    let mut pool = [0u32; 4096];
+    let mut pool = [0u32; 2560];
     let mut left = try_letters(
         cs,
         parts,

@@ -148,13 +148,13 @@ fn child_x(
     tab: &[u32; 1024],
     help: &[u32; 4352],
     node: Node,
-    state: &[u32; 4096],
+    state: &[u32; 2560],
     k: usize,
     s: usize,
     i: usize,
     t: Slot,
     best: Record,
-    pool: &mut [u32; 4096],
+    pool: &mut [u32; 2560],
 ) -> Record
     requires { ⌜ Passed (chipIn (now cs)) × Tabled Direction.Horizontal (chipOf (chipIn (now cs))) (now tab) × NodeOk (chipIn (now cs)) p node × Open (chipIn (now cs)) p node s × Asks (chipIn (now cs)) s i t × (wayAt i ≡ Direction.Horizontal) ⌝ }
     ensures { λ r. ⌜ ChildHeld (chipIn (now (cs .entry))) (set (node .letters) s (byteOf i)) p best r ⌝ }
@@ -195,13 +195,13 @@ fn child_y(
     tab: &[u32; 1024],
     help: &[u32; 4352],
     node: Node,
-    state: &[u32; 4096],
+    state: &[u32; 2560],
     k: usize,
     s: usize,
     i: usize,
     t: Slot,
     best: Record,
-    pool: &mut [u32; 4096],
+    pool: &mut [u32; 2560],
 ) -> Record
     requires { ⌜ Passed (chipIn (now cs)) × Tabled Direction.Vertical (chipOf (chipIn (now cs))) (now tab) × NodeOk (chipIn (now cs)) p node × Open (chipIn (now cs)) p node s × Asks (chipIn (now cs)) s i t × (wayAt i ≡ Direction.Vertical) ⌝ }
     ensures { λ r. ⌜ ChildHeld (chipIn (now (cs .entry))) (set (node .letters) s (byteOf i)) p best r ⌝ }
@@ -244,15 +244,15 @@ pub(crate) fn child(
     ty: &[u32; 1024],
     hy: &[u32; 4352],
     node: Node,
-    sx: &[u32; 4096],
+    sx: &[u32; 2560],
     ix: usize,
-    sy: &[u32; 4096],
+    sy: &[u32; 2560],
     iy: usize,
     s: usize,
     i: usize,
     t: Slot,
     best: Record,
-    pool: &mut [u32; 4096],
+    pool: &mut [u32; 2560],
 ) -> Record
     requires { ⌜ Passed (chipIn (now cs)) × Arrayed (chipIn (now cs)) (now tx) (now ty) × NodeOk (chipIn (now cs)) p node × Open (chipIn (now cs)) p node s × Asks (chipIn (now cs)) s i t ⌝ }
     ensures { λ r. ⌜ ChildHeld (chipIn (now (cs .entry))) (set (node .letters) s (byteOf i)) p best r ⌝ }

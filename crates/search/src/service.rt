@@ -54,7 +54,7 @@ fn chip_record(c: Chip) -> Record
     let ay = y.arcs;
     let mut hx = [0u32; 4352];
     let mut hy = [0u32; 4352];
-    let mut states = [0u32; 4096];
+    let mut states = [0u32; 2560];
     first_half(&tx, &mut hx, &ax, &mut states, 0, 4000000000);
     first_half(&ty, &mut hy, &ay, &mut states, 1, 4000000000);
     let node = root(c, p, x, y);

@@ -1,31 +1,19 @@
 use Prim.Native.Nat.{_-_, _≤_}
 use borrow.Author.Needs.{needs}
-use Rattle.half_fit.proofs.state.copy_part.Statement.{statement}
-use Rattle.half_fit.proofs.state.copy_part.Tie as tie
+use Rattle.half_fit.proofs.state.copy.Statement.{statement}
+use Rattle.half_fit.proofs.state.copy.Tie as tie
 
 abbrev Inv-loop : tie.InvT-loop
-Inv-loop from a to₀ o p n left right i₀ to i = 0 ≤ 0
+Inv-loop from a to₀ o left right i₀ to i = 0 ≤ 0
 
 abbrev μ-loop : tie.MeasureT-loop
-μ-loop from a to₀ o p n left right i₀ to i = 128 - i
+μ-loop from a to₀ o left right i₀ to i = 608 - i
 
 mul-left : tie.Need-mul-left Inv-loop μ-loop
 mul-left c = search needs
 
-mul-left-2 : tie.Need-mul-left-2 Inv-loop μ-loop
-mul-left-2 c = search needs
-
-add-left : tie.Need-add-left Inv-loop μ-loop
-add-left c = search needs
-
 mul-right : tie.Need-mul-right Inv-loop μ-loop
 mul-right c = search needs
-
-mul-right-2 : tie.Need-mul-right-2 Inv-loop μ-loop
-mul-right-2 c = search needs
-
-add-right : tie.Need-add-right Inv-loop μ-loop
-add-right c = search needs
 
 loop-holds : tie.Need-loop-holds Inv-loop μ-loop
 loop-holds c = search needs
@@ -60,18 +48,14 @@ loop-again c = search needs
 returns : tie.Need-returns Inv-loop μ-loop
 returns c = search needs
 
-pub copy-part-spec : {M : Type 1} → statement M
-copy-part-spec =
+pub copy-spec : {M : Type 1} → statement M
+copy-spec =
     tie.close
     (tie.spec
     Inv-loop
     μ-loop
     mul-left
-    mul-left-2
-    add-left
     mul-right
-    mul-right-2
-    add-right
     loop-holds
     add-to
     mul-to
