@@ -30,7 +30,7 @@ use Rattle.half_tables.specs.Tables.{Tabled, Arced, withBound}
 use Rattle.half_tables.proofs.HalfHere.{half-here, above-here}
 use Rattle.half_tables.proofs.LetterBounds.{arced-letter}
 use Rattle.search.specs.declared.node.Node.{Node}
-use Rattle.search.specs.Best.{bestOf}
+use Rattle.best.specs.Best.{bestOf}
 use Rattle.search.specs.Search.{byteOf, lettersIn, letterAt, wayAt, Lettered, roomOf, HalfSaid, ChildHeld, NodeOk}
 use Rattle.search.specs.Turns.{Open, Asks, Beside}
 use Rattle.search.proofs.Asking.{way-of, asks-beside}

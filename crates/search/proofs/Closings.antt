@@ -23,7 +23,7 @@ use Rattle.branches.proofs.Closing.{letters-inside, fit-sized}
 use Rattle.halves.specs.Result.{placed, NotAfter, Real}
 use Rattle.halves.proofs.NotAfter.{after-same, better-first, better-second}
 use Rattle.halves.proofs.Covers.{covers-on, fit-covers, closed-covers, better-real}
-use Rattle.search.specs.Best.{resultOf, bestOf, CountIs, Counted, Told, Alike, Better}
+use Rattle.best.specs.Best.{resultOf, bestOf, CountIs, Counted, Told, Better}
 use Rattle.search.specs.Choice.{SmallSpots, Chosen}
 use Rattle.search.specs.Search.{lettersIn, Lettered, FitHeld, NodeOk, Searched}
 use Rattle.search.specs.Turns.{Open}
@@ -40,9 +40,6 @@ module _ (c : HeldChip) (letters : List ℕ) (p : ℕ) (here best : HeldRecord) 
 
   abbrev ls : List Letter
   ls = lettersIn letters p
-
-  pub both-alike : Alike best here
-  both-alike = record { n = c .n; first = counted; second = fit .counted }
 
   sized : Passed c → Sized (length (C .macs)) (bestOf best)
   sized ok = subst (λ (m : ℕ). Sized m (bestOf best)) (sym (ok .macs)) (counted-sized (c .n) best counted)

@@ -24,7 +24,7 @@ use Rattle.fit.specs.declared.FitOutcome.the-variants as fitted
 use Rattle.fit.specs.declared.FitAnswer.{FitAnswer}
 use Rattle.fit.specs.Answer.{outcomeOf, positionsOf, padded, answerFor}
 use Rattle.fit.proofs.Outcomes.{padded-long, take-padded, is-placed, is-none, is-refused}
-use Rattle.search.specs.Best.{bestOf}
+use Rattle.best.specs.Best.{bestOf}
 use Rattle.search.specs.Search.{lettersIn, Lettered, noRecord, FitHeld}
 use Rattle.search.proofs.Holding.{no-best}
 use Rattle.search.proofs.Records.{none-counted}

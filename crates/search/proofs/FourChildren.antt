@@ -14,8 +14,8 @@ use Rattle.placement.specs.Least.{Best, nothing}
 use Rattle.branches.specs.Branch.{pick, better}
 use Rattle.branches.proofs.Betters.{nothing-better}
 use Rattle.search.specs.declared.left.Left.{Left}
-use Rattle.search.specs.Best.{resultOf, bestOf, Counted, Told, Alike}
-use Rattle.search.specs.Search.{byteOf, noRecord, childList, childAt, ChildrenCounted, NextChild}
+use Rattle.best.specs.Best.{resultOf, bestOf, Told}
+use Rattle.search.specs.Search.{byteOf, noRecord, childList, childAt, NextChild}
 use Rattle.search.specs.Turns.{SameKept}
 use Rattle.search.proofs.Holding.{no-best}
 use Rattle.search.proofs.Records.{none-counted}
@@ -58,18 +58,14 @@ nothing-none r e = by (r .outcome) e
 
 -- the children before i have been looked at; `at` is the place of the best of them, or 4
 pub record Sought (ks : List HeldRecord) (best : HeldRecord) (at i : ℕ) : Type 0 where
-  pub children : ChildrenCounted ks
-  pub counted : Counted (children .n) best
   pub place : at ≤ 4
   pub some : at < 4 → bestOf (childAt ks at) ≡ nothing → ⊥
   pub empty : at ≡ 4 → bestOf best ≡ nothing
   pub none : at ≡ 4 → (j : ℕ) → j < i → bestOf (childAt ks j) ≡ nothing
 
 module _ (ks : List HeldRecord) where
-  pub sought-start : (best : HeldRecord) → best ≡ noRecord → ChildrenCounted ks → Sought ks best 4 0
-  sought-start best e w = record {
-    children = w;
-    counted = rw e (none-counted (w .n) (w .few));
+  pub sought-start : (best : HeldRecord) → best ≡ noRecord → Sought ks best 4 0
+  sought-start best e = record {
     place = omega arith;
     some = λ h. absurd (omega arith);
     empty = λ q. rw e no-best;
@@ -81,17 +77,9 @@ module _ (ks : List HeldRecord) where
     sought-all h = record { place = w .place; some = w .some; none = λ q j g. w .none q j (omega arith) }
 
     module _ (h : i < 4) (k : HeldRecord) (e : k ≡ childAt ks i) where
-      counted-child : Counted (w .children .n) k
-      counted-child = rw e (w .children .at i h)
-
-      pub sought-alike : Alike best k
-      sought-alike = record { n = w .children .n; first = w .counted; second = counted-child }
-
       module _ (t : Bool) where
         pub sought-taken : Told t k → t ≡ true → Sought ks k i (i + 1)
         sought-taken told q = record {
-          children = w .children;
-          counted = counted-child;
           place = omega arith;
           some = λ g z. told .placed q (nothing-none k (ap bestOf e ∙ z));
           empty = λ z. absurd (omega arith);
@@ -100,8 +88,6 @@ module _ (ks : List HeldRecord) where
 
         pub sought-left : pick t (bestOf k) (bestOf best) ≡ better (bestOf best) (bestOf k) → t ≡ false → Sought ks best at (i + 1)
         sought-left b q = record {
-          children = w .children;
-          counted = w .counted;
           place = w .place;
           some = w .some;
           empty = w .empty;

@@ -7,7 +7,7 @@ use lib.ListN.{set}
 use Rattle.model.specs.declared.Record.{Record as HeldRecord}
 use Rattle.model.specs.Meaning.{recordOf}
 use Rattle.placement.specs.Least.{Best, nothing, found}
-use Rattle.search.specs.Best.{bestOf}
+use Rattle.best.specs.Best.{bestOf}
 use Rattle.search.specs.Search.{noRecord, childAt}
 
 pub no-best : bestOf noRecord ≡ nothing

@@ -35,7 +35,7 @@ use Rattle.halves.proofs.Halving.{halves}
 use Rattle.half_fit.specs.declared.service.HalfFit.{HalfFit}
 use Rattle.half_fit.specs.declared.service.HalfOutcome.{HalfOutcome}
 use Rattle.half_fit.specs.declared.service.HalfOutcome.the-variants as answer
-use Rattle.search.specs.Best.{resultOf, bestOf, CountIs, Counted}
+use Rattle.best.specs.Best.{resultOf, bestOf, CountIs, Counted}
 use Rattle.search.specs.Search.{noRecord, lettersIn, Lettered, FitHeld, roomOf, HalfSaid, spotsWith, ChildHeld}
 use Rattle.search.specs.Turns.{Beside}
 use Rattle.search.proofs.Cornering.{take-with}

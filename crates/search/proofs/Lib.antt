@@ -1,5 +1,3 @@
-pub mod Earlier
-pub mod Chosen
 pub mod Boxes
 pub mod Weighing
 pub mod Choosing

@@ -29,7 +29,7 @@ use Rattle.halves.proofs.Halving.{half-one, fit-half, fit-sum, other-axis}
 use Rattle.kept.specs.Differences.{limited, contrary}
 use Rattle.half_tables.specs.Tables.{Arced, withBound}
 use Rattle.half_tables.proofs.LetterBounds.{arced-letter, arced-other}
-use Rattle.search.specs.Best.{resultOf, bestOf}
+use Rattle.best.specs.Best.{resultOf, bestOf}
 use Rattle.search.specs.Search.{noRecord, lengthOf, byteOf, lettersIn, Lettered, letterAt, wayAt, AddsOn, FitHeld, NodeOk, childList, childAt}
 use Rattle.search.specs.Turns.{OppositeKept, SameKept, Open, Asks, Untried, Visited, LeftOk, NextX, NextY, NextOf, NextOk}
 use Rattle.search.specs.declared.node.Node.{Node}

@@ -12,7 +12,7 @@ use Rattle.chip.specs.Passed.{Passed}
 use Rattle.bounds.specs.declared.Slot.{Slot}
 use Rattle.slots.specs.Fit.{letterCount}
 use Rattle.pairs.specs.declared.Cursor.{Cursor}
-use Rattle.search.specs.Best.{Counted}
+use Rattle.best.specs.Best.{Counted}
 use Rattle.search.specs.Choice.{SmallSpots, Chosen, PlaceOf, partsOf, Laid}
 use Rattle.search.specs.Search.{slotAsked, PartsOf, Arrayed, NodeOk, Searched}
 use Rattle.search.specs.Turns.{Asks, Placed}

@@ -36,7 +36,7 @@ use Rattle.branches.proofs.Branching.{dots-branch}
 use Rattle.halves.specs.Result.{Real}
 use Rattle.halves.proofs.Covers.{real-answer}
 use Rattle.halves.proofs.EqualMacros.{equal-macros}
-use Rattle.search.specs.Best.{resultOf, bestOf, Counted}
+use Rattle.best.specs.Best.{resultOf, bestOf, Counted}
 use Rattle.half_tables.specs.Made.{Hold, ArraysFor}
 use Rattle.search.specs.Search.{lettersIn, Lettered, noRecord, Arrayed, Searched}
 use Rattle.search.specs.Turns.{RootOk}

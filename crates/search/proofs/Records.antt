@@ -9,7 +9,7 @@ use Rattle.model.specs.declared.Outcome.the-variants as outcome
 use Rattle.model.specs.Meaning.{blankSpot, outcomeOf, recordOf}
 use Rattle.model.proofs.FirstOf.{length-first}
 use Rattle.branches.proofs.Betters.{Sized}
-use Rattle.search.specs.Best.{resultOf, bestOf, CountIs, Counted}
+use Rattle.best.specs.Best.{resultOf, bestOf, CountIs, Counted}
 use Rattle.search.specs.Search.{noRecord}
 
 pub none-counted : (n : ℕ) → n ≤ 8 → Counted n noRecord

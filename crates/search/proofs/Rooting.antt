@@ -33,7 +33,7 @@ use Rattle.half_tables.specs.Tables.{padded, Arced}
 use Rattle.half_tables.specs.Made.{Hold}
 use Rattle.half_tables.proofs.HalfHere.{chip-small}
 use Rattle.half_tables.proofs.Padding.{padded-value, take-nets}
-use Rattle.search.specs.Best.{bestOf}
+use Rattle.best.specs.Best.{bestOf}
 use Rattle.search.specs.Search.{lettersIn, Lettered, FitHeld}
 use Rattle.search.specs.Turns.{OrderKept, RootOk}
 use Rattle.search.proofs.Cornering.{take-corners}

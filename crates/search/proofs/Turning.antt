@@ -32,8 +32,8 @@ use Rattle.halves.proofs.Opposite.{not-all-opposite}
 use Rattle.halves.proofs.Covers.{branch-legal, branch-keeps, covers-on, closed-covers, letter-or-opposite}
 use Rattle.kept.specs.Differences.{Holds, limited, contrary}
 use Rattle.half_tables.proofs.LetterBounds.{Plain, letter-plain}
-use Rattle.search.specs.Best.{bestOf, Counted, Told}
-use Rattle.search.specs.Search.{noRecord, byteOf, lettersIn, letterAt, wayAt, KeepsBoth, AddsOn, ChildHeld, NodeOk, childList, childAt, ChildrenCounted, Searched}
+use Rattle.best.specs.Best.{bestOf, Counted, Told}
+use Rattle.search.specs.Search.{noRecord, byteOf, lettersIn, letterAt, wayAt, KeepsBoth, AddsOn, ChildHeld, NodeOk, childList, childAt, Searched}
 use Rattle.search.specs.Turns.{ExcludedBy, OppositeKept, SameKept, NextOrOver, Open, Asks, Untried, Visited, Shut, LeftOk, Grown, NextOk}
 use Rattle.search.specs.declared.node.Node.{Node}
 use Rattle.search.specs.declared.left.Left.{Left}
@@ -63,9 +63,6 @@ module _ (c : HeldChip) (p : ℕ) (node : Node) (s : ℕ) where
 
     pub grown-start : (b : HeldRecord) → Counted (c .n) b → Grown c b b
     grown-start b k = record { counted = k; first = after-same (bestOf b); real = λ q. q }
-
-    pub left-counted : (i : ℕ) (t : Left) (b : HeldRecord) → LeftOk c p node s i t b → ChildrenCounted (childList t)
-    left-counted i t b o = record { n = c .n; few = ok .fine .macCount; at = o .counted }
 
     -- ---- no letter tried
 

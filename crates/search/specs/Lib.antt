@@ -1,4 +1,3 @@
-pub mod Best
 pub mod Choice
 pub mod Weights
 pub mod Search

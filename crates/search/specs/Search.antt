@@ -36,7 +36,7 @@ use Rattle.kept.specs.Differences.{KeptBy, Holds}
 use Rattle.half_fit.specs.declared.service.HalfOutcome.{HalfOutcome}
 use Rattle.half_fit.specs.declared.service.HalfOutcome.the-variants as half
 use Rattle.half_tables.specs.Tables.{Tabled, Arced}
-use Rattle.search.specs.Best.{bestOf, Counted}
+use Rattle.best.specs.Best.{bestOf, Counted}
 use Rattle.search.specs.Weights.{SmallWeights}
 use Rattle.search.specs.declared.node.Node.{Node}
 use Rattle.search.specs.declared.node.Parts.{Parts}
@@ -167,12 +167,6 @@ childList t = t .l ∷ t .r ∷ t .b ∷ t .a ∷ []
 
 abbrev pub childAt : List HeldRecord → ℕ → HeldRecord
 childAt ks i = getD ks i noRecord
-
--- placements of one number of macros
-pub record ChildrenCounted (ks : List HeldRecord) : Type 0 where
-  pub n : ℕ
-  pub few : n ≤ 8
-  pub at : (i : ℕ) → i < 4 → Counted n (childAt ks i)
 
 -- r is the place of a child that holds a placement, or r is 4 and none does
 pub record NextChild (ks : List HeldRecord) (r : ℕ) : Type 0 where

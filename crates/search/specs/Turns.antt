@@ -29,7 +29,7 @@ use Rattle.halves.specs.Exchange.{Alike}
 use Rattle.halves.specs.Result.{placed, NotAfter, Real}
 use Rattle.kept.specs.Differences.{KeptBy, Adds, Holds, limited, contrary}
 use Rattle.half_tables.specs.Tables.{withBound}
-use Rattle.search.specs.Best.{bestOf, Counted}
+use Rattle.best.specs.Best.{bestOf, Counted}
 use Rattle.search.specs.Search.{noRecord, lengthOf, byteOf, lettersIn, letterAt, wayAt, KeepsBoth, AddsOn, NodeOk, childList, childAt}
 use Rattle.search.specs.declared.node.Node.{Node}
 use Rattle.search.specs.declared.left.Left.{Left}

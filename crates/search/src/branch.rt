@@ -1,6 +1,6 @@
 // The search: each call decides one further pair.
-use crate::best::replaced;
-use crate::best::replaces_best;
+use best::replaced;
+use best::replaces_best;
 use crate::child::child;
 use crate::child::letter_slot;
 use crate::choose::choose;
@@ -24,7 +24,7 @@ ghost use mathlib.Core.Path.{_≡_};
 ghost use Prim.Native.Nat.{_+_, _<_};
 ghost use Rattle.chip.specs.Passed.{Passed};
 ghost use Rattle.chip_array.specs.Array.{chipIn};
-ghost use Rattle.search.specs.Best.{Counted};
+ghost use Rattle.best.specs.Best.{Counted};
 ghost use Rattle.search.specs.Search.{lengthOf, PartsOf, Arrayed, NodeOk, Searched};
 ghost use Rattle.search.specs.Turns.{Open, Placed, Untried, LeftOk, NextX, NextY, NextOf, Visited};
 

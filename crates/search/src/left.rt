@@ -1,12 +1,12 @@
 // What is left of a branch once some letters of a pair are closed.
-use crate::best::replaces_best;
+use best::replaces_best;
 use crate::node::no_record;
 use bounds::Slot;
 use model::Record;
 ghost use mathlib.Core.Path.{_≡_};
 ghost use Prim.Native.Nat.{_<_};
 ghost use lib.ListN.{set};
-ghost use Rattle.search.specs.Search.{childList, childAt, ChildrenCounted, NextChild};
+ghost use Rattle.search.specs.Search.{childList, childAt, NextChild};
 ghost use Rattle.search.specs.Turns.{Over, ExcludedBy, OppositeKept, SameKept, NextOrOver};
 
 // The fits of the four letters, in the order L, R, B, A; none where there is no fit, or nothing of it is left. The differences kept.
@@ -60,7 +60,6 @@ pub(crate) fn put_child(left: Left, i: usize, f: Record) -> Left
 
 // The child whose fit is the best, or 4 where none is left.
 fn first_child(left: Left) -> usize
-    requires { ⌜ ChildrenCounted (childList left) ⌝ }
     ensures { λ r. ⌜ NextChild (childList left) r ⌝ }
 {
     let mut best = no_record();
@@ -93,7 +92,6 @@ fn is_over(left: Left) -> bool
 
 // The child to visit next, or 4 where nothing is left.
 pub(crate) fn next_child(left: Left) -> usize
-    requires { ⌜ ChildrenCounted (childList left) ⌝ }
     ensures { λ r. ⌜ NextOrOver left r ⌝ }
 {
     if is_over(left) {

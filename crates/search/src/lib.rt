@@ -1,5 +1,4 @@
 // The search for the earliest least legal placement of a chip: branches over the letters of pairs, each closed by its fit.
-mod best;
 mod branch;
 mod child;
 mod choose;

@@ -6,11 +6,11 @@ use Rattle.model.specs.declared.Chip.{Chip as HeldChip}
 use Rattle.chip_array.specs.Array.{chipIn}
 use Rattle.search.specs.Turns.{Open, Placed, LeftOk, Grown}
 use Rattle.search.proofs.Holding.{heldIn}
-use Rattle.search.proofs.Closings.{both-alike, fit-closes, fit-near, legal-found, chosen-open}
+use Rattle.search.proofs.Closings.{fit-closes, fit-near, legal-found, chosen-open}
 use Rattle.search.proofs.Slotting.{chosen-placed}
 use Rattle.search.proofs.Parts.{parts-laid, parts-chosen, parts-place, parts-ask}
 use Rattle.search.proofs.Nodes.{place-small, next-ok}
-use Rattle.search.proofs.Turning.{grown-start, left-counted, visits-end, visit-left, visit-grown, visit-falls, visit-fewer}
+use Rattle.search.proofs.Turning.{grown-start, visits-end, visit-left, visit-grown, visit-falls, visit-fewer}
 use borrow.Author.Needs.{needs}
 use Prim.Native.Nat.{ℕ, _<_}
 use borrow.Fn.Kinds.{In}
@@ -18,8 +18,8 @@ use borrow.Fn.PlainCycle.{Measures, is, falls, and}
 use Rattle.search.proofs.branch.search.Reads as search′
 use Rattle.search.proofs.branch.search.Kinds as search-kinds
 use Rattle.search.proofs.branch.+search.Lts-search as search-lts
-use Rattle.search.proofs.best.replaced.Reads as replaced-reads
-use Rattle.search.proofs.best.replaces_best.Reads as replaces-best-reads
+use Rattle.best.proofs.replaced.Reads as replaced-reads
+use Rattle.best.proofs.replaces_best.Reads as replaces-best-reads
 use Rattle.search.proofs.branch.next_node.Reads as next-node-reads
 use Rattle.search.proofs.branch.try_letters.Reads as try-letters-reads
 use Rattle.search.proofs.branch.visited.Reads as visited-reads
@@ -86,7 +86,7 @@ placed-pair t e =
     chosen-placed _ (given .0) _ _ _ (parts-place _ _ (given .1) _ _ _ (e .before .before .before .choose .ensures .1)) (free-pair t e .place)
 
 search-replaces-best-requires : (t : ℕ) → search-lts.Need-replaces-best-requires (known t) (search-at t) search′.Post search-Inv-loop search-μ-loop
-search-replaces-best-requires t c κs = search both-alike
+search-replaces-best-requires t c κs = search needs
 
 search-returns : (t : ℕ) → search-lts.Need-returns (known t) (search-at t) search′.Post search-Inv-loop search-μ-loop
 search-returns t c = search fit-closes
@@ -97,7 +97,7 @@ search-choose-requires t c κs =
     (parts-laid _ _ (given .1) _ _ (given .0 .fine) (given .3 .letters .count) (fit-near _ _ _ _ _ (given .3 .fit) (given .4) (given .0) _ (c .before .replaces-best .ensures .1) (c .if1 .left)), given .1 .weights)
 
 search-replaced-requires : (t : ℕ) → search-lts.Need-replaced-requires (known t) (search-at t) search′.Post search-Inv-loop search-μ-loop
-search-replaced-requires t c κs = search both-alike
+search-replaced-requires t c κs = search needs
 
 search-returns-2 : (t : ℕ) → search-lts.Need-returns-2 (known t) (search-at t) search′.Post search-Inv-loop search-μ-loop
 search-returns-2 t c =
@@ -113,7 +113,7 @@ search-loop-holds t c =
     (c .try-letters .ensures, grown-start _ (c .before .before .before .before .before .before .before .before .args .p) (c .before .before .before .before .before .before .before .before .args .node) 0 (c .before .before .before .before .before .before .before .before .pre .1 .0) _ (c .before .before .before .before .before .before .before .before .pre .1 .4))
 
 search-next-child-requires : (t : ℕ) → search-lts.Need-next-child-requires (known t) (search-at t) search′.Post search-Inv-loop search-μ-loop
-search-next-child-requires t c κs = search left-counted
+search-next-child-requires t c κs = search needs
 
 search-returns-3 : (t : ℕ) → search-lts.Need-returns-3 (known t) (search-at t) search′.Post search-Inv-loop search-μ-loop
 search-returns-3 t c =

@@ -1,6 +1,6 @@
 use Prim.Native.Nat.{_≤_, _-_}
 use Rattle.search.specs.Search.{childList}
-use Rattle.search.proofs.FourChildren.{Sought, sought-start, sought-all, sought-alike, sought-taken, sought-left}
+use Rattle.search.proofs.FourChildren.{Sought, sought-start, sought-all, sought-taken, sought-left}
 use borrow.Author.Needs.{needs}
 use Rattle.search.proofs.left.first_child.Statement.{statement}
 use Rattle.search.proofs.left.first_child.Tie as tie
@@ -21,7 +21,7 @@ child-at-requires : tie.Need-child-at-requires Inv-loop μ-loop
 child-at-requires c κs = search needs
 
 replaces-best-requires : tie.Need-replaces-best-requires Inv-loop μ-loop
-replaces-best-requires c κs = search sought-alike
+replaces-best-requires c κs = search needs
 
 add-i : tie.Need-add-i Inv-loop μ-loop
 add-i c = search needs

@@ -1,7 +1,7 @@
-use Rattle.search.proofs.Chosen.{keeps-best, takes-first, told-none, told-least, few-corners, by-length, by-order}
+use Rattle.best.proofs.Chosen.{keeps-best, takes-first, told-none, told-least, by-length, by-order}
 use borrow.Author.Needs.{needs}
-use Rattle.search.proofs.best.replaces_best.Statement.{statement}
-use Rattle.search.proofs.best.replaces_best.Tie as tie
+use Rattle.best.proofs.replaces_best.Statement.{statement}
+use Rattle.best.proofs.replaces_best.Tie as tie
 
 enum-known-theirs : tie.Need-enum-known-theirs
 enum-known-theirs c = search needs
@@ -25,7 +25,7 @@ returns-3 : tie.Need-returns-3
 returns-3 c = (search (needs, by-length), search told-least)
 
 comes-before-requires : tie.Need-comes-before-requires
-comes-before-requires c κs = search few-corners
+comes-before-requires c κs = search needs
 
 returns-4 : tie.Need-returns-4
 returns-4 c = (search by-order, search told-least)

@@ -3,19 +3,23 @@ use model::Outcome;
 use model::Record;
 use model::Spot;
 ghost use mathlib.Core.Path.{_≡_};
-ghost use Prim.Native.Nat.{_≤_};
-ghost use lib.ListN.{take};
+ghost use Rattle.model.specs.Meaning.{firstOf, blankSpot};
 ghost use Rattle.placement.specs.Order.{before};
 ghost use Rattle.branches.specs.Branch.{pick, better};
-ghost use Rattle.search.specs.Best.{bestOf, Told, Alike, Better};
+ghost use Rattle.best.specs.Best.{bestOf, Told, Better};
 
-// Whether a comes before b, of the first n corners.
-fn comes_before(n: usize, a: [Spot; 8], b: [Spot; 8]) -> bool
-    requires { ⌜ n ≤ 8 ⌝ }
-    ensures { λ r. ⌜ r ≡ before (take n a) (take n b) ⌝ }
+// Whether the first n corners of a come before the first m of b.
+fn comes_before(n: usize, a: [Spot; 8], m: usize, b: [Spot; 8]) -> bool
+    ensures { λ r. ⌜ r ≡ before (firstOf blankSpot n a) (firstOf blankSpot m b) ⌝ }
 {
     let mut i: usize = 0;
-    while i < n {
+    while i < 8 {
+        if n <= i {
+            return false;
+        }
+        if m <= i {
+            return false;
+        }
         let p = a[i];
         let q = b[i];
         i += 1;
@@ -30,8 +34,7 @@ fn comes_before(n: usize, a: [Spot; 8], b: [Spot; 8]) -> bool
 }
 
 // Whether the other replaces the best.
-pub(crate) fn replaces_best(best: Record, other: Record) -> bool
-    requires { ⌜ Alike best other ⌝ }
+pub fn replaces_best(best: Record, other: Record) -> bool
     ensures { λ r. ⌜ pick r (bestOf other) (bestOf best) ≡ better (bestOf best) (bestOf other) ⌝ }
     ensures { λ r. ⌜ Told r other ⌝ }
 {
@@ -40,7 +43,7 @@ pub(crate) fn replaces_best(best: Record, other: Record) -> bool
         return false;
     };
     let ours = best.outcome;
-    let Outcome::Least(m, _) = ours else {
+    let Outcome::Least(m, k) = ours else {
         return true;
     };
     if l != m {
@@ -48,12 +51,11 @@ pub(crate) fn replaces_best(best: Record, other: Record) -> bool
     }
     let a = other.spots;
     let b = best.spots;
-    comes_before(n, a, b)
+    comes_before(n, a, k, b)
 }
 
 // The better of the two records.
 fn better_record(best: Record, other: Record) -> Record
-    requires { ⌜ Alike best other ⌝ }
     ensures { λ r. ⌜ Better best other r ⌝ }
 {
     if replaces_best(best, other) {
@@ -63,16 +65,14 @@ fn better_record(best: Record, other: Record) -> Record
 }
 
 // The best record is replaced by the other where that is better.
-pub(crate) fn keep_better(best: &mut Record, other: Record)
-    requires { ⌜ Alike (now best) other ⌝ }
+pub fn keep_better(best: &mut Record, other: Record)
     ensures { λ _. ⌜ Better (now (best .entry)) other (now (best .exit)) ⌝ }
 {
     *best = better_record(*best, other);
 }
 
 // The best record after one more.
-pub(crate) fn replaced(best: Record, other: Record) -> Record
-    requires { ⌜ Alike best other ⌝ }
+pub fn replaced(best: Record, other: Record) -> Record
     ensures { λ r. ⌜ Better best other r ⌝ }
 {
     let mut kept = best;

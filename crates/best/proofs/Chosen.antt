@@ -2,18 +2,16 @@
 use mathlib.Core.Path.{_≡_, refl, sym, subst, _∙_}
 use mathlib.Core.Bool.{Bool, true, false, or-false, false≢true}
 use mathlib.Core.Logic.{inl, inr}
-use Prim.Native.Nat.{ℕ, _≤_}
+use Prim.Native.Nat.{ℕ}
 use native.Mathlib.Omega.{arith}
 use lib.Dec.{ltb}
-use lib.ListN.{length, take}
 use borrow.Author.Tests.{le-ltb, eq-eqb, ne-eqb}
 use Rattle.model.specs.declared.Record.{Record as HeldRecord}
 use Rattle.model.specs.declared.Outcome.the-variants as outcome
-use Rattle.model.specs.Meaning.{recordOf, blankSpot}
-use Rattle.model.proofs.FirstOf.{first-take}
+use Rattle.model.specs.Meaning.{firstOf, recordOf, blankSpot}
 use Rattle.placement.specs.Order.{before}
 use Rattle.branches.specs.Branch.{pick, better}
-use Rattle.search.specs.Best.{bestOf, CountIs, Told, Alike, Better}
+use Rattle.best.specs.Best.{bestOf, Told, Better}
 
 module _ (best other : HeldRecord) where
   abbrev Chosen : Bool → Type 0
@@ -39,26 +37,14 @@ module _ (best other : HeldRecord) where
     unfolding bestOf recordOf
     takes-first f = rw (e, f)
 
-    module _ (alike : Alike best other) where
-      count-is : n ≡ alike .n
-      count-is = subst (CountIs (alike .n)) e (alike .second .count)
+    module _ (m k : ℕ) (f : best .outcome ≡ outcome.Least m k) where
+      pub by-length : (l ≡ m → ⊥) → Chosen (ltb l m)
+      unfolding bestOf recordOf
+      by-length d = rw (e, f, ne-eqb l m d, or-false (ltb l m))
 
-      pub few-corners : n ≤ 8
-      few-corners = let h = alike .second .few in let q = count-is in omega arith
-
-      module _ (m k : ℕ) (f : best .outcome ≡ outcome.Least m k) where
-        same-count : k ≡ n
-        same-count = subst (CountIs (alike .n)) f (alike .first .count) ∙ sym count-is
-
-        pub by-length : (l ≡ m → ⊥) → Chosen (ltb l m)
-        unfolding bestOf recordOf
-        by-length d = rw (e, f, ne-eqb l m d, or-false (ltb l m))
-
-        pub by-order : (t : Bool) → t ≡ before (take n (other .spots)) (take n (best .spots)) → length (other .spots) ≡ 8 → length (best .spots) ≡ 8 → l ≡ m → Chosen t
-        unfolding bestOf recordOf
-        by-order t o p q d =
-            let few = few-corners in
-            rw (e, f, same-count, first-take blankSpot n (other .spots) (omega arith), first-take blankSpot n (best .spots) (omega arith), le-ltb l m (omega arith), eq-eqb l m d, ← o)
+      pub by-order : (t : Bool) → t ≡ before (firstOf blankSpot n (other .spots)) (firstOf blankSpot k (best .spots)) → l ≡ m → Chosen t
+      unfolding bestOf recordOf
+      by-order t o d = rw (e, f, le-ltb l m (omega arith), eq-eqb l m d, ← o)
 
   module _ (t : Bool) (chosen : Chosen t) where
     pub other-better : t ≡ true → Better best other other

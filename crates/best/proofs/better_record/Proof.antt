@@ -1,7 +1,7 @@
-use Rattle.search.proofs.Chosen.{other-better, best-better}
+use Rattle.best.proofs.Chosen.{other-better, best-better}
 use borrow.Author.Needs.{needs}
-use Rattle.search.proofs.best.better_record.Statement.{statement}
-use Rattle.search.proofs.best.better_record.Tie as tie
+use Rattle.best.proofs.better_record.Statement.{statement}
+use Rattle.best.proofs.better_record.Tie as tie
 
 replaces-best-requires : tie.Need-replaces-best-requires
 replaces-best-requires c κs = search needs

@@ -33,12 +33,6 @@ pub record Counted (n : ℕ) (r : HeldRecord) : Type 0 where
 pub record Told (r : Bool) (other : HeldRecord) : Type 0 where
   pub placed : r ≡ true → other .outcome ≡ outcome.None → ⊥
 
--- two records of one number of macros
-pub record Alike (a b : HeldRecord) : Type 0 where
-  pub n : ℕ
-  pub first : Counted n a
-  pub second : Counted n b
-
 -- r is the better of the two: one of them, and so of the same number of macros
 pub record Better (best other r : HeldRecord) : Type 0 where
   pub is : bestOf r ≡ better (bestOf best) (bestOf other)
