@@ -22,7 +22,7 @@ const PINS: usize = NETS + 2 * Net::COUNT;
 const FIXES: usize = PINS + 3 * Pin::COUNT;
 
 // The numbers of each macro, at its place.
-fn put_macs(macs: [Mac; 8], cs: &mut [u64; 640])
+fn put_macs(macs: [Mac; Mac::COUNT], cs: &mut [u64; 640])
     ensures { λ _. ⌜ now (cs .exit) ≡ sets (now (cs .entry)) macsAt (flatMap macNumbers macs) ⌝ }
 {
     let mut i: usize = 0;
@@ -36,7 +36,7 @@ fn put_macs(macs: [Mac; 8], cs: &mut [u64; 640])
 }
 
 // The numbers of each net, at its place.
-fn put_nets(nets: [Net; 32], cs: &mut [u64; 640])
+fn put_nets(nets: [Net; Net::COUNT], cs: &mut [u64; 640])
     ensures { λ _. ⌜ now (cs .exit) ≡ sets (now (cs .entry)) netsAt (flatMap netNumbers nets) ⌝ }
 {
     let mut i: usize = 0;
@@ -50,7 +50,7 @@ fn put_nets(nets: [Net; 32], cs: &mut [u64; 640])
 }
 
 // The numbers of each pin, at its place.
-fn put_pins(pins: [Pin; 128], cs: &mut [u64; 640])
+fn put_pins(pins: [Pin; Pin::COUNT], cs: &mut [u64; 640])
     ensures { λ _. ⌜ now (cs .exit) ≡ sets (now (cs .entry)) pinsAt (flatMap pinNumbers pins) ⌝ }
 {
     let mut i: usize = 0;
@@ -65,7 +65,7 @@ fn put_pins(pins: [Pin; 128], cs: &mut [u64; 640])
 }
 
 // The numbers of each fix, at its place.
-fn put_fixes(fixes: [Fix; 8], cs: &mut [u64; 640])
+fn put_fixes(fixes: [Fix; Fix::COUNT], cs: &mut [u64; 640])
     ensures { λ _. ⌜ now (cs .exit) ≡ sets (now (cs .entry)) fixesAt (flatMap fixNumbers fixes) ⌝ }
 {
     let mut i: usize = 0;
@@ -109,10 +109,10 @@ pub fn macro_count(cs: &[u64; 640]) -> usize
 }
 
 // The chip's macros.
-fn macs_in(cs: &[u64; 640]) -> [Mac; 8]
+fn macs_in(cs: &[u64; 640]) -> [Mac; Mac::COUNT]
     ensures { λ r. ⌜ r ≡ macsIn (now (cs .entry)) ⌝ }
 {
-    let mut macs = [Mac { w: 0, h: 0 }; 8];
+    let mut macs = [Mac { w: 0, h: 0 }; Mac::COUNT];
     let mut i: usize = 0;
     while i < Mac::COUNT {
         let p = MACS + 2 * i;
@@ -126,10 +126,10 @@ fn macs_in(cs: &[u64; 640]) -> [Mac; 8]
 }
 
 // The chip's nets.
-fn nets_in(cs: &[u64; 640]) -> [Net; 32]
+fn nets_in(cs: &[u64; 640]) -> [Net; Net::COUNT]
     ensures { λ r. ⌜ r ≡ netsIn (now (cs .entry)) ⌝ }
 {
-    let mut nets = [Net { weight: 0, pins: 0 }; 32];
+    let mut nets = [Net { weight: 0, pins: 0 }; Net::COUNT];
     let mut i: usize = 0;
     while i < Net::COUNT {
         let p = NETS + 2 * i;
@@ -143,14 +143,14 @@ fn nets_in(cs: &[u64; 640]) -> [Net; 32]
 }
 
 // The chip's pins.
-fn pins_in(cs: &[u64; 640]) -> [Pin; 128]
+fn pins_in(cs: &[u64; 640]) -> [Pin; Pin::COUNT]
     ensures { λ r. ⌜ r ≡ pinsIn (now (cs .entry)) ⌝ }
 {
     let mut pins = [Pin {
         m: 0,
         xup: 0,
         yup: 0,
-    }; 128];
+    }; Pin::COUNT];
     let mut i: usize = 0;
     while i < Pin::COUNT {
         let p = PINS + 3 * i;
@@ -165,7 +165,7 @@ fn pins_in(cs: &[u64; 640]) -> [Pin; 128]
 }
 
 // The chip's fixes.
-fn fixes_in(cs: &[u64; 640]) -> [Fix; 8]
+fn fixes_in(cs: &[u64; 640]) -> [Fix; Fix::COUNT]
     ensures { λ r. ⌜ r ≡ fixesIn (now (cs .entry)) ⌝ }
 {
     let mut fixes = [Fix {
@@ -173,7 +173,7 @@ fn fixes_in(cs: &[u64; 640]) -> [Fix; 8]
         y: 0,
         w: 0,
         h: 0,
-    }; 8];
+    }; Fix::COUNT];
     let mut i: usize = 0;
     while i < Fix::COUNT {
         let p = FIXES + 4 * i;

@@ -98,7 +98,7 @@ module _ (c : HeldChip) (letters : List ℕ) (p : ℕ) (here best : HeldRecord) 
       pub chosen-less : (s ≡ p → ⊥) → s < p
       chosen-less n = let a = chosen .place in omega arith
 
-      module _ (l : length letters ≡ 92) (e : Lettered c letters p) where
+      module _ (l : length letters ≡ 120) (e : Lettered c letters p) where
         as-many : p ≡ length ls
         as-many = let f = e .few in sym (letters-long letters p (omega arith))
 

@@ -42,10 +42,10 @@ back-best : (slots : ℕ) (b : Best) → back (bestFit slots b) ≡ b
 back-best slots nothing = refl
 back-best slots (found wl ps) = refl
 
-pub prefix-long : (c : HeldChip) (letters : List ℕ) (p : ℕ) → Lettered c letters p → length letters ≡ 92 → p ≡ length (take p letters)
+pub prefix-long : (c : HeldChip) (letters : List ℕ) (p : ℕ) → Lettered c letters p → length letters ≡ 120 → p ≡ length (take p letters)
 prefix-long c letters p e l = let f = e .few in sym (length-take-le p letters (omega arith))
 
-module _ (c : HeldChip) (letters : List ℕ) (p : ℕ) (ok : Passed c) (e : Lettered c letters p) (l : length letters ≡ 92) where
+module _ (c : HeldChip) (letters : List ℕ) (p : ℕ) (ok : Passed c) (e : Lettered c letters p) (l : length letters ≡ 120) where
   abbrev C : Chip
   C = chipOf c
 

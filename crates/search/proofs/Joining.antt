@@ -105,7 +105,7 @@ module _ (c : HeldChip) (letters : List ℕ) (p : ℕ) where
       closed = λ z. closes (subst (λ (o : HalfOutcome). HalfSaid C ls d (roomOf (best .outcome) other) o (f .at)) e h);
     })
 
-    module _ (e : Lettered c letters p) (many : length letters ≡ 92) (f : HalfFit) (h : HalfSaid C ls d (roomOf (best .outcome) other) (f .outcome) (f .at)) (l : ℕ) (q : f .outcome ≡ answer.Fit l) where
+    module _ (e : Lettered c letters p) (many : length letters ≡ 120) (f : HalfFit) (h : HalfSaid C ls d (roomOf (best .outcome) other) (f .outcome) (f .at)) (l : ℕ) (q : f .outcome ≡ answer.Fit l) where
       fitted : HalfOn (axisFor d C ls) l (take n (f .at))
       fitted = subst (λ (o : HalfOutcome). HalfSaid C ls d (roomOf (best .outcome) other) o (f .at)) q h
 

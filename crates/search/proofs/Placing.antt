@@ -53,11 +53,11 @@ module _ (c : HeldChip) (p : ℕ) (ok : Passed c) (e : p ≡ letterTotal (c .n) 
   count : p ≡ letterCount (chipOf c)
   count = chip-letters c ok p e
 
-  few : p ≤ 92
+  few : p ≤ 120
   few = chip-few c ok p e
 
-  pub dots-lettered : Lettered c (replicate 92 46) p
-  dots-lettered = record { count = count; few = few; bytes = dots-are 92 p }
+  pub dots-lettered : Lettered c (replicate 120 46) p
+  dots-lettered = record { count = count; few = few; bytes = dots-are 120 p }
 
   pub many : (ps : List Spot) → length ps ≡ length (chipOf c .macs) → length (pairs (chipOf c) ps) ≡ p
   many ps l = ap (λ (t : List _). length t) (pairs-couples (chipOf c) ps l) ∙ (length-map (couples (chipOf c)) (pairOf ps) ∙ (letters-count (chipOf c) ∙ sym count))
@@ -78,7 +78,7 @@ module _ (c : HeldChip) (p : ℕ) (ok : Passed c) (e : p ≡ letterTotal (c .n) 
       start = subst (Real C) (sym (ap bestOf q ∙ no-best)) tt
 
       dots : lettersIn (node .letters) p ≡ replicate p dot
-      dots = ap (λ (t : List ℕ). lettersIn t p) (root .letters) ∙ dots-in 92 p few
+      dots = ap (λ (t : List ℕ). lettersIn t p) (root .letters) ∙ dots-in 120 p few
 
       all : bestOf r ≡ earliestLeast C
       all = real-answer C (bestOf r) (w .real start) (λ l ps e.

@@ -62,7 +62,7 @@ module _ (c : HeldChip) (p : ℕ) (ok : Passed c) (e : p ≡ letterTotal (c .n) 
   C = chipOf c
 
   abbrev dots : List ℕ
-  dots = replicate 92 46
+  dots = replicate 120 46
 
   abbrev ls : List Letter
   ls = lettersIn dots p
@@ -71,7 +71,7 @@ module _ (c : HeldChip) (p : ℕ) (ok : Passed c) (e : p ≡ letterTotal (c .n) 
   lettered = dots-lettered c p ok e
 
   are-dots : ls ≡ replicate p dot
-  are-dots = dots-in 92 p (lettered .few)
+  are-dots = dots-in 120 p (lettered .few)
 
   -- ---- one direction
 

@@ -55,7 +55,7 @@ lettersIn letters p = lettersOf (take p letters)
 -- one letter or dot for each of the p pairs
 pub record Lettered (c : HeldChip) (letters : List ℕ) (p : ℕ) : Type 0 where
   pub count : p ≡ letterCount (chipOf c)
-  pub few : p ≤ 92
+  pub few : p ≤ 120
   pub bytes : areLetters (take p letters) ≡ true
 
 -- ---- records
@@ -154,7 +154,7 @@ pub record Halved (c : HeldChip) (letters : List ℕ) (p : ℕ) (here : HeldReco
 -- a branch of the search: its letters, their bounds, their fit and the lengths of its halves
 pub record NodeOk (c : HeldChip) (p : ℕ) (node : Node) : Type 0 where
   pub letters : Lettered c (node .letters) p
-  pub whole : length (node .letters) ≡ 92
+  pub whole : length (node .letters) ≡ 120
   pub across : Arced horizontal (chipOf c) (lettersIn (node .letters) p) (node .ax)
   pub up : Arced vertical (chipOf c) (lettersIn (node .letters) p) (node .ay)
   pub fit : FitHeld c (node .letters) p (node .here)

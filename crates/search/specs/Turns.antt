@@ -162,5 +162,5 @@ pub record OrderKept (c : Chip) (e r : List ℕ) : Type 0 where
 -- a dot for each pair; every legal placement in which equal macros are ordered keeps the differences
 pub record RootOk (c : HeldChip) (p : ℕ) (r : Node) : Type 0 where
   pub node : NodeOk c p r
-  pub letters : r .letters ≡ replicate 92 46
+  pub letters : r .letters ≡ replicate 120 46
   pub keeps : (ps : List Spot) → legal (chipOf c) ps ≡ true → Ordered (chipOf c) ps → KeepsBoth (r .kx) (r .ky) ps

@@ -159,7 +159,7 @@ fn length_of(r: Record) -> u64
 
 // Child i as a node, of a letter in x: its fit is f, its slot t.
 fn next_x(node: Node, left: Left, f: Record, s: usize, i: usize, t: Slot) -> Node
-    requires { ⌜ (s < 92) × (i < 4) ⌝ }
+    requires { ⌜ (s < 120) × (i < 4) ⌝ }
     ensures { λ r. ⌜ NextX node left f s i t r ⌝ }
 {
     let letters = node.letters;
@@ -180,7 +180,7 @@ fn next_x(node: Node, left: Left, f: Record, s: usize, i: usize, t: Slot) -> Nod
 }
 
 fn next_y(node: Node, left: Left, f: Record, s: usize, i: usize, t: Slot) -> Node
-    requires { ⌜ (s < 92) × (i < 4) ⌝ }
+    requires { ⌜ (s < 120) × (i < 4) ⌝ }
     ensures { λ r. ⌜ NextY node left f s i t r ⌝ }
 {
     let letters = node.letters;
@@ -202,7 +202,7 @@ fn next_y(node: Node, left: Left, f: Record, s: usize, i: usize, t: Slot) -> Nod
 
 // Child i as a node; its slot is t.
 fn next_node(node: Node, left: Left, s: usize, i: usize, t: Slot) -> Node
-    requires { ⌜ (s < 92) × (i < 4) ⌝ }
+    requires { ⌜ (s < 120) × (i < 4) ⌝ }
     ensures { λ r. ⌜ NextOf node left s i t r ⌝ }
 {
     let f = child_at(left, i);

@@ -1,4 +1,5 @@
 // The fit of a branch with one letter more, from the half fit of the letter's direction.
+use crate::node::LETTERS;
 use crate::node::Node;
 use crate::node::Parts;
 use crate::node::decided;
@@ -64,7 +65,7 @@ pub(crate) fn letter_slot(parts: Parts, at: Cursor, i: usize) -> Slot
 }
 
 // The fit of letters as a record; none where there is no fit.
-pub(crate) fn fit_record(c: Chip, letters: [u8; 92], p: usize) -> Record
+pub(crate) fn fit_record(c: Chip, letters: [u8; LETTERS], p: usize) -> Record
     requires { ⌜ Passed c × Lettered c letters p ⌝ }
     ensures { λ r. ⌜ FitHeld c letters p r ⌝ }
 {
@@ -83,7 +84,7 @@ pub(crate) fn fit_record(c: Chip, letters: [u8; 92], p: usize) -> Record
 }
 
 // The same of a chip that is lent as an array.
-fn fit_again(cs: &[u64; 640], letters: [u8; 92], p: usize) -> Record
+fn fit_again(cs: &[u64; 640], letters: [u8; LETTERS], p: usize) -> Record
     requires { ⌜ Passed (chipIn (now cs)) × Lettered (chipIn (now cs)) letters p ⌝ }
     ensures { λ r. ⌜ FitHeld (chipIn (now (cs .entry))) letters p r ⌝ }
 {
@@ -118,7 +119,7 @@ fn spots_with(d: Direction, at: [u64; 8], spots: [Spot; 8]) -> [Spot; 8]
 fn joined(
     cs: &[u64; 640],
     p: usize,
-    letters: [u8; 92],
+    letters: [u8; LETTERS],
     here: Record,
     best: Record,
     d: Direction,

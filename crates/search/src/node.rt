@@ -9,6 +9,9 @@ ghost use Prim.Native.Nat.{_-_, _<_};
 ghost use lib.ListN.{set};
 ghost use Rattle.search.specs.Search.{byteOf, noRecord, roomOf};
 
+// Room for the letters of a chip: at most 92 today, and 120 with 12 more fixes.
+pub(crate) const LETTERS: usize = 120;
+
 // What the search reads of a chip: its macros, its fixes, and the weight of each macro's nets.
 pub(crate) struct Parts {
     pub n: usize,
@@ -20,7 +23,7 @@ pub(crate) struct Parts {
 
 // The letters; in each direction the greatest bounds between nodes, the differences kept and the length of the half fit; the fit.
 pub(crate) struct Node {
-    pub letters: [u8; 92],
+    pub letters: [u8; LETTERS],
     pub ax: [u32; 128],
     pub ay: [u32; 128],
     pub kx: [u32; 128],
@@ -58,8 +61,8 @@ fn letter(i: usize) -> u8
 }
 
 // The letters with letter i for pair s.
-pub(crate) fn decided(letters: [u8; 92], s: usize, i: usize) -> [u8; 92]
-    requires { ⌜ (s < 92) × (i < 4) ⌝ }
+pub(crate) fn decided(letters: [u8; LETTERS], s: usize, i: usize) -> [u8; LETTERS]
+    requires { ⌜ (s < 120) × (i < 4) ⌝ }
     ensures { λ r. ⌜ r ≡ set letters s (byteOf i) ⌝ }
 {
     let mut ls = letters;

@@ -1,5 +1,6 @@
 // The root of the search: a dot for each pair.
 use crate::child::fit_record;
+use crate::node::LETTERS;
 use crate::node::Node;
 use bounds::Slot;
 use half_tables::Arrays;
@@ -79,7 +80,7 @@ pub(crate) fn root(c: Chip, p: usize, x: Arrays, y: Arrays) -> Node
     requires { ⌜ Passed c × (p ≡ letterTotal (c .n) (c .k)) × Hold c Direction.Horizontal (x .tab) (x .arcs) × Hold c Direction.Vertical (y .tab) (y .arcs) ⌝ }
     ensures { λ r. ⌜ RootOk c p r ⌝ }
 {
-    let letters = [46u8; 92];
+    let letters = [46u8; LETTERS];
     let here = fit_record(c, letters, p);
     let spots = here.spots;
     let tx = x.tab;
