@@ -78,6 +78,11 @@ pub(crate) fn put(s: &mut [u32; POOL], o: usize, p: usize, k: usize, v: u32) {
     s[o % 4 * STATE + p % 20 * 32 + k % 128] = v;
 }
 
+// The residual bound from u to v.
+pub(crate) fn residual(s: &[u32; POOL], o: usize, u: usize, v: usize) -> u32 {
+    s[o % 4 * STATE + u % 16 * 9 + v % 16]
+}
+
 // One number for each node.
 pub(crate) fn at(d: &[u32; 16], k: usize) -> u32 {
     d[k % 16]

@@ -1,12 +1,10 @@
 // Cheapest ways over nine nodes by Dijkstra's method, with the slacks of the residual bounds as lengths.
 use crate::state::BIAS;
 use crate::state::FAR;
-use crate::state::K;
 use crate::state::POOL;
 use crate::state::at;
-use crate::state::cell;
-use crate::state::get;
 use crate::state::narrow;
+use crate::state::residual;
 use crate::state::set;
 use crate::state::set_tie;
 use crate::state::set_value;
@@ -37,17 +35,24 @@ fn nearest(m: usize, d: &[u32; 16], gone: &[u32; 16], stop: u32) -> usize {
     b
 }
 
-// From node b at its distance to the others.
-fn spread(m: usize, s: &[u32; POOL], o: usize, b: usize, d: &mut [u32; 16], par: &mut [u32; 16]) {
+// a where yes, otherwise b.
+fn pick(yes: bool, a: u32, b: u32) -> u32 {
+    if yes {
+        return a;
+    }
+    b
+}
+
+// From node b at its distance to the others. Both numbers are written in either case: which of them change can't be foreseen.
+fn spread(s: &[u32; POOL], o: usize, b: usize, d: &mut [u32; 16], par: &mut [u32; 16]) {
     let off = wrapping_sub_u32(wrapping_add_u32(at(d, b), BIAS), value(s, o, b));
     let mut w: usize = 0;
-    while w < m {
+    while w < 9 {
         let y = wrapping_add_u32(off, value(s, o, w));
-        let q = wrapping_sub_u32(y, get(s, o, K, cell(b, w)));
-        if q < at(d, w) {
-            set(d, w, q);
-            set(par, w, narrow(b));
-        }
+        let q = wrapping_sub_u32(y, residual(s, o, b, w));
+        let nearer = q < at(d, w);
+        set(d, w, pick(nearer, q, at(d, w)));
+        set(par, w, pick(nearer, narrow(b), at(par, w)));
         w += 1;
     }
 }
@@ -75,7 +80,7 @@ pub(crate) fn reach(
         if b == goal {
             return true;
         }
-        spread(m, s, o, b, d, par);
+        spread(s, o, b, d, par);
         turn += 1;
     }
     false
@@ -98,34 +103,19 @@ pub(crate) fn distances(
     reach(m, s, o, goal, stop, d, par, rank)
 }
 
-// The nodes nearer than r are raised by what is left.
-fn raise(m: usize, s: &mut [u32; POOL], o: usize, d: &[u32; 16], r: u32) {
-    let mut w: usize = 0;
-    while w < m {
-        let y = at(d, w);
-        if y < r {
-            let x = value(s, o, w);
-            set_value(s, o, w, wrapping_add_u32(x, wrapping_sub_u32(r, y)));
-        }
-        w += 1;
-    }
+// How much a node at distance y is raised where the others rise by r.
+fn rise(y: u32, r: u32) -> u32 {
+    wrapping_sub_u32(r, pick(y < r, y, r))
 }
 
-// All nodes are moved so that node 0 is at 0.
-fn centre(m: usize, s: &mut [u32; POOL], o: usize) {
-    let z = value(s, o, 0);
-    let mut w: usize = 0;
-    while w < m {
-        let x = value(s, o, w);
-        set_value(s, o, w, wrapping_sub_u32(x, z));
-        w += 1;
-    }
-}
-
+// The nodes nearer than r are raised by what is left, and all are moved so that node 0 stays.
 pub(crate) fn lift(m: usize, s: &mut [u32; POOL], o: usize, d: &[u32; 16], r: u32) {
-    if 0 < r {
-        raise(m, s, o, d, r);
-        centre(m, s, o);
+    let z = rise(at(d, 0), r);
+    let mut w: usize = 0;
+    while w < m {
+        let x = wrapping_sub_u32(value(s, o, w), z);
+        set_value(s, o, w, wrapping_add_u32(x, rise(at(d, w), r)));
+        w += 1;
     }
 }
 

@@ -4,10 +4,10 @@ use Rattle.half_fit.proofs.ways.spread.Statement.{statement}
 use Rattle.half_fit.proofs.ways.spread.Tie as tie
 
 abbrev Inv-loop : tie.InvT-loop
-Inv-loop m s o b d₀ par₀ off w₀ d par w = 0 ≤ 0
+Inv-loop s o b d₀ par₀ off w₀ d par w = 0 ≤ 0
 
 abbrev μ-loop : tie.MeasureT-loop
-μ-loop m s o b d₀ par₀ off w₀ d par w = m - w
+μ-loop s o b d₀ par₀ off w₀ d par w = 9 - w
 
 at-requires : tie.Need-at-requires Inv-loop μ-loop
 at-requires c κs = search needs
@@ -30,11 +30,8 @@ value-requires-2 c κs = search needs
 wrapping-add-u32-requires-2 : tie.Need-wrapping-add-u32-requires-2 Inv-loop μ-loop
 wrapping-add-u32-requires-2 c κs = search needs
 
-cell-requires : tie.Need-cell-requires Inv-loop μ-loop
-cell-requires c κs = search needs
-
-get-requires : tie.Need-get-requires Inv-loop μ-loop
-get-requires c κs = search needs
+residual-requires : tie.Need-residual-requires Inv-loop μ-loop
+residual-requires c κs = search needs
 
 wrapping-sub-u32-requires-2 : tie.Need-wrapping-sub-u32-requires-2 Inv-loop μ-loop
 wrapping-sub-u32-requires-2 c κs = search needs
@@ -42,11 +39,23 @@ wrapping-sub-u32-requires-2 c κs = search needs
 at-requires-2 : tie.Need-at-requires-2 Inv-loop μ-loop
 at-requires-2 c κs = search needs
 
+at-requires-3 : tie.Need-at-requires-3 Inv-loop μ-loop
+at-requires-3 c κs = search needs
+
+pick-requires : tie.Need-pick-requires Inv-loop μ-loop
+pick-requires c κs = search needs
+
 set-requires : tie.Need-set-requires Inv-loop μ-loop
 set-requires c κs = search needs
 
 narrow-requires : tie.Need-narrow-requires Inv-loop μ-loop
 narrow-requires c κs = search needs
+
+at-requires-4 : tie.Need-at-requires-4 Inv-loop μ-loop
+at-requires-4 c κs = search needs
+
+pick-requires-2 : tie.Need-pick-requires-2 Inv-loop μ-loop
+pick-requires-2 c κs = search needs
 
 set-requires-2 : tie.Need-set-requires-2 Inv-loop μ-loop
 set-requires-2 c κs = search needs
@@ -76,12 +85,15 @@ spread-spec =
     loop-holds
     value-requires-2
     wrapping-add-u32-requires-2
-    cell-requires
-    get-requires
+    residual-requires
     wrapping-sub-u32-requires-2
     at-requires-2
+    at-requires-3
+    pick-requires
     set-requires
     narrow-requires
+    at-requires-4
+    pick-requires-2
     set-requires-2
     add-w
     loop-less

@@ -1,25 +1,34 @@
 use Prim.Native.Nat.{_-_, _≤_}
 use borrow.Author.Needs.{needs}
-use Rattle.half_fit.proofs.ways.raise.Statement.{statement}
-use Rattle.half_fit.proofs.ways.raise.Tie as tie
+use Rattle.half_fit.proofs.ways.lift.Statement.{statement}
+use Rattle.half_fit.proofs.ways.lift.Tie as tie
 
 abbrev Inv-loop : tie.InvT-loop
-Inv-loop m s₀ o d r w₀ s w = 0 ≤ 0
+Inv-loop m s₀ o d r z w₀ s w = 0 ≤ 0
 
 abbrev μ-loop : tie.MeasureT-loop
-μ-loop m s₀ o d r w₀ s w = m - w
-
-loop-holds : tie.Need-loop-holds Inv-loop μ-loop
-loop-holds c = search needs
+μ-loop m s₀ o d r z w₀ s w = m - w
 
 at-requires : tie.Need-at-requires Inv-loop μ-loop
 at-requires c κs = search needs
+
+rise-requires : tie.Need-rise-requires Inv-loop μ-loop
+rise-requires c κs = search needs
+
+loop-holds : tie.Need-loop-holds Inv-loop μ-loop
+loop-holds c = search needs
 
 value-requires : tie.Need-value-requires Inv-loop μ-loop
 value-requires c κs = search needs
 
 wrapping-sub-u32-requires : tie.Need-wrapping-sub-u32-requires Inv-loop μ-loop
 wrapping-sub-u32-requires c κs = search needs
+
+at-requires-2 : tie.Need-at-requires-2 Inv-loop μ-loop
+at-requires-2 c κs = search needs
+
+rise-requires-2 : tie.Need-rise-requires-2 Inv-loop μ-loop
+rise-requires-2 c κs = search needs
 
 wrapping-add-u32-requires : tie.Need-wrapping-add-u32-requires Inv-loop μ-loop
 wrapping-add-u32-requires c κs = search needs
@@ -39,16 +48,19 @@ loop-again c = search needs
 returns : tie.Need-returns Inv-loop μ-loop
 returns c = search needs
 
-pub raise-spec : {M : Type 1} → statement M
-raise-spec =
+pub lift-spec : {M : Type 1} → statement M
+lift-spec =
     tie.close
     (tie.spec
     Inv-loop
     μ-loop
-    loop-holds
     at-requires
+    rise-requires
+    loop-holds
     value-requires
     wrapping-sub-u32-requires
+    at-requires-2
+    rise-requires-2
     wrapping-add-u32-requires
     set-value-requires
     add-w
