@@ -12,3 +12,4 @@ pub mod Oversize
 pub mod Answers
 pub mod Starts
 pub mod Lattice
+pub mod Worths

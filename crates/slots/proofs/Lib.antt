@@ -10,3 +10,4 @@ pub mod Counting
 pub mod Fineness
 pub mod Whole
 pub mod Smallest
+pub mod Shown
