@@ -18,8 +18,8 @@
  *    null, even where the length is 0; `value` points to one number;
  *  - what a function may write (out, slots, positions of a fit, value) overlaps nothing else that
  *    is lent in the same call, and nobody else reads or writes it during the call;
- *  - the stack has room: 3 megabytes are enough, as measured (docs/DECISIONS.md, 54); a thread with
- *    2 megabytes is too small for a chip whose search goes 92 letters deep.
+ *  - the stack has room: 2 megabytes are enough, as measured (docs/DECISIONS.md, 54); a thread with
+ *    1 megabyte is too small for a chip whose search goes 92 letters deep.
  * The functions keep no state: calls from several threads with different lists do not disturb each
  * other.
  */

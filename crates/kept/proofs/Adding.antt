@@ -141,6 +141,11 @@ against-is e a d b j k = rw (j, k)
 pub limited-small : (s : Slot) → Limited (limited s)
 limited-small s = record { tail = omega arith; head = omega arith; plus = omega arith; minus = omega arith }
 
+pub turned-small : (s a : Slot) (p : ℕ) → a ≡ limited s → p ≤ a .minus + 1 → Limited (slot (a .head) (a .tail) p (a .plus))
+turned-small s a p e h =
+    subst (λ (t : Slot). p ≤ t .minus + 1 → Limited (slot (t .head) (t .tail) p (t .plus))) (sym e)
+    (λ g. record { tail = omega arith; head = omega arith; plus = omega arith; minus = omega arith }) h
+
 -- a slot as it is read, and its contrary
 pub of-limited : (e : List ℕ) (s a : Slot) (r : List ℕ) → a ≡ limited s → Adds e a r → Adds e (limited s) r
 of-limited e s a r i h = subst (λ (t : Slot). Adds e t r) i h

@@ -1,8 +1,7 @@
 // Differences that are kept: a lower bound for each two of nine nodes, held higher by 2^24 at place 9 u + v, and their sums.
 use bounds::Slot;
 ghost use mathlib.Core.Path.{_≡_};
-ghost use Prim.Native.Nat.{_+_, _<_};
-ghost use Rattle.bounds.specs.Listed.{slot};
+ghost use Prim.Native.Nat.{_<_};
 ghost use lib.ListN.{set};
 ghost use Rattle.kept.specs.Differences.{limited, Limited, heldBound, contrary, boundIn, raisedAt, Adds, Follows, Starts, excluded, contradicts};
 
@@ -13,7 +12,6 @@ const RAISED: u64 = 16777216;
 fn limit(s: Slot) -> Slot
     ensures { λ r. ⌜ r ≡ limited s ⌝ }
     ensures { λ r. ⌜ Limited r ⌝ }
-    ensures { λ r. ⌜ Limited (slot (r .head) (r .tail) (r .minus + 1) (r .plus)) ⌝ }
 {
     Slot {
         tail: s.tail % 9,

@@ -4,6 +4,7 @@ use Prim.Native.Nat.{ℕ, _≤_}
 use mathlib.Core.Path.{_≡_, refl, sym, ap, subst, _∙_}
 use mathlib.Core.Bool.{true}
 use mathlib.Core.List.{List}
+use native.Mathlib.Omega.{arith}
 use lib.ListN.{length, replicate, length-map}
 use Rattle.model.specs.declared.Spot.{Spot}
 use Rattle.model.specs.declared.Chip.{Chip as HeldChip}
@@ -54,7 +55,7 @@ module _ (c : HeldChip) (p : ℕ) (ok : Passed c) (e : p ≡ letterTotal (c .n) 
   count = chip-letters c ok p e
 
   few : p ≤ 120
-  few = chip-few c ok p e
+  few = let f = chip-few c ok p e in omega arith
 
   pub dots-lettered : Lettered c (replicate 120 46) p
   dots-lettered = record { count = count; few = few; bytes = dots-are 120 p }

@@ -1,4 +1,4 @@
-use Rattle.kept.proofs.Adding.{of-contrary}
+use Rattle.kept.proofs.Adding.{of-contrary, turned-small}
 use borrow.Author.Needs.{needs}
 use Rattle.kept.proofs.keep_opposite.Statement.{statement}
 use Rattle.kept.proofs.keep_opposite.Tie as tie
@@ -10,7 +10,7 @@ add-t4 : tie.Need-add-t4
 add-t4 c = search needs
 
 add-requires : tie.Need-add-requires
-add-requires c κs = search needs
+add-requires c κs = search (needs, turned-small)
 
 returns : tie.Need-returns
 returns c = search of-contrary
