@@ -15,7 +15,8 @@ use Rattle.placement.specs.Length.{wirelength}
 use Rattle.placement.specs.Order.{before}
 use Rattle.placement.specs.Least.{Best, nothing, found, firstLeast, placements, corners}
 use Rattle.placement.proofs.OrderLaws.{before-irreflexive, before-transitive}
-use Rattle.placement.proofs.Demand.{EarliestLeast, within-in-corners, placements-long, found-earliest-least, found-nothing}
+use Rattle.placement.specs.Demand.{EarliestLeast}
+use Rattle.placement.proofs.Demand.{within-in-corners, placements-long, found-earliest-least, found-nothing}
 use Rattle.branches.specs.Branch.{replaces, better}
 use Rattle.branches.proofs.Replaces.{Sooner, true-false, not-true-false, replaces-says}
 use Rattle.branches.proofs.Betters.{Sized}

@@ -12,7 +12,7 @@ use Rattle.chip.specs.Valid.{Valid}
 use Rattle.placement.specs.Legal.{legal}
 use Rattle.placement.specs.Order.{before}
 use Rattle.placement.proofs.OrderLaws.{before-irreflexive, before-transitive}
-use Rattle.placement.proofs.Demand.{EarliestLeast}
+use Rattle.placement.specs.Demand.{EarliestLeast}
 use Rattle.branches.proofs.Unions.{passes-long}
 use Rattle.branches.proofs.Closing.{legal-inside}
 use Rattle.halves.specs.Exchange.{exchanged, Alike}

@@ -20,6 +20,7 @@ use Rattle.placement.specs.Legal.{boxes, boxAt, inDie, allInDie, allApar
 use Rattle.placement.specs.Length.{wirelength}
 use Rattle.placement.specs.Order.{keys, firstSmaller, before}
 use Rattle.placement.specs.Least.{upFrom, column, grid, corners, inFront, placements, Best, nothing, found, firstLeast, earliestLeast, fitOf}
+use Rattle.placement.specs.Demand.{EarliestLeast}
 use Rattle.placement.specs.Letters.{Letter, pairs, keepsAll, keepsLetters}
 use Rattle.placement.proofs.FirstLeast.{Is, LeastAt, NonePasses, first-least}
 
@@ -207,13 +208,6 @@ within-in-corners c ps h =
 pub legal-in-corners : (c : Chip) (ps : List Spot) → legal c ps ≡ true → List·Memᴰ ps (placements (c .macs) (corners c))
 unfolding legal
 legal-in-corners c ps h = within-in-corners c ps (and-left (within c ps) (allApart c (boxes (c .macs) ps)) h)
-
--- ps passes and has length l; every placement that passes has at least that length, and each other one of that length comes after ps
-pub record EarliestLeast (c : Chip) (passes : List Spot → Bool) (l : ℕ) (ps : List Spot) : Type 0 where
-  pub passed : passes ps ≡ true
-  pub long : l ≡ wirelength c ps
-  pub least : (qs : List Spot) → passes qs ≡ true → l ≤ wirelength c qs
-  pub earliest : (qs : List Spot) → passes qs ≡ true → l ≡ wirelength c qs → (qs ≡ ps → ⊥) → before ps qs ≡ true
 
 -- for every test that only a placement of the list can pass
 module _ (c : Chip) (passes : List Spot → Bool) (listed : (qs : List Spot) → passes qs ≡ true → List·Memᴰ qs (placements (c .macs) (corners c))) where

@@ -17,7 +17,8 @@ use Rattle.placement.specs.Order.{keys, firstSmaller, before}
 use Rattle.placement.specs.Letters.{Letter, pairs, keepsAll, keepsLetters}
 use Rattle.placement.specs.Least.{Best, nothing, found, fitOf}
 use Rattle.placement.proofs.OrderLaws.{Compared, before-total, before-irreflexive}
-use Rattle.placement.proofs.Demand.{EarliestLeast, fit-found, nothing-fits}
+use Rattle.placement.specs.Demand.{EarliestLeast}
+use Rattle.placement.proofs.Demand.{fit-found, nothing-fits}
 
 -- every coordinate of ps is at most that of qs
 pub record NowhereLarger (ps qs : List Spot) : Type 0 where

@@ -12,7 +12,8 @@ use Rattle.placement.specs.Legal.{legal}
 use Rattle.placement.specs.Order.{before}
 use Rattle.placement.specs.Least.{corners}
 use Rattle.placement.proofs.OrderLaws.{Compared, before-irreflexive, before-transitive, before-total}
-use Rattle.placement.proofs.Demand.{EarliestLeast, placements-long, legal-in-corners}
+use Rattle.placement.specs.Demand.{EarliestLeast}
+use Rattle.placement.proofs.Demand.{placements-long, legal-in-corners}
 
 -- for every test that only placements of one length can pass
 module _ (c : Chip) (passes : List Spot → Bool) (n : ℕ) (long : (qs : List Spot) → passes qs ≡ true → length qs ≡ n) where

@@ -19,22 +19,8 @@ use Rattle.placement.specs.Length.{wirelength}
 use Rattle.placement.specs.Order.{before}
 use Rattle.placement.specs.Least.{Best, nothing, found, earliestLeast, bestRecord, chipRecord}
 use Rattle.placement.proofs.Demand.{earliest-least-found, nothing-legal}
+use Rattle.search.specs.Demand3.{SaysNone, SaysLeast, Placed}
 use Rattle.search.specs.Place.{placeRead, placeText}
-
--- the record `none`: no placement is legal
-pub record SaysNone (c : Chip) (r : Record) : Type 0 where
-  pub is : r ≡ none
-  pub illegal : (qs : List Spot) → legal c qs ≡ true → ⊥
-
--- a legal placement with its own wirelength; every legal placement has at least that wirelength, and each other one equally short comes later
-pub record SaysLeast (c : Chip) (r : Record) : Type 0 where
-  pub length : ℕ
-  pub placement : List Spot
-  pub is : r ≡ least length placement
-  pub lawful : legal c placement ≡ true
-  pub own : length ≡ wirelength c placement
-  pub shortest : (qs : List Spot) → legal c qs ≡ true → length ≤ wirelength c qs
-  pub earliest : (qs : List Spot) → legal c qs ≡ true → length ≡ wirelength c qs → (qs ≡ placement → ⊥) → before placement qs ≡ true
 
 -- the record of every chip says one or the other
 pub chip-record-says : (c : Chip) → SaysNone c (chipRecord c) ⊎ SaysLeast c (chipRecord c)
@@ -72,16 +58,6 @@ illegal-none c h = by (chip-record-says c)
     by (inr s) = absurd (h (s .placement) (s .lawful))
 
 -- ---- what is written for a text
-
--- a record of k bytes stands in the first bytes of the buffer, the rest is as it was; the text is that of a chip, and the record says what the demand asks
-pub record Placed (text out : List ℕ) (k : ℕ) (after : List ℕ) : Type 0 where
-  pub chip : Chip
-  pub read : readChip text ≡ accepted chip
-  pub result : Record
-  pub count : k ≡ length (recordText result)
-  pub room : length (recordText result) ≤ length out
-  pub bytes : after ≡ recordText result ++ drop (length (recordText result)) out
-  pub says : SaysNone chip result ⊎ SaysLeast chip result
 
 -- whatever is written for a text is such a record
 pub place-means : (text out : List ℕ) (k : ℕ) → placeText text out .answer ≡ wrote k → Placed text out k (placeText text out .buffer)

@@ -3,3 +3,4 @@ pub mod Weights
 pub mod Search
 pub mod Turns
 pub mod Place
+pub mod Demand3
