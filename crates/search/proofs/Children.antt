@@ -10,6 +10,7 @@ use Rattle.model.specs.declared.Record.{Record as HeldRecord}
 use Rattle.model.specs.declared.Spot.{Spot}
 use Rattle.model.specs.Meaning.{Chip, chipOf}
 use Rattle.chip.specs.Passed.{Passed}
+use Rattle.chip.specs.Valid.{Valid}
 use Rattle.placement.specs.Letters.{Letter, dot}
 use Rattle.placement.specs.Least.{Best, nothing, found}
 use Rattle.bounds.specs.declared.Slot.{Slot}
@@ -45,6 +46,15 @@ pub record Found (b : Best) : Type 0 where
 pub not-nothing : (b : Best) → (b ≡ nothing → ⊥) → Found b
 not-nothing nothing h = absurd (h refl)
 not-nothing (found l ps) h = record { length = l; spots = ps; is = refl }
+
+-- what is known of the half fit of the arrays is known of the chip's
+pub half-said : (d : Direction) (c : Chip) (ls : List Letter) → Valid c → (tab arcs : List ℕ) → Tabled d c tab → Arced d c ls arcs → (room : ℕ) (f : HalfFit) → Answers tab arcs room (f .outcome) (f .at) → HalfSaid c ls d room (f .outcome) (f .at)
+half-said d c ls v tab arcs tabled arced room f h = by (f .outcome) h
+  where
+    by : (k : HalfOutcome) → Answers tab arcs room k (f .at) → HalfSaid c ls d room k (f .at)
+    by (answer.Fit l) g = half-here d c ls v tab arcs tabled arced l (f .at) (g .half)
+    by answer.Beyond g = above-here d c ls v tab arcs tabled arced room g
+    by answer.Unshown g = tt
 
 module _ (c : HeldChip) (p : ℕ) (node : Node) (s i : ℕ) where
   abbrev C : Chip
@@ -94,17 +104,11 @@ module _ (c : HeldChip) (p : ℕ) (node : Node) (s i : ℕ) where
             f : Found (bestOf (node .here))
             f = not-nothing (bestOf (node .here)) (o .found)
 
-        -- what is known of the half fit of the arrays is known of the chip's
         said : (tab old arcs : List ℕ) → Tabled d C tab → Arced d C ls old → arcs ≡ withBound old t → (room : ℕ) (f : HalfFit) → Answers tab arcs room (f .outcome) (f .at) → HalfSaid C (lettersIn r p) d room (f .outcome) (f .at)
-        said tab old arcs tabled arced q room f h = by (f .outcome) h
+        said tab old arcs tabled arced q room f h = half-said d C (lettersIn r p) (ok .valid) tab arcs tabled bounded room f h
           where
             bounded : Arced d C (lettersIn r p) arcs
             bounded = rw (now, q, a .slot) (arced-letter d C (ok .valid) ls counted s (letterAt i) place-in (o .undecided) old arced (way-of i (a .four) ∙ w))
-
-            by : (k : HalfOutcome) → Answers tab arcs room k (f .at) → HalfSaid C (lettersIn r p) d room k (f .at)
-            by (answer.Fit l) g = half-here d C (lettersIn r p) (ok .valid) tab arcs tabled bounded l (f .at) (g .half)
-            by answer.Beyond g = above-here d C (lettersIn r p) (ok .valid) tab arcs tabled bounded room g
-            by answer.Unshown g = tt
 
       pub beside-x : wayAt i ≡ horizontal → Beside c r p (node .here) horizontal (node .ly)
       beside-x w = beside horizontal w (node .ly) (n .halves .y)

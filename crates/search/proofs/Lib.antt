@@ -23,3 +23,4 @@ pub mod Children
 pub mod Rooting
 pub mod Ordering
 pub mod Parts
+pub mod Firsts

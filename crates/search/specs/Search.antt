@@ -131,6 +131,16 @@ pub record ChildHeld (c : HeldChip) (letters : List ℕ) (p : ℕ) (best r : Hel
   pub fit : (bestOf r ≡ nothing → ⊥) → bestOf r ≡ fitOf (chipOf c) (lettersIn letters p)
   pub closed : bestOf r ≡ nothing → (ps : List Spot) → inBranch (chipOf c) (lettersIn letters p) ps ≡ true → NotAfter (bestOf best) (placed (chipOf c) ps)
 
+-- ---- the root
+
+-- a dot for each pair
+abbrev pub dots : List ℕ
+dots = replicate 120 46
+
+-- corners with x 0 and the given y
+abbrev pub uprightSpots : List ℕ → List Spot
+uprightSpots at = spotsWith vertical at (replicate 8 blankSpot)
+
 -- ---- a node
 
 -- the parts that the search reads are those of the chip; the weights are small

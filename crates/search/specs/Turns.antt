@@ -4,7 +4,7 @@ use mathlib.Core.Path.{_≡_}
 use mathlib.Core.Bool.{Bool, true}
 use mathlib.Core.List.{List}
 use mathlib.Core.Logic.{_⊎_}
-use lib.ListN.{getD, set, replicate}
+use lib.ListN.{getD, set}
 use Rattle.model.specs.declared.Chip.{Chip as HeldChip}
 use Rattle.model.specs.declared.Spot.{Spot}
 use Rattle.model.specs.declared.Record.{Record as HeldRecord}
@@ -30,7 +30,7 @@ use Rattle.halves.specs.Result.{placed, NotAfter, Real}
 use Rattle.kept.specs.Differences.{KeptBy, Adds, Holds, limited, contrary}
 use Rattle.half_tables.specs.Tables.{withBound}
 use Rattle.best.specs.Best.{bestOf, Counted}
-use Rattle.search.specs.Search.{noRecord, lengthOf, byteOf, lettersIn, letterAt, wayAt, KeepsBoth, AddsOn, NodeOk, childList, childAt}
+use Rattle.search.specs.Search.{noRecord, dots, lengthOf, byteOf, lettersIn, letterAt, wayAt, KeepsBoth, AddsOn, NodeOk, childList, childAt}
 use Rattle.search.specs.declared.node.Node.{Node}
 use Rattle.search.specs.declared.left.Left.{Left}
 
@@ -162,5 +162,5 @@ pub record OrderKept (c : Chip) (e r : List ℕ) : Type 0 where
 -- a dot for each pair; every legal placement in which equal macros are ordered keeps the differences
 pub record RootOk (c : HeldChip) (p : ℕ) (r : Node) : Type 0 where
   pub node : NodeOk c p r
-  pub letters : r .letters ≡ replicate 120 46
+  pub letters : r .letters ≡ dots
   pub keeps : (ps : List Spot) → legal (chipOf c) ps ≡ true → Ordered (chipOf c) ps → KeepsBoth (r .kx) (r .ky) ps

@@ -84,7 +84,7 @@ pub(crate) fn fit_record(c: Chip, letters: [u8; LETTERS], p: usize) -> Record
 }
 
 // The same of a chip that is lent as an array.
-fn fit_again(cs: &[u64; 640], letters: [u8; LETTERS], p: usize) -> Record
+pub(crate) fn fit_again(cs: &[u64; 640], letters: [u8; LETTERS], p: usize) -> Record
     requires { ⌜ Passed (chipIn (now cs)) × Lettered (chipIn (now cs)) letters p ⌝ }
     ensures { λ r. ⌜ FitHeld (chipIn (now (cs .entry))) letters p r ⌝ }
 {
@@ -103,7 +103,7 @@ fn spot_with(d: Direction, v: u64, p: Spot) -> Spot
 }
 
 // The corners with other coordinates in a direction.
-fn spots_with(d: Direction, at: [u64; 8], spots: [Spot; 8]) -> [Spot; 8]
+pub(crate) fn spots_with(d: Direction, at: [u64; 8], spots: [Spot; 8]) -> [Spot; 8]
     ensures { λ r. ⌜ r ≡ spotsWith d at spots ⌝ }
 {
     let mut r = spots;
@@ -116,7 +116,7 @@ fn spots_with(d: Direction, at: [u64; 8], spots: [Spot; 8]) -> [Spot; 8]
 }
 
 // The fit of the letters: one half is f, the other that of the fit before, of length other.
-fn joined(
+pub(crate) fn joined(
     cs: &[u64; 640],
     p: usize,
     letters: [u8; LETTERS],

@@ -1,19 +1,29 @@
 // The root of the search: a dot for each pair.
-use crate::child::fit_record;
+use crate::child::fit_again;
+use crate::child::joined;
+use crate::child::spots_with;
 use crate::node::LETTERS;
 use crate::node::Node;
+use crate::node::no_record;
 use bounds::Slot;
+use chip_array::macro_count;
+use half_fit::service::HalfFit;
+use half_fit::service::HalfOutcome;
 use half_tables::Arrays;
 use model::Chip;
+use model::Outcome;
+use model::Record;
 use model::Spot;
 use slots::Direction;
 ghost use mathlib.Core.Path.{_≡_};
 ghost use Prim.Native.Nat.{_<_};
 ghost use Rattle.model.specs.Meaning.{chipOf};
 ghost use Rattle.chip.specs.Passed.{Passed};
+ghost use Rattle.chip_array.specs.Array.{chipIn};
 ghost use Rattle.slots.specs.Axes.{cornerOn, cornersOn};
 ghost use Rattle.half_tables.specs.Made.{Hold};
 ghost use Rattle.pairs.specs.Count.{letterTotal};
+ghost use Rattle.search.specs.Search.{dots, uprightSpots, lettersIn, Lettered, FitHeld, HalfSaid};
 ghost use Rattle.search.specs.Turns.{OrderKept, RootOk};
 
 // A corner's coordinate in a direction.
@@ -75,13 +85,51 @@ fn ordered(c: Chip, e: [u32; 128]) -> [u32; 128]
     r
 }
 
-// The node with a dot for each pair; x and y are the arrays of the two directions.
-pub(crate) fn root(c: Chip, p: usize, x: Arrays, y: Arrays) -> Node
-    requires { ⌜ Passed c × (p ≡ letterTotal (c .n) (c .k)) × Hold c Direction.Horizontal (x .tab) (x .arcs) × Hold c Direction.Vertical (y .tab) (y .arcs) ⌝ }
+// A placement with x 0 and the given y, of length l.
+fn upright(cs: &[u64; 640], at: [u64; 8], l: u64) -> Record
+    ensures { λ r. ⌜ r ≡ record { outcome = Outcome.Least l (chipIn (now (cs .entry)) .n); spots = uprightSpots at } ⌝ }
+{
+    Record {
+        outcome: Outcome::Least(l, macro_count(cs)),
+        spots: spots_with(Direction::Vertical, at, [Spot { x: 0, y: 0 }; 8]),
+    }
+}
+
+// The fit of dots from its two half fits; where one is not shown, the fit that is sold.
+pub(crate) fn first_fit(cs: &[u64; 640], p: usize, fx: HalfFit, fy: HalfFit) -> Record
+    requires { ⌜ Passed (chipIn (now cs)) × Lettered (chipIn (now cs)) dots p × HalfSaid (chipOf (chipIn (now cs))) (lettersIn dots p) Direction.Horizontal 4000000000 (fx .outcome) (fx .at) × HalfSaid (chipOf (chipIn (now cs))) (lettersIn dots p) Direction.Vertical 4000000000 (fy .outcome) (fy .at) ⌝ }
+    ensures { λ r. ⌜ FitHeld (chipIn (now (cs .entry))) dots p r ⌝ }
+{
+    let letters = [46u8; LETTERS];
+    let outcome = fy.outcome;
+    let HalfOutcome::Fit(l) = outcome else {
+        return fit_again(cs, letters, p);
+    };
+    let at = fy.at;
+    let above = upright(cs, at, l);
+    let r = joined(
+        cs,
+        p,
+        letters,
+        above,
+        no_record(),
+        Direction::Horizontal,
+        fx,
+        l,
+    );
+    let found = r.outcome;
+    match found {
+        Outcome::Least(_, _) => r,
+        Outcome::None => fit_again(cs, letters, p),
+    }
+}
+
+// The node with a dot for each pair; x and y are the arrays of the two directions, here is the fit.
+pub(crate) fn root(c: Chip, p: usize, x: Arrays, y: Arrays, here: Record) -> Node
+    requires { ⌜ Passed c × (p ≡ letterTotal (c .n) (c .k)) × Hold c Direction.Horizontal (x .tab) (x .arcs) × Hold c Direction.Vertical (y .tab) (y .arcs) × FitHeld c dots p here ⌝ }
     ensures { λ r. ⌜ RootOk c p r ⌝ }
 {
     let letters = [46u8; LETTERS];
-    let here = fit_record(c, letters, p);
     let spots = here.spots;
     let tx = x.tab;
     let ty = y.tab;

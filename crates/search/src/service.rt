@@ -3,6 +3,7 @@ use crate::branch::search;
 use crate::choose::all_weights;
 use crate::node::Parts;
 use crate::node::no_record;
+use crate::root::first_fit;
 use crate::root::root;
 use chip_array::array_of;
 use chipreader::ChipAnswer;
@@ -55,9 +56,9 @@ fn chip_record(c: Chip) -> Record
     let mut hx = [0u32; 4352];
     let mut hy = [0u32; 4352];
     let mut states = [0u32; 2560];
-    first_half(&tx, &mut hx, &ax, &mut states, 0, 4000000000);
-    first_half(&ty, &mut hy, &ay, &mut states, 1, 4000000000);
-    let node = root(c, p, x, y);
+    let fx = first_half(&tx, &mut hx, &ax, &mut states, 0, 4000000000);
+    let fy = first_half(&ty, &mut hy, &ay, &mut states, 1, 4000000000);
+    let node = root(c, p, x, y, first_fit(&cs, p, fx, fy));
     search(
         &cs,
         parts,

@@ -1,11 +1,7 @@
-use Rattle.search.proofs.Placing.{dots-lettered}
 use Rattle.search.proofs.Rooting.{root-ok}
 use borrow.Author.Needs.{needs}
 use Rattle.search.proofs.root.root.Statement.{statement}
 use Rattle.search.proofs.root.root.Tie as tie
-
-fit-record-requires : tie.Need-fit-record-requires
-fit-record-requires c κs = (search needs, search dots-lettered)
 
 closed-requires : tie.Need-closed-requires
 closed-requires c κs = search needs
@@ -30,15 +26,14 @@ half-length-requires-2 c κs = search needs
 
 returns : tie.Need-returns
 returns c =
-    let start = c .before .before .before .before .before .before .before .before .before .before .before .before .before .before .before .pre in
-    root-ok _ _ (start .0) (start .1) _ _ (start .2) _ _ (start .3) _ (c .before .before .before .before .before .before .before .before .before .before .before .before .before .before .fit-record .ensures) _ (c .before .before .before .before .before .before .before .before .closed .ensures) _ (c .before .before .before .before .before .before .before .ordered .ensures) _ (c .before .before .before .before .before .before .closed2 .ensures)
+    let start = c .before .before .before .before .before .before .before .before .before .before .before .before .before .before .pre in
+    root-ok _ _ (start .0) (start .1) _ _ (start .2) _ _ (start .3) _ (start .4) _ (c .before .before .before .before .before .before .before .before .closed .ensures) _ (c .before .before .before .before .before .before .before .ordered .ensures) _ (c .before .before .before .before .before .before .closed2 .ensures)
     _ (c .before .before .before .before .coordinates .ensures) _ (c .before .before .before .half-length .ensures) _ (c .before .coordinates2 .ensures) _ (c .half-length2 .ensures)
 
 pub root-spec : {M : Type 1} → statement M
 root-spec =
     tie.close
     (tie.spec
-    fit-record-requires
     closed-requires
     ordered-requires
     closed-requires-2

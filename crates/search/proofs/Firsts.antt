@@ -1,0 +1,69 @@
+-- The fit of dots from its two half fits: the vertical one stands beside the horizontal one.
+use Prim.Native.Nat.{ℕ}
+use mathlib.Core.Path.{_≡_, refl, sym, ap, subst, _∙_}
+use mathlib.Core.List.{List}
+use native.Mathlib.Omega.{arith}
+use lib.ListN.{length, take, replicate}
+use Rattle.model.specs.declared.Chip.{Chip as HeldChip}
+use Rattle.model.specs.declared.Record.{Record as HeldRecord}
+use Rattle.model.specs.declared.Outcome.the-variants as outcome
+use Rattle.model.specs.declared.Spot.{Spot}
+use Rattle.model.specs.Meaning.{Chip, chipOf, firstOf, blankSpot}
+use Rattle.model.proofs.FirstOf.{first-take}
+use Rattle.chip.specs.Passed.{Passed}
+use Rattle.placement.specs.Letters.{Letter}
+use Rattle.bounds.specs.Half.{HalfOn}
+use Rattle.slots.specs.declared.Direction.the-variants.{Horizontal as horizontal, Vertical as vertical}
+use Rattle.slots.specs.Axes.{axisFor, cornersOn}
+use Rattle.halves.proofs.Halving.{spots-y}
+use Rattle.half_fit.specs.declared.service.HalfFit.{HalfFit}
+use Rattle.half_fit.specs.declared.service.HalfOutcome.{HalfOutcome}
+use Rattle.half_fit.specs.declared.service.HalfOutcome.the-variants as answer
+use Rattle.best.specs.Best.{bestOf, CountIs}
+use Rattle.search.specs.Search.{lettersIn, FitHeld, HalfSaid, uprightSpots, ChildHeld}
+use Rattle.search.specs.Turns.{Beside}
+use Rattle.search.proofs.Cornering.{take-corners}
+use Rattle.search.proofs.FourChildren.{nothing-none}
+use Rattle.search.proofs.Joining.{least-held}
+
+module _ (c : HeldChip) (letters : List ℕ) (p : ℕ) (ok : Passed c) where
+  abbrev C : Chip
+  C = chipOf c
+
+  abbrev ls : List Letter
+  ls = lettersIn letters p
+
+  module _ (f : HalfFit) (l room : ℕ) (said : HalfSaid C ls vertical room (f .outcome) (f .at)) (e : f .outcome ≡ answer.Fit l) (many : length (f .at) ≡ 8) where
+    abbrev at : List ℕ
+    at = f .at
+
+    given : HalfOn (axisFor vertical C ls) l (take (length (C .macs)) at)
+    given = subst (λ (o : HalfOutcome). HalfSaid C ls vertical room o at) e said
+
+    -- the placement with that y has the half fit beside it
+    pub first-beside : (above : HeldRecord) → length (above .spots) ≡ 8 → above ≡ record { outcome = outcome.Least l (c .n); spots = uprightSpots at } → Beside c letters p above horizontal l
+    first-beside above long is = record {
+      counted = record { few = ok .fine .macCount; whole = long; count = subst (λ (r : HeldRecord). CountIs (c .n) (r .outcome)) (sym is) refl };
+      length = l;
+      spots = firstOf blankSpot (c .n) (uprightSpots at);
+      found = ap bestOf is ∙ least-held l (c .n) (uprightSpots at);
+      half = subst (HalfOn (axisFor vertical C ls) l) (sym same) given;
+    }
+      where
+        wide : length (uprightSpots at) ≡ 8
+        wide = ap (λ (r : HeldRecord). length (r .spots)) (sym is) ∙ long
+
+        same : cornersOn vertical (firstOf blankSpot (c .n) (uprightSpots at)) ≡ take (length (C .macs)) at
+        same =
+            let g = ok .fine .macCount in let w = wide in
+            ap (cornersOn vertical) (first-take blankSpot (c .n) (uprightSpots at) (omega arith))
+            ∙ (sym (take-corners vertical (c .n) (uprightSpots at))
+            ∙ (ap (take (c .n)) (spots-y (cornersOn horizontal (replicate 8 blankSpot)) at many)
+            ∙ ap (λ (m : ℕ). take m at) (sym (ok .macs))))
+
+  -- what is found is the fit
+  pub first-held : (best r : HeldRecord) → ChildHeld c letters p best r → (l n : ℕ) → r .outcome ≡ outcome.Least l n → FitHeld c letters p r
+  first-held best r h l n e = record { is = h .fit (λ z. no-none (sym (nothing-none r z) ∙ e)); counted = h .counted }
+    where
+      no-none : outcome.None ≡ outcome.Least l n → ⊥
+      no-none z = let q : _≡_ {A = ℕ} 0 1 = cc in absurd (omega arith)
