@@ -5,7 +5,7 @@ import subprocess
 from collections import namedtuple
 
 import chips
-from measure import ENOUGH, LAB, WORK
+from measure import ENOUGH, LAB, ROUNDS, WORK
 
 SIZES = ((8, 32, 128), (8, 16, 48), (4, 8, 20))  # macros, nets, pins: those of `lab fits`
 CHIPS, STRINGS = 60, 5  # chips of a size, letter strings for each: as many as `lab fits` has
@@ -25,12 +25,21 @@ def run(program, path):
     return [float(time) for time in times.split()], [None if line == "no" else int(line.split()[1]) for line in answers]
 
 
+def in_rounds(programs, path):
+    """For each program the least of its times, and its lengths. The programs take turns."""
+    rounds = [[run(program, path) for program in programs] for _ in range(ROUNDS)]
+    for runs in zip(*rounds):
+        yield [min(times) for times in zip(*(times for times, _ in runs))], runs[0][1]
+
+
 def fits(name, cases):
     """Cases (letters, path), kept in NAME.cases, through the library and, where it is built, through LEMON."""
     path = WORK / f"{name}.cases"
     path.write_text("".join(f"{letters} {chip}\n" for letters, chip in cases))
-    (micros, reading), lengths = run("fits", path)
-    (lemon,), others = run("lemon", path) if (WORK / "lemon").exists() else ([None], lengths)
+    programs = ["fits", "lemon"] if (WORK / "lemon").exists() else ["fits"]
+    found = dict(zip(programs, in_rounds(programs, path)))
+    (micros, reading), lengths = found["fits"]
+    (lemon,), others = found.get("lemon", ([None], lengths))
     faults = [f"{chip.stem}, letters {letters}: the fit has length {length}, LEMON found {other}"
               for (letters, chip), length, other in zip(cases, lengths, others) if length != other]
     return Fits(micros - reading, reading, lengths, lemon, faults)
@@ -41,10 +50,10 @@ def share_of_none(lengths):
 
 
 def baseline_axes():
-    """For each size the baseline's microseconds for one axis from nothing."""
-    said = subprocess.run([LAB, "fits"], stdout=subprocess.PIPE, text=True, check=True).stdout
-    found = re.findall(r"n(\d+) (\d+) nets (\d+) pins: .*?contracted ([\d.]+)", said)
-    return {tuple(map(int, line[:3])): float(line[3]) for line in found}
+    """For each size the baseline's microseconds for one axis from nothing, the least of the rounds."""
+    said = [subprocess.run([LAB, "fits"], stdout=subprocess.PIPE, text=True, check=True).stdout for _ in range(ROUNDS)]
+    found = re.findall(r"n(\d+) (\d+) nets (\d+) pins: .*?contracted ([\d.]+)", "".join(said))
+    return {size: min(float(line[3]) for line in found if tuple(map(int, line[:3])) == size) for size in SIZES}
 
 
 def drawn(rng, placing, size):

@@ -6,22 +6,31 @@ import chips
 import measure
 import solvers
 
-Row = namedtuple("Row", "name chip wl place library same search solvers")
+Row = namedtuple("Row", "name chip wl place library same search solvers")  # library: seconds, less reading
 
 
-def searching(row):
-    """Seconds of the library's call, the reading of the chip's text taken off."""
-    return max(measure.GRAIN, row.library.seconds - row.library.reading)
+def in_rounds(path):
+    """place, the library's calls and the baseline's searches, a list of each."""
+    rounds = [(measure.place(path), measure.library(path), measure.baseline(path)) for _ in range(measure.ROUNDS)]
+    return zip(*rounds)
+
+
+def less_reading(calls):
+    """The least seconds of the library's calls, the least for reading the chip's text taken off."""
+    return max(measure.GRAIN, min(call.seconds for call in calls) - min(call.reading for call in calls))
 
 
 def measured(path, limit):
     """All measurements of one chip, with a line on standard error."""
     record = path.with_suffix(".record")
     chip, (wl, _), stored = chips.read_chip(path), chips.read_record(record), record.read_bytes()
-    place, library, search = measure.place(path), measure.library(path), measure.baseline(path)
-    print(f"{path.stem}: place {1000 * place.seconds:.3g} ms, baseline {1000 * search.seconds:.3g} ms", file=sys.stderr)
-    return Row(path.stem, chip, wl, place, library, stored == place.printed == library.record, search,
-               {solver: solvers.solve(solver, chip, limit) for solver in solvers.SOLVERS})
+    places, calls, searches = in_rounds(path)
+    same = {stored} == {run.printed for run in places} | {call.record for call in calls}
+    place = min(places)._replace(kilobytes=max(run.kilobytes for run in places))
+    row = Row(path.stem, chip, wl, place, less_reading(calls), same, min(searches),
+              {solver: solvers.solve(solver, chip, limit) for solver in solvers.SOLVERS})
+    print(f"{row.name}: {1000 * row.library:.3g} ms, baseline {1000 * row.search.seconds:.3g} ms", file=sys.stderr)
+    return row
 
 
 def faults(rows):

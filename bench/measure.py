@@ -1,4 +1,8 @@
-"""What bench/run measures with. Every time is processor time, of one run or the mean of several."""
+"""What bench/run measures with. Every time is processor time, of one run or the mean of several.
+
+Other work on the machine makes a time longer and never shorter, so what is short enough is measured in rounds, one
+thing after the other in each, and the least counts.
+"""
 import math
 import os
 import re
@@ -10,12 +14,12 @@ ROOT = Path(__file__).resolve().parent.parent
 WORK = ROOT / "target" / "bench"
 PLACE = ROOT / "target" / "bin" / "place"
 LAB = WORK / "baseline" / "release" / "lab"
-ENOUGH = 0.2  # seconds; what is shorter is repeated until all runs together have taken as long
+ENOUGH, ROUNDS = 0.1, 3  # seconds: what is shorter is repeated until all runs of a round have taken as long
 MOST_RUNS, GRAIN = 2000, 1e-6  # of the baseline: runs on a chip, seconds that its clock tells apart
 ALL_RULES = "p27 child D2 f"  # the baseline's search with warm fits and all rules
 
 Run = namedtuple("Run", "seconds kilobytes ended printed")
-Call = namedtuple("Call", "seconds reading record")  # of the library; both in seconds
+Call = namedtuple("Call", "seconds reading record")  # of the library; reading is a part of the seconds
 Search = namedtuple("Search", "seconds fits nodes length late")
 
 
@@ -34,7 +38,7 @@ def place(chip, limit=0):
 
 def place_start():
     """Seconds of a run on an empty text, which is refused: the start of the process."""
-    return timed([PLACE]).seconds
+    return min(timed([PLACE]).seconds for _ in range(ROUNDS))
 
 
 def library(chip):

@@ -3,7 +3,6 @@ import math
 
 from chips import counts
 from fittimes import share_of_none
-from folder import searching
 from solvers import SOLVERS, agrees
 
 
@@ -33,18 +32,18 @@ def place_table(rows):
 def place_line(row):
     return [row.name, ", ".join(map(str, counts(row.chip))), f"{row.search.fits:,}", f"{row.search.nodes:,}",
             ms(row.search.seconds), ms(row.place.seconds), f"{row.place.kilobytes:,}",
-            "same" if row.same else "**other**", ms(searching(row)), ratio(searching(row), row.search.seconds)]
+            "same" if row.same else "**other**", ms(row.library), ratio(row.library, row.search.seconds)]
 
 
 def total_lines(rows):
     """The sums, and the chip with the greatest ratio."""
-    library, search = sum(searching(row) for row in rows), sum(row.search.seconds for row in rows)
-    worst = max(rows, key=lambda row: searching(row) / row.search.seconds)
+    library, search = sum(row.library for row in rows), sum(row.search.seconds for row in rows)
+    worst = max(rows, key=lambda row: row.library / row.search.seconds)
     return [[f"in all, {len(rows)}", "", f"{sum(row.search.fits for row in rows):,}",
              f"{sum(row.search.nodes for row in rows):,}", ms(search), ms(sum(row.place.seconds for row in rows)),
              f"at most {max(row.place.kilobytes for row in rows):,}", f"{sum(row.same for row in rows)} same",
              ms(library), ratio(library, search)],
-            [f"greatest ratio: {worst.name}", *[""] * 8, ratio(searching(worst), worst.search.seconds)]]
+            [f"greatest ratio: {worst.name}", *[""] * 8, ratio(worst.library, worst.search.seconds)]]
 
 
 def solver_cells(answer, wl, limit):
