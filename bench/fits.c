@@ -8,8 +8,8 @@
 #include <stdio.h>
 #include <stdlib.h>
 #include <string.h>
-#include <time.h>
 
+#include "clock.h"
 #include "jizdovel.h"
 
 enum { MOST_CASES = 4096, MOST_TEXT = 16384, MOST_LETTERS = 92 };
@@ -20,6 +20,7 @@ struct fit {
 };
 
 static struct fit fits[MOST_CASES];
+static int cases;
 
 static uint64_t answer(const struct fit *fit, uint64_t *length) {
     static uint16_t slots[JIZDOVEL_SLOTS];
@@ -41,34 +42,19 @@ static int read_case(char *line, struct fit *fit) {
     return 1;
 }
 
-static void solve(const struct fit *fit) {
+static void solve_all(void) {
     uint64_t length;
-    answer(fit, &length);
+    for (int k = 0; k < cases; k++)
+        answer(&fits[k], &length);
 }
 
-static void only_read(const struct fit *fit) {
+static void read_all(void) {
     uint64_t value;
-    jizdovel_check_chip(fit->text, fit->text_length, &value);
+    for (int k = 0; k < cases; k++)
+        jizdovel_check_chip(fits[k].text, fits[k].text_length, &value);
 }
 
-static double now(void) {
-    struct timespec time;
-    clock_gettime(CLOCK_PROCESS_CPUTIME_ID, &time);
-    return time.tv_sec + time.tv_nsec / 1e9;
-}
-
-static double microseconds(int cases, double enough, void (*call)(const struct fit *)) {
-    double began = now(), took = 0;
-    long calls = 0;
-    while (took < enough) {
-        for (int k = 0; k < cases; k++, calls++)
-            call(&fits[k]);
-        took = now() - began;
-    }
-    return calls ? took / calls * 1e6 : 0;
-}
-
-static int show_answers(int cases) {
+static int show_answers(void) {
     for (int k = 0; k < cases; k++) {
         uint64_t length, number = answer(&fits[k], &length);
         if (number == JIZDOVEL_YES)
@@ -83,15 +69,14 @@ static int show_answers(int cases) {
 
 int main(int count, char **words) {
     static char line[4096];
-    int cases = 0;
     while (cases < MOST_CASES && fgets(line, sizeof line, stdin))
         if (!read_case(line, &fits[cases++]))
             return fprintf(stderr, "case %d: not letters, a blank and a chip\n", cases), 2;
     if (count != 2 || cases == 0)
         return fprintf(stderr, "usage: fits SECONDS < CASES\n"), 2;
-    if (show_answers(cases))
+    if (show_answers())
         return 1;
-    printf("%.3f ", microseconds(cases, atof(words[1]), solve));
-    printf("%.3f\n", microseconds(cases, atof(words[1]), only_read));
+    printf("%.3f ", microseconds(atof(words[1]), solve_all) / cases);
+    printf("%.3f\n", microseconds(atof(words[1]), read_all) / cases);
     return 0;
 }

@@ -1,93 +1,64 @@
-"""The measurements of bench/run. Every time is processor time, of one run or the mean of several."""
+"""What bench/run measures with. Every time is processor time, of one run or the mean of several.
+
+Other work on the machine makes a time longer and never shorter, so what is short enough is measured in rounds, one
+thing after the other in each, and the least counts.
+"""
 import math
 import os
 import re
-import shutil
 import subprocess
 from collections import namedtuple
 from pathlib import Path
-
-import bigm
-import chips
 
 ROOT = Path(__file__).resolve().parent.parent
 WORK = ROOT / "target" / "bench"
 PLACE = ROOT / "target" / "bin" / "place"
 LAB = WORK / "baseline" / "release" / "lab"
-ENOUGH = 0.2  # seconds; what is shorter is repeated until all runs together have taken as long
+ENOUGH, ROUNDS = 0.1, 3  # seconds: what is shorter is repeated until all runs of a round have taken as long
 MOST_RUNS, GRAIN = 2000, 1e-6  # of the baseline: runs on a chip, seconds that its clock tells apart
-ALL_RULES, NEAREST_RULES = ("p27 child D2 f", "0"), ("p17 child D0", "2")  # a search of the baseline, and SCRATCH
+ALL_RULES = "p27 child D2 f"  # the baseline's search with warm fits and all rules
 
-Run = namedtuple("Run", "seconds kilobytes ended")
-Search = namedtuple("Search", "seconds fits nodes length")
-Row = namedtuple("Row", "name chip wl place same warm scratch solvers")
-SOLVERS = {
-    "glpsol": lambda lp, out: ["glpsol", "--lp", lp, "-w", out],
-    "cbc": lambda lp, out: ["cbc", lp, "-solve", "-solution", out],
-}
+Run = namedtuple("Run", "seconds kilobytes ended printed")
+Call = namedtuple("Call", "seconds reading record")  # of the library; reading is a part of the seconds
+Search = namedtuple("Search", "seconds fits nodes length late")
 
 
 def timed(words, limit=0, source=os.devnull):
-    """Runs a program under bench/timed.c. What it writes goes to the file `out`."""
+    """Runs a program under bench/timed.c, ended after so many seconds where the limit is not 0."""
     with open(source, "rb") as file:
         words = [WORK / "timed", str(limit), str(ENOUGH), WORK / "out", *words]
         said = subprocess.run(words, stdin=file, stdout=subprocess.PIPE, text=True, check=True).stdout.split()
-    return Run(float(said[1]), int(said[2]), int(said[3]))
+    return Run(float(said[1]), int(said[2]), int(said[3]), (WORK / "out").read_bytes())
 
 
-def place(chip, record):
-    """A run of place, and whether it printed the stored record."""
-    run = timed([PLACE], source=chip)
-    return run, (WORK / "out").read_bytes() == record.read_bytes()
+def place(chip, limit=0):
+    """A run of place as a process: with its start, reading and writing."""
+    return timed([PLACE], limit, chip)
 
 
 def place_start():
     """Seconds of a run on an empty text, which is refused: the start of the process."""
-    return timed([PLACE]).seconds
+    return min(timed([PLACE]).seconds for _ in range(ROUNDS))
 
 
-def baseline(variant, scratch, chip):
+def library(chip):
+    """The static library's call from chip text to record text, and its reading of the text, without a process."""
+    with open(chip, "rb") as file:
+        said = subprocess.run([WORK / "searches", str(ENOUGH)], stdin=file, stdout=subprocess.PIPE, check=True).stdout
+    times, record = said.split(b"\n", 1)
+    return Call(*(float(micros) / 1e6 for micros in times.split()), record)
+
+
+def baseline(chip, limit=1e9):
     """The baseline's search: its own clock, without the start of a process and the reading of the chip."""
     def lines(times):
-        run = subprocess.run([LAB, "bench", "1e9", variant] + [chip] * times, env={**os.environ, "SCRATCH": scratch},
+        run = subprocess.run([LAB, "bench", str(limit), ALL_RULES] + [chip] * times,
                              stdout=subprocess.PIPE, text=True, check=True)
-        return re.findall(r"\|\s*(\d+) fits\|\s*(\d+) nodes\|\s*([\d.]+) ms\|\s*(\w+)\|ok", run.stdout)
+        return re.findall(r"\|\s*(\d+) fits\|\s*(\d+) nodes\|\s*([\d.]+) ms\|\s*(\w+)\|(ok|CAP)", run.stdout)
 
     found = lines(1)
     times = min(MOST_RUNS, math.ceil(ENOUGH / max(GRAIN, float(found[0][2]) / 1000)))
     found = lines(times) if times > 1 else found
-    fits, nodes, _, length = found[0]
-    seconds = max(GRAIN, sum(float(ms) for _, _, ms, _ in found) / len(found) / 1000)
-    return Search(seconds, int(fits), int(nodes), None if length == "none" else int(length))
-
-
-def found_by(solver, out):
-    """The least length that a solver wrote, None for no placement, a text for neither."""
-    text = out.read_text() if out.exists() else ""
-    if solver == "glpsol":
-        told = re.search(r"^s mip \d+ \d+ ([on]) (\S+)", text, re.M)
-        optimal, empty = told and told[1] == "o", told and told[1] == "n"
-    else:
-        told = re.match(r"(Optimal|Infeasible|Integer infeasible) - objective value +(\S+)", text)
-        optimal, empty = told and told[1] == "Optimal", told and told[1] != "Optimal"
-    return float(told[2]) if optimal else None if empty else "no answer"
-
-
-def solve(solver, chip, limit):
-    """A solver on the chip's mixed integer program: seconds and length, or None where it is not installed."""
-    if not shutil.which(solver):
-        return None
-    lp, out = WORK / "chip.lp", WORK / "solution"
-    lp.write_text(bigm.program(chip))
-    out.unlink(missing_ok=True)
-    run = timed(SOLVERS[solver](lp, out), limit)
-    return run.seconds, "late" if run.ended >= 128 else found_by(solver, out)
-
-
-def row(path, limit):
-    """All measurements of one chip."""
-    record = path.with_suffix(".record")
-    chip, (wl, _) = chips.read_chip(path), chips.read_record(record)
-    run, same = place(path, record)
-    return Row(path.stem, chip, wl, run, same, baseline(*ALL_RULES, path), baseline(*NEAREST_RULES, path),
-               {solver: solve(solver, chip, limit) for solver in SOLVERS})
+    fits, nodes, _, length, end = found[0]
+    seconds = max(GRAIN, sum(float(line[2]) for line in found) / len(found) / 1000)
+    return Search(seconds, int(fits), int(nodes), None if length == "none" else int(length), end == "CAP")

@@ -2,7 +2,8 @@
 import math
 
 from chips import counts
-from measure import SOLVERS
+from fittimes import share_of_none
+from solvers import SOLVERS, agrees
 
 
 def digits(number, count=3):
@@ -23,29 +24,26 @@ def table(heads, rows):
 
 
 def place_table(rows):
-    heads = ["Chip", "Macros, fixes, nets, pins", "place (ms)", "Peak (KB)", "Record",
-             "Baseline, all rules (ms)", "Ratio", "Baseline, nearest rules (ms)", "Ratio", "Its fits", "Its nodes"]
-    return table(heads, [place_line(row) for row in rows] + [total_line(rows)])
-
-
-def times(place, warm, scratch):
-    """The cells of the baseline's two searches and of the ratios to them."""
-    return [ms(warm), ratio(place, warm), ms(scratch), ratio(place, scratch)]
+    heads = ["Chip", "Macros, fixes, nets, pins", "Baseline's fits", "Its nodes", "Baseline (ms)",
+             "place, a process (ms)", "Peak (KB)", "Record", "Library, less reading (ms)", "Library / baseline"]
+    return table(heads, [place_line(row) for row in rows] + total_lines(rows))
 
 
 def place_line(row):
-    place = row.place.seconds
-    return [row.name, ", ".join(map(str, counts(row.chip))), ms(place), f"{row.place.kilobytes:,}",
-            "same" if row.same else "**other**", *times(place, row.warm.seconds, row.scratch.seconds),
-            f"{row.scratch.fits:,}", f"{row.scratch.nodes:,}"]
+    return [row.name, ", ".join(map(str, counts(row.chip))), f"{row.search.fits:,}", f"{row.search.nodes:,}",
+            ms(row.search.seconds), ms(row.place.seconds), f"{row.place.kilobytes:,}",
+            "same" if row.same else "**other**", ms(row.library), ratio(row.library, row.search.seconds)]
 
 
-def total_line(rows):
-    place = sum(row.place.seconds for row in rows)
-    return [f"in all, {len(rows)}", "", ms(place), f"at most {max(row.place.kilobytes for row in rows):,}",
-            f"{sum(row.same for row in rows)} same",
-            *times(place, sum(row.warm.seconds for row in rows), sum(row.scratch.seconds for row in rows)),
-            f"{sum(row.scratch.fits for row in rows):,}", f"{sum(row.scratch.nodes for row in rows):,}"]
+def total_lines(rows):
+    """The sums, and the chip with the greatest ratio."""
+    library, search = sum(row.library for row in rows), sum(row.search.seconds for row in rows)
+    worst = max(rows, key=lambda row: row.library / row.search.seconds)
+    return [[f"in all, {len(rows)}", "", f"{sum(row.search.fits for row in rows):,}",
+             f"{sum(row.search.nodes for row in rows):,}", ms(search), ms(sum(row.place.seconds for row in rows)),
+             f"at most {max(row.place.kilobytes for row in rows):,}", f"{sum(row.same for row in rows)} same",
+             ms(library), ratio(library, search)],
+            [f"greatest ratio: {worst.name}", *[""] * 8, ratio(worst.library, worst.search.seconds)]]
 
 
 def solver_cells(answer, wl, limit):
@@ -58,13 +56,6 @@ def solver_cells(answer, wl, limit):
     return [ms(seconds), "same" if agrees(length, wl) else "none" if length is None else str(length)]
 
 
-def agrees(length, wl):
-    """Whether a solver's length, a floating number, is the record's."""
-    if length is None or wl is None:
-        return length is wl
-    return isinstance(length, float) and abs(length - wl) <= 0.5 + 1e-6 * wl
-
-
 def solver_table(rows, limit):
     heads = ["Chip", "Wirelength", "place (ms)"]
     for solver in SOLVERS:
@@ -74,21 +65,57 @@ def solver_table(rows, limit):
                          for row in rows])
 
 
-def sized_table(sizes):
-    heads = ["Random chips", "Library, a fit (us)", "Of it, reading (us)", "Half of the rest (us)",
-             "Baseline, an axis (us)", "Ratio of the last two", "No fit, library", "No fit, baseline"]
-    lines = []
-    for one in sizes:
-        half = (one.micros - one.reading) / 2
-        lines.append(["{} macros, {} nets, {} pins".format(*one.size), digits(one.micros), digits(one.reading),
-                      digits(half), digits(one.baseline), ratio(half, one.baseline), f"{one.none:.0%}",
-                      f"{one.baseline_none:.0%}"])
-    return table(heads, lines)
+def sized_table(sizes, lemon):
+    heads = ["Random chips", "Letters on", "Fits", "No fit", "Library, less reading (us)", "Reading (us)",
+             "Baseline, an axis twice (us)", "Library / baseline"] + ["LEMON, two axes (us)", "Library / LEMON"] * lemon
+    return table(heads, [sized_line(one, lemon) for one in sizes])
 
 
-def group_table(groups):
-    heads = ["Macros, fixes, nets, pins", "Chips", "All dots (us)", "The record's letters (us)", "Random letters (us)",
-             "No fit, random"]
-    return table(heads, [[", ".join(map(str, one.counts)), str(one.chips), digits(one.dots),
-                          digits(one.kept) if one.kept else "-", digits(one.random), f"{one.none:.0%}"]
-                         for one in groups])
+def sized_line(one, lemon):
+    axes = [digits(2 * one.baseline), ratio(one.fits.micros, 2 * one.baseline)] if one.baseline else ["-", "-"]
+    return ["{} macros, {} nets, {} pins".format(*one.size), f"{one.letters} of the pairs", f"{len(one.fits.lengths)}",
+            f"{share_of_none(one.fits.lengths):.0%}", digits(one.fits.micros), digits(one.fits.reading), *axes,
+            *([digits(one.fits.lemon), ratio(one.fits.micros, one.fits.lemon)] if lemon else [])]
+
+
+def group_table(groups, lemon):
+    heads = ["Macros, fixes, nets, pins", "Chips"]
+    for letters in ("All dots", "The record's letters", "Random letters"):
+        heads += [f"{letters} (us)"] + ["LEMON (us)"] * lemon
+    return table(heads + ["No fit, random"], [group_line(one, lemon) for one in groups])
+
+
+def group_line(one, lemon):
+    cells = [", ".join(map(str, one.counts)), str(one.chips)]
+    for fits in (one.dots, one.kept, one.random):
+        cells += [digits(fits.micros) if fits else "-"] + [digits(fits.lemon) if fits else "-"] * lemon
+    return cells + [f"{share_of_none(one.random.lengths):.0%}"]
+
+
+def above(late, words):
+    """A number that a run had reached when it was ended."""
+    return f"> {words}" if late else words
+
+
+def clique_table(rows):
+    heads = ["Squares", "Sides", "Baseline's nodes", "Baseline (s)", "place (s)", "place, times one square less",
+             "place / baseline", "Wirelength"]
+    before = {(row.kind, row.count): row for row in rows}
+    return table(heads, [clique_line(row, before.get((row.kind, row.count - 1))) for row in rows])
+
+
+def clique_line(row, before):
+    """A clique, and the one with one square less where that one came to an end."""
+    sides = sorted({row.sides[0], row.sides[-1]})
+    return [f"{row.count} {'equal' if len(sides) == 1 else 'nearly equal'}", " to ".join(map(str, sides)),
+            above(row.search.late, f"{row.search.nodes:,}"), above(row.search.late, digits(row.search.seconds)),
+            above(row.late, digits(row.place)),
+            above(row.late, ratio(row.place, before.place)) if before and not before.late else "-",
+            clique_ratio(row), "-" if row.length is None else f"{row.length:,}"]
+
+
+def clique_ratio(row):
+    """place to the baseline, or what is known of it where one of them was ended."""
+    if row.late and row.search.late:
+        return "-"
+    return ("> " if row.late else "< " if row.search.late else "") + ratio(row.place, row.search.seconds)
