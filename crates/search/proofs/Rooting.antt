@@ -33,9 +33,12 @@ use Rattle.half_tables.specs.Tables.{padded, Arced}
 use Rattle.half_tables.specs.Made.{Hold}
 use Rattle.half_tables.proofs.HalfHere.{chip-small}
 use Rattle.half_tables.proofs.Padding.{padded-value, take-nets}
+use Rattle.half_fit.specs.Answer.{Answers}
+use Rattle.half_fit.specs.declared.service.HalfFit.{HalfFit}
 use Rattle.best.specs.Best.{bestOf}
-use Rattle.search.specs.Search.{lettersIn, Lettered, FitHeld}
+use Rattle.search.specs.Search.{lettersIn, Lettered, FitHeld, HalfSaid, dots}
 use Rattle.search.specs.Turns.{OrderKept, RootOk}
+use Rattle.search.proofs.Children.{half-said}
 use Rattle.search.proofs.Cornering.{take-corners}
 use Rattle.search.proofs.Joining.{held-spots}
 use Rattle.search.proofs.Lettering.{dots-in}
@@ -61,9 +64,6 @@ module _ (c : HeldChip) (p : ℕ) (ok : Passed c) (e : p ≡ letterTotal (c .n) 
   abbrev C : Chip
   C = chipOf c
 
-  abbrev dots : List ℕ
-  dots = replicate 120 46
-
   abbrev ls : List Letter
   ls = lettersIn dots p
 
@@ -78,6 +78,10 @@ module _ (c : HeldChip) (p : ℕ) (ok : Passed c) (e : p ≡ letterTotal (c .n) 
   module _ (d : Direction) (tab arcs : List ℕ) (h : Hold c d tab arcs) where
     arced : Arced d C ls arcs
     arced = subst (λ (s : List Letter). Arced d C s arcs) (ap (λ (m : ℕ). replicate m dot) (sym (lettered .count)) ∙ sym are-dots) (h .arced)
+
+    -- what is known of the half fit of the arrays
+    said : (room : ℕ) (f : HalfFit) → Answers tab arcs room (f .outcome) (f .at) → HalfSaid C ls d room (f .outcome) (f .at)
+    said room f a = half-said d C ls (ok .valid) tab arcs (h .tabled) arced room f a
 
     kept : (k : List ℕ) → Starts arcs k → (ps : List Spot) → legal C ps ≡ true → KeptBy k (valueOn d ps)
     kept k s ps g = s .to (valueOn d ps) (bounds-kept arcs (cornersOn d ps) (arced .up (cornersOn d ps) (keeps-splits C ls ps keeps d)))
@@ -106,6 +110,11 @@ module _ (c : HeldChip) (p : ℕ) (ok : Passed c) (e : p ≡ letterTotal (c .n) 
             ∙ (ap limited taken ∙ limited-same (cornersOn d ps) (λ i g. let q = chip-small d C ls (ok .valid) (cornersOn d ps) keeps i in omega arith))
 
   -- ---- both
+
+  -- the chip a is read from the array
+  pub first-asked : (a : HeldChip) → a ≡ c → (tx ax ty ay : List ℕ) → Hold c horizontal tx ax → Hold c vertical ty ay → (room : ℕ) (f g : HalfFit) → Answers tx ax room (f .outcome) (f .at) → Answers ty ay room (g .outcome) (g .at)
+      → Passed a × Lettered a dots p × HalfSaid (chipOf a) ls horizontal room (f .outcome) (f .at) × HalfSaid (chipOf a) ls vertical room (g .outcome) (g .at)
+  first-asked a q tx ax ty ay hx hy room f g x y = rw q (ok, lettered, said horizontal tx ax hx room f x, said vertical ty ay hy room g y)
 
   module _ (tx ax : List ℕ) (hx : Hold c horizontal tx ax) (ty ay : List ℕ) (hy : Hold c vertical ty ay) (here : HeldRecord) (fit : FitHeld c dots p here)
       (k₀ : List ℕ) (sx : Starts ax k₀) (kx : List ℕ) (ox : OrderKept (chipOf c) k₀ kx) (ky : List ℕ) (sy : Starts ay ky)
