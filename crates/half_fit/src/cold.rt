@@ -2,21 +2,21 @@
 use crate::lists::HELP;
 use crate::push::carry;
 use crate::push::narrowest;
-use crate::residual::set_hi;
-use crate::residual::set_lo;
+use crate::residual::set_carried;
+use crate::state::BOTTOM;
 use crate::state::FAR;
 use crate::state::FWD;
-use crate::state::H;
 use crate::state::K;
-use crate::state::L;
 use crate::state::LEN;
 use crate::state::POOL;
 use crate::state::STATE;
+use crate::state::TOP;
 use crate::state::V;
 use crate::state::X;
 use crate::state::at;
-use crate::state::get;
+use crate::state::carried;
 use crate::state::lack_of;
+use crate::state::lesser;
 use crate::state::low_half;
 use crate::state::narrow;
 use crate::state::put;
@@ -228,13 +228,6 @@ fn first(par: &[u32; 16], u: usize) -> usize {
     w
 }
 
-fn lesser(a: u32, b: u32) -> u32 {
-    if a < b {
-        return a;
-    }
-    b
-}
-
 // At most `left` from lo along the way to entry e and over it to hi; how much.
 fn push_way(
     tab: &[u32; TAB],
@@ -252,10 +245,10 @@ fn push_way(
     let q = lesser(left, narrowest(s, o, par, u, v));
     carry(tab, help, arcs, s, o, par, u, v, q);
     let b = wide(at(from, v));
-    let low = get(s, o, L, b);
-    set_lo(tab, help, arcs, s, o, b, wrapping_add_u32(low, q));
-    let high = get(s, o, H, e);
-    set_hi(tab, help, arcs, s, o, e, wrapping_add_u32(high, q));
+    let low = carried(s, o, BOTTOM, b);
+    set_carried(tab, help, arcs, s, o, BOTTOM, b, wrapping_add_u32(low, q));
+    let high = carried(s, o, TOP, e);
+    set_carried(tab, help, arcs, s, o, TOP, e, wrapping_add_u32(high, q));
     q
 }
 

@@ -1,18 +1,19 @@
 // The push of an amount along the parents of a way.
 use crate::lists::HELP;
+use crate::residual::carrier;
+use crate::residual::set_carried;
 use crate::residual::set_flow;
-use crate::residual::set_hi;
-use crate::residual::set_lo;
+use crate::state::BOTTOM;
 use crate::state::F;
 use crate::state::FAR;
 use crate::state::FWD;
-use crate::state::H;
-use crate::state::L;
 use crate::state::LO;
 use crate::state::POOL;
 use crate::state::REV;
+use crate::state::TOP;
 use crate::state::V;
 use crate::state::at;
+use crate::state::carried;
 use crate::state::cell;
 use crate::state::get;
 use crate::state::wide;
@@ -30,10 +31,8 @@ fn spare(s: &[u32; POOL], o: usize, p: usize, w: usize) -> u32 {
     if how == REV {
         return get(s, o, F, cell(w, p));
     }
-    if how < LO {
-        return get(s, o, H, wide(how));
-    }
-    get(s, o, L, wide(how) / 256)
+    let e = end_of(how);
+    carried(s, o, e, carrier(e, how))
 }
 
 // What can be pushed along the parents from u back to v.
@@ -56,38 +55,30 @@ pub(crate) fn narrowest(s: &[u32; POOL], o: usize, par: &[u32; 16], u: usize, v:
     q
 }
 
-// q goes to hi over entry i in place of entry j.
-fn over_hi(
-    tab: &[u32; TAB],
-    help: &[u32; HELP],
-    arcs: &[u32; ARCS],
-    s: &mut [u32; POOL],
-    o: usize,
-    i: usize,
-    j: usize,
-    q: u32,
-) {
-    let a = get(s, o, H, i);
-    set_hi(tab, help, arcs, s, o, i, wrapping_add_u32(a, q));
-    let b = get(s, o, H, j);
-    set_hi(tab, help, arcs, s, o, j, wrapping_sub_u32(b, q));
+// The end of a net at which a residual bound over entries arises.
+fn end_of(how: u32) -> usize {
+    if how < LO {
+        return TOP;
+    }
+    BOTTOM
 }
 
-// q comes from lo over entry j in place of entry i.
-fn over_lo(
+// Entry i carries q more at end e, and entry j q less.
+fn shift(
     tab: &[u32; TAB],
     help: &[u32; HELP],
     arcs: &[u32; ARCS],
     s: &mut [u32; POOL],
     o: usize,
+    e: usize,
     i: usize,
     j: usize,
     q: u32,
 ) {
-    let a = get(s, o, L, i);
-    set_lo(tab, help, arcs, s, o, i, wrapping_sub_u32(a, q));
-    let b = get(s, o, L, j);
-    set_lo(tab, help, arcs, s, o, j, wrapping_add_u32(b, q));
+    let a = carried(s, o, e, i);
+    set_carried(tab, help, arcs, s, o, e, i, wrapping_add_u32(a, q));
+    let b = carried(s, o, e, j);
+    set_carried(tab, help, arcs, s, o, e, j, wrapping_sub_u32(b, q));
 }
 
 // q over the step from p to w.
@@ -115,10 +106,10 @@ fn step(
     let i = wide(how) / 256 % 128;
     let j = wide(how) % 128;
     if how < LO {
-        over_hi(tab, help, arcs, s, o, i, j, q);
+        shift(tab, help, arcs, s, o, TOP, i, j, q);
         return;
     }
-    over_lo(tab, help, arcs, s, o, i, j, q);
+    shift(tab, help, arcs, s, o, BOTTOM, j, i, q);
 }
 
 // q along the parents from u back to v.

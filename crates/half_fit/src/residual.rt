@@ -1,30 +1,28 @@
 // Residual bounds between nodes, changed only where an amount becomes 0 or stops being 0.
-use crate::lists::HA;
-use crate::lists::HD;
 use crate::lists::HELP;
-use crate::lists::LA;
-use crate::lists::LD;
-use crate::lists::list;
+use crate::lists::difference;
+use crate::lists::key;
 use crate::lists::list_from;
 use crate::lists::list_to;
+use crate::state::BOTTOM;
 use crate::state::F;
 use crate::state::FWD;
-use crate::state::H;
 use crate::state::HI;
 use crate::state::K;
-use crate::state::L;
 use crate::state::LO;
 use crate::state::POOL;
 use crate::state::REV;
+use crate::state::TOP;
 use crate::state::TWICE;
 use crate::state::V;
+use crate::state::carried;
 use crate::state::cell;
 use crate::state::get;
 use crate::state::narrow;
 use crate::state::put;
+use crate::state::put_carried;
 use crate::state::wide;
 use crate::tables::ARCS;
-use crate::tables::EL;
 use crate::tables::EO;
 use crate::tables::TAB;
 use crate::tables::above;
@@ -43,26 +41,43 @@ pub(crate) fn offer(s: &mut [u32; POOL], o: usize, c: usize, d: u32, how: u32) {
     }
 }
 
-// How a residual bound over entries i and j arises.
-fn by_entries(kind: u32, i: usize, j: usize) -> u32 {
-    wrapping_add_u32(kind, narrow(i % 128 * 256 + j % 128))
+// How a residual bound over two entries arises at end e of their net.
+fn way_of(e: usize, key: u32) -> u32 {
+    if e == TOP {
+        return wrapping_add_u32(HI, key);
+    }
+    wrapping_add_u32(LO, key)
 }
 
-// The first of a list that carries to hi and is above best, or `to`.
-fn first_hi(
+// The same for entries i and j.
+fn by_entries(e: usize, i: usize, j: usize) -> u32 {
+    way_of(e, narrow(i % 128 * 256 + j % 128))
+}
+
+// Of two entries the one that carries where a residual bound arises over them: the second at hi, the first at lo.
+pub(crate) fn carrier(e: usize, key: u32) -> usize {
+    if e == TOP {
+        return wide(key) % 128;
+    }
+    wide(key) / 256 % 128
+}
+
+// The first of a list that carries at end e and is above best, or `to`.
+fn first_above(
     help: &[u32; HELP],
     s: &[u32; POOL],
     o: usize,
+    e: usize,
     from: usize,
     to: usize,
     best: u32,
 ) -> usize {
     let mut i = from;
     while i < to {
-        if list(help, HD, i) <= best {
+        if difference(help, e, i) <= best {
             return to;
         }
-        if 0 < get(s, o, H, wide(list(help, HA, i))) {
+        if 0 < carried(s, o, e, carrier(e, key(help, e, i))) {
             return i;
         }
         i += 1;
@@ -70,51 +85,12 @@ fn first_hi(
     to
 }
 
-// The first of a list that carries from lo and is above best, or `to`.
-fn first_lo(
-    help: &[u32; HELP],
-    s: &[u32; POOL],
-    o: usize,
-    from: usize,
-    to: usize,
-    best: u32,
-) -> usize {
-    let mut i = from;
-    while i < to {
-        if list(help, LD, i) <= best {
-            return to;
-        }
-        if 0 < get(s, o, L, wide(list(help, LA, i)) / 256) {
-            return i;
-        }
-        i += 1;
-    }
-    to
-}
-
-// The best of two entries into cell c.
-fn refresh_entries(help: &[u32; HELP], s: &mut [u32; POOL], o: usize, c: usize) {
-    let from = list_from(help, c);
+// The best of two entries at end e into cell c.
+fn refresh_end(help: &[u32; HELP], s: &mut [u32; POOL], o: usize, e: usize, c: usize) {
     let to = list_to(help, c);
-    let i = first_hi(help, s, o, from, to, get(s, o, K, c));
+    let i = first_above(help, s, o, e, list_from(help, c), to, get(s, o, K, c));
     if i < to {
-        offer(
-            s,
-            o,
-            c,
-            list(help, HD, i),
-            wrapping_add_u32(HI, list(help, HA, i)),
-        );
-    }
-    let j = first_lo(help, s, o, from, to, get(s, o, K, c));
-    if j < to {
-        offer(
-            s,
-            o,
-            c,
-            list(help, LD, j),
-            wrapping_add_u32(LO, list(help, LA, j)),
-        );
+        offer(s, o, c, difference(help, e, i), way_of(e, key(help, e, i)));
     }
 }
 
@@ -136,7 +112,8 @@ pub(crate) fn refresh(
         let back = wrapping_sub_u32(TWICE, arc(arcs, r));
         offer(s, o, c, back, REV);
     }
-    refresh_entries(help, s, o, c);
+    refresh_end(help, s, o, TOP, c);
+    refresh_end(help, s, o, BOTTOM, c);
 }
 
 // The residual bound between two nodes anew, if it arose as said.
@@ -154,113 +131,87 @@ fn refresh_if(
     }
 }
 
-// Entry i begins to carry to hi.
-fn hi_begins(tab: &[u32; TAB], s: &mut [u32; POOL], o: usize, i: usize) {
-    let v = node_of(tab, i);
-    let to = end_beside(tab, i);
-    let mut j = first_beside(tab, i);
-    while j < to {
-        if j != i {
-            let c = cell(node_of(tab, j), v);
-            offer(s, o, c, above(tab, EO, j, i), by_entries(HI, j, i));
-        }
-        j += 1;
-    }
+// A residual bound over entries i and j at end e of their net.
+fn offer_two(tab: &[u32; TAB], s: &mut [u32; POOL], o: usize, e: usize, i: usize, j: usize) {
+    let c = cell(node_of(tab, i), node_of(tab, j));
+    offer(s, o, c, above(tab, EO + e % 2, i, j), by_entries(e, i, j));
 }
 
-// Entry i carries no more to hi.
-fn hi_ends(
+// The residual bound over entries i and j anew, if it arose over them at end e.
+fn refresh_two(
     tab: &[u32; TAB],
     help: &[u32; HELP],
     arcs: &[u32; ARCS],
     s: &mut [u32; POOL],
     o: usize,
+    e: usize,
     i: usize,
-) {
-    let v = node_of(tab, i);
-    let to = end_beside(tab, i);
-    let mut j = first_beside(tab, i);
-    while j < to {
-        if j != i {
-            refresh_if(help, arcs, s, o, node_of(tab, j), v, by_entries(HI, j, i));
-        }
-        j += 1;
-    }
-}
-
-// Entry i begins to carry from lo.
-fn lo_begins(tab: &[u32; TAB], s: &mut [u32; POOL], o: usize, i: usize) {
-    let u = node_of(tab, i);
-    let to = end_beside(tab, i);
-    let mut j = first_beside(tab, i);
-    while j < to {
-        if j != i {
-            let c = cell(u, node_of(tab, j));
-            offer(s, o, c, above(tab, EL, i, j), by_entries(LO, i, j));
-        }
-        j += 1;
-    }
-}
-
-// Entry i carries no more from lo.
-fn lo_ends(
-    tab: &[u32; TAB],
-    help: &[u32; HELP],
-    arcs: &[u32; ARCS],
-    s: &mut [u32; POOL],
-    o: usize,
-    i: usize,
+    j: usize,
 ) {
     let u = node_of(tab, i);
+    let v = node_of(tab, j);
+    refresh_if(help, arcs, s, o, u, v, by_entries(e, i, j));
+}
+
+// Entry i begins to carry at end e.
+fn begins(tab: &[u32; TAB], s: &mut [u32; POOL], o: usize, e: usize, i: usize) {
     let to = end_beside(tab, i);
     let mut j = first_beside(tab, i);
     while j < to {
         if j != i {
-            refresh_if(help, arcs, s, o, u, node_of(tab, j), by_entries(LO, i, j));
+            if e == TOP {
+                offer_two(tab, s, o, e, j, i);
+            } else {
+                offer_two(tab, s, o, e, i, j);
+            }
         }
         j += 1;
     }
 }
 
-// Entry i carries new to hi.
-pub(crate) fn set_hi(
+// Entry i carries no more at end e.
+fn ends(
     tab: &[u32; TAB],
     help: &[u32; HELP],
     arcs: &[u32; ARCS],
     s: &mut [u32; POOL],
     o: usize,
+    e: usize,
+    i: usize,
+) {
+    let to = end_beside(tab, i);
+    let mut j = first_beside(tab, i);
+    while j < to {
+        if j != i {
+            if e == TOP {
+                refresh_two(tab, help, arcs, s, o, e, j, i);
+            } else {
+                refresh_two(tab, help, arcs, s, o, e, i, j);
+            }
+        }
+        j += 1;
+    }
+}
+
+// Entry i carries new at end e.
+pub(crate) fn set_carried(
+    tab: &[u32; TAB],
+    help: &[u32; HELP],
+    arcs: &[u32; ARCS],
+    s: &mut [u32; POOL],
+    o: usize,
+    e: usize,
     i: usize,
     new: u32,
 ) {
-    let old = get(s, o, H, i);
-    put(s, o, H, i, new);
+    let old = carried(s, o, e, i);
+    put_carried(s, o, e, i, new);
     if new == 0 {
-        hi_ends(tab, help, arcs, s, o, i);
+        ends(tab, help, arcs, s, o, e, i);
         return;
     }
     if old == 0 {
-        hi_begins(tab, s, o, i);
-    }
-}
-
-// Entry i carries new from lo.
-pub(crate) fn set_lo(
-    tab: &[u32; TAB],
-    help: &[u32; HELP],
-    arcs: &[u32; ARCS],
-    s: &mut [u32; POOL],
-    o: usize,
-    i: usize,
-    new: u32,
-) {
-    let old = get(s, o, L, i);
-    put(s, o, L, i, new);
-    if new == 0 {
-        lo_ends(tab, help, arcs, s, o, i);
-        return;
-    }
-    if old == 0 {
-        lo_begins(tab, s, o, i);
+        begins(tab, s, o, e, i);
     }
 }
 

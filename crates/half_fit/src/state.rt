@@ -49,6 +49,11 @@ pub(crate) const HI: u32 = 131072;
 
 pub(crate) const LO: u32 = 196608;
 
+// The ends of a net, hi and lo.
+pub(crate) const TOP: usize = 0;
+
+pub(crate) const BOTTOM: usize = 1;
+
 pub(crate) fn wide(x: u32) -> usize {
     x as usize
 }
@@ -65,6 +70,13 @@ pub(crate) fn times(a: u32, b: u32) -> u64 {
     a as u64 * b as u64
 }
 
+pub(crate) fn lesser(a: u32, b: u32) -> u32 {
+    if a < b {
+        return a;
+    }
+    b
+}
+
 pub(crate) fn cell(u: usize, v: usize) -> usize {
     (u % 16 * 9 + v % 16) % 128
 }
@@ -76,6 +88,15 @@ pub(crate) fn get(s: &[u32; POOL], o: usize, p: usize, k: usize) -> u32 {
 
 pub(crate) fn put(s: &mut [u32; POOL], o: usize, p: usize, k: usize, v: u32) {
     s[o % 4 * STATE + p % 20 * 32 + k % 128] = v;
+}
+
+// What entry i carries at end e of its net.
+pub(crate) fn carried(s: &[u32; POOL], o: usize, e: usize, i: usize) -> u32 {
+    get(s, o, H + e % 2 * 4, i)
+}
+
+pub(crate) fn put_carried(s: &mut [u32; POOL], o: usize, e: usize, i: usize, v: u32) {
+    put(s, o, H + e % 2 * 4, i, v);
 }
 
 // The residual bound from u to v.

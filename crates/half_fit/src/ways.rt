@@ -3,6 +3,7 @@ use crate::state::BIAS;
 use crate::state::FAR;
 use crate::state::POOL;
 use crate::state::at;
+use crate::state::lesser;
 use crate::state::narrow;
 use crate::state::residual;
 use crate::state::set;
@@ -103,18 +104,18 @@ pub(crate) fn distances(
     reach(m, s, o, goal, stop, d, par, rank)
 }
 
-// How much a node at distance y is raised where the others rise by r.
-fn rise(y: u32, r: u32) -> u32 {
-    wrapping_sub_u32(r, pick(y < r, y, r))
+// What is left of r at distance y.
+fn left(y: u32, r: u32) -> u32 {
+    wrapping_sub_u32(r, lesser(y, r))
 }
 
 // The nodes nearer than r are raised by what is left, and all are moved so that node 0 stays.
 pub(crate) fn lift(m: usize, s: &mut [u32; POOL], o: usize, d: &[u32; 16], r: u32) {
-    let z = rise(at(d, 0), r);
+    let z = left(at(d, 0), r);
     let mut w: usize = 0;
     while w < m {
         let x = wrapping_sub_u32(value(s, o, w), z);
-        set_value(s, o, w, wrapping_add_u32(x, rise(at(d, w), r)));
+        set_value(s, o, w, wrapping_add_u32(x, left(at(d, w), r)));
         w += 1;
     }
 }

@@ -1,4 +1,4 @@
--- Sums at nodes and on nets, one amount after the other.
+-- Sums of amounts at their ends, one amount after the other.
 use Prim.Native.Nat.{ℕ, zero, suc, _+_, _*_, _/_, _%_, _≤_, _<_}
 use mathlib.Core.Path.{_≡_, refl, ap, sym, _∙_}
 use mathlib.Core.Bool.{Bool}
@@ -16,9 +16,8 @@ use Rattle.numbers.specs.Sum.{sum, when}
 use Rattle.numbers.proofs.Sums.{when-le}
 use Rattle.flow.specs.Flow.{atNode}
 use Rattle.half_test.specs.Arrays.{entryCount, nodeAt, netAt}
-use Rattle.half_test.specs.Amounts.{fromNode, toNode}
-use Rattle.half_test.specs.State.{amountAt, flowPart, flowAt, hiAt, loAt}
-use Rattle.half_test.specs.Tests.{Gathers, NodeSums, NetSums, EndSums}
+use Rattle.half_test.specs.State.{amountAt}
+use Rattle.half_test.specs.Tests.{Gathers, Small}
 
 pub amount-most : (st : List ℕ) (o p k : ℕ) → amountAt st o p k ≤ 65535
 unfolding amountAt
@@ -47,7 +46,7 @@ module _ (end f : ℕ → ℕ) where
   node-most h zero k = omega arith
   node-most h (suc i) k = let a = node-most h i k in let b = when-le (eqb (end i) k) (f i) in let c = h i in omega arith
 
-  pub sum-below : (n i : ℕ) (r : List ℕ) → Gathers end f i n r → ((s : ℕ) → f s ≤ 65535) → i ≤ 128 → (k : ℕ) → getD r k 0 ≤ 8388480
+  sum-below : (n i : ℕ) (r : List ℕ) → Gathers end f i n r → ((s : ℕ) → f s ≤ 65535) → i ≤ 128 → (k : ℕ) → getD r k 0 ≤ 8388480
   sum-below n i r g h q k = by (decLt k n)
     where
       by : Dec (k < n) → getD r k 0 ≤ 8388480
@@ -75,87 +74,40 @@ module _ (end f : ℕ → ℕ) where
           let w : when (eqb (end i) k) (f i) ≡ 0 = ap (λ (t : Bool). when t (f i)) (ne-eqb (end i) k (λ e. n′ (sym e))) in
           omega arith
 
--- ---- in the shape of the code's needs
+  gathers-same : (n i : ℕ) (r : List ℕ) → Gathers end f i n r → f i ≡ 0 → Gathers end f (i + 1) n r
+  gathers-same n i r h e = record { long = h .long; at = λ k l. let p = h .at k l in let q = node-next i k in let w = when-le (eqb (end i) k) (f i) in omega arith }
 
-module _ (end : ℕ → ℕ) (st : List ℕ) (o p n : ℕ) where
-  any-fits : (i k a : ℕ) (r : List ℕ) → Gathers end (amountAt st o p) i n r → k < n → a ≡ amountAt st o p i → i ≤ 128 → Fits w64 (getD r k 0 + a)
-  any-fits i k a r g l e q = let h = g .at k l in let b = node-most end (amountAt st o p) (amount-most st o p) i k in let c = amount-most st o p i in omega arith
-
-  any-more : (i k a : ℕ) (r : List ℕ) → Gathers end (amountAt st o p) i n r → k ≡ end i → end i < n → a ≡ amountAt st o p i → Gathers end (amountAt st o p) (i + 1) n (set r k (getD r k 0 + a))
-  any-more i k a r g d l e = rw (d, e) (gathers-more end (amountAt st o p) n i r g l)
-
-module _ (tab st : List ℕ) (o p : ℕ) where
-  pub nodes-none : Gathers (nodeAt tab) (amountAt st o p) 0 9 (replicate 9 0)
-  nodes-none = gathers-none (nodeAt tab) (amountAt st o p) 9
-
-  pub nets-none : Gathers (netAt tab) (amountAt st o p) 0 32 (replicate 32 0)
-  nets-none = gathers-none (netAt tab) (amountAt st o p) 32
-
-  module _ (i m k a : ℕ) (r : List ℕ) (lt : i < m) (em : m ≡ entryCount tab) (ea : a ≡ amountAt st o p i) where
-    pub nodes-fits : k ≡ nodeAt tab i → Gathers (nodeAt tab) (amountAt st o p) i 9 r → Fits w64 (getD r k 0 + a)
-    unfolding nodeAt
-    nodes-fits d g = any-fits (nodeAt tab) st o p 9 i k a r g (omega arith) ea (let c = count-most tab in omega arith)
-
-    pub nets-fits : k ≡ netAt tab i → Gathers (netAt tab) (amountAt st o p) i 32 r → Fits w64 (getD r k 0 + a)
-    unfolding netAt
-    nets-fits d g = any-fits (netAt tab) st o p 32 i k a r g (omega arith) ea (let c = count-most tab in omega arith)
-
-  module _ (i k a : ℕ) (r : List ℕ) (ea : a ≡ amountAt st o p i) where
-    pub nodes-more : k ≡ nodeAt tab i → Gathers (nodeAt tab) (amountAt st o p) i 9 r → Gathers (nodeAt tab) (amountAt st o p) (i + 1) 9 (set r k (getD r k 0 + a))
-    unfolding nodeAt
-    nodes-more d g = any-more (nodeAt tab) st o p 9 i k a r g d (omega arith) ea
-
-    pub nets-more : k ≡ netAt tab i → Gathers (netAt tab) (amountAt st o p) i 32 r → Gathers (netAt tab) (amountAt st o p) (i + 1) 32 (set r k (getD r k 0 + a))
-    unfolding netAt
-    nets-more d g = any-more (netAt tab) st o p 32 i k a r g d (omega arith) ea
-
-module _ (tab st : List ℕ) (o i m : ℕ) (hs ls : List ℕ) (le : i ≤ m) (ge : m ≤ i) (em : m ≡ entryCount tab) where
-  is-all : i ≡ entryCount tab
-  is-all = omega arith
-
-  pub nodes-all : Gathers (nodeAt tab) (hiAt st o) i 9 hs → Gathers (nodeAt tab) (loAt st o) i 9 ls → NodeSums tab st o hs ls
-  nodes-all g h = record { high = rw (← is-all) g; low = rw (← is-all) h }
-
-  pub nets-all : Gathers (netAt tab) (hiAt st o) i 32 hs → Gathers (netAt tab) (loAt st o) i 32 ls → NetSums tab st o hs ls
-  nets-all g h = record { high = rw (← is-all) g; low = rw (← is-all) h }
+-- ---- nodes and nets of entries
 
 pub node-below : (tab : List ℕ) (i k : ℕ) → k ≡ nodeAt tab i → k < 9
 unfolding nodeAt
 node-below tab i k d = omega arith
 
-pub net-below : (tab : List ℕ) (i k : ℕ) → k ≡ netAt tab i → k < 32
+pub net-below : (tab : List ℕ) (i j : ℕ) → j ≡ netAt tab i → j < 32
 unfolding netAt
-net-below tab i k d = omega arith
+net-below tab i j d = omega arith
 
 pub node-fits : (tab : List ℕ) (i k : ℕ) → k ≡ nodeAt tab i → Fits w64 (k * 8)
-unfolding nodeAt
-node-fits tab i k d = omega arith
+node-fits tab i k d = let l = node-below tab i k d in omega arith
 
-pub net-fits : (tab : List ℕ) (i k : ℕ) → k ≡ netAt tab i → Fits w64 (k * 8)
-unfolding netAt
-net-fits tab i k d = omega arith
+pub net-fits : (tab : List ℕ) (i j : ℕ) → j ≡ netAt tab i → Fits w64 (j * 8)
+net-fits tab i j d = let l = net-below tab i j d in omega arith
 
--- ---- the bounds
+-- ---- amounts
 
-module _ (st : List ℕ) (o : ℕ) where
-  pub into-none : Gathers toNode (flowAt st o) 0 9 (replicate 9 0)
-  into-none = gathers-none toNode (flowAt st o) 9
+module _ (end : ℕ → ℕ) (st : List ℕ) (o p n : ℕ) where
+  pub any-none : Gathers end (amountAt st o p) 0 n (replicate n 0)
+  any-none = gathers-none end (amountAt st o p) n
 
-  pub from-none : Gathers fromNode (flowAt st o) 0 9 (replicate 9 0)
-  from-none = gathers-none fromNode (flowAt st o) 9
+  pub any-small : (i : ℕ) (r : List ℕ) → Gathers end (amountAt st o p) i n r → i ≤ 128 → Small r
+  any-small i r g q = record { at = sum-below end (amountAt st o p) n i r g (amount-most st o p) q }
 
-  module _ (i a : ℕ) (r : List ℕ) (lt : i < 81) (ea : a ≡ flowAt st o i) where
-    pub into-fits : Gathers toNode (flowAt st o) i 9 r → Fits w64 (getD r (i % 9) 0 + a)
-    into-fits g = any-fits toNode st o flowPart 9 i (i % 9) a r g (omega arith) ea (omega arith)
+  module _ (i k a : ℕ) (r : List ℕ) (g : Gathers end (amountAt st o p) i n r) (e : a ≡ amountAt st o p i) where
+    pub any-fits : k < n → i ≤ 128 → Fits w64 (getD r k 0 + a)
+    any-fits l q = let h = g .at k l in let b = node-most end (amountAt st o p) (amount-most st o p) i k in let c = amount-most st o p i in omega arith
 
-    pub from-fits : Gathers fromNode (flowAt st o) i 9 r → Fits w64 (getD r (i / 9) 0 + a)
-    from-fits g = any-fits fromNode st o flowPart 9 i (i / 9) a r g (omega arith) ea (omega arith)
+    pub any-more : k ≡ end i → end i < n → Gathers end (amountAt st o p) (i + 1) n (set r k (getD r k 0 + a))
+    any-more d l = rw (d, e) (gathers-more end (amountAt st o p) n i r g l)
 
-    pub into-more : Gathers toNode (flowAt st o) i 9 r → Gathers toNode (flowAt st o) (i + 1) 9 (set r (i % 9) (getD r (i % 9) 0 + a))
-    into-more g = any-more toNode st o flowPart 9 i (i % 9) a r g refl (omega arith) ea
-
-    pub from-more : Gathers fromNode (flowAt st o) i 9 r → Gathers fromNode (flowAt st o) (i + 1) 9 (set r (i / 9) (getD r (i / 9) 0 + a))
-    from-more g = any-more fromNode st o flowPart 9 i (i / 9) a r g refl (omega arith) ea
-
-  pub ends-all : (i : ℕ) (is os : List ℕ) → i ≤ 81 → 81 ≤ i → Gathers toNode (flowAt st o) i 9 is → Gathers fromNode (flowAt st o) i 9 os → EndSums st o is os
-  ends-all i is os le ge g h = let e : 81 ≡ i = omega arith in record { into = rw e g; out = rw e h }
+    pub any-same : a ≤ 0 → Gathers end (amountAt st o p) (i + 1) n r
+    any-same z = gathers-same end (amountAt st o p) n i r g (omega arith)

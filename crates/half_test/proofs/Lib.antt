@@ -2,6 +2,7 @@ pub mod Answers
 pub mod Duality
 pub mod Gathering
 pub mod Weighing
+pub mod Summing
 pub mod Passing
 pub mod Above
 pub mod Smallest

@@ -8,12 +8,11 @@ use native.Mathlib.Omega.{arith}
 use lib.ListN.{getD}
 use mir.Syntax.{w64}
 use mir.Val.{Fits}
-use Rattle.half_test.specs.Arrays.{entryCount, nodeAt, weightAt}
-use Rattle.half_test.specs.State.{flowPart, hiPart, loPart, flowAt, hiAt, loAt}
-use Rattle.half_test.specs.Amounts.{fromNode, toNode, Balances, GivesWeights, Passes}
-use Rattle.half_test.specs.Tests.{Says, NodeSums, NetSums, EndSums, Level, Given}
+use Rattle.half_test.specs.Arrays.{entryCount, weightAt}
+use Rattle.half_test.specs.State.{flowAt, hiAt, loAt}
+use Rattle.half_test.specs.Amounts.{Balances, GivesWeights, Passes}
+use Rattle.half_test.specs.Tests.{Says, EntrySums, FlowSums, Small, Level, Given}
 use Rattle.half_test.proofs.Answers.{said}
-use Rattle.half_test.proofs.Gathering.{amount-most, count-most, sum-below}
 
 -- ---- nodes
 
@@ -27,26 +26,11 @@ level-next into low out high k h e = record { at = λ i l. by i l (ℕ-discrete 
     by i l (yes q) = rw q e
     by i l (no n) = h .at i (omega arith)
 
-module _ (tab st : List ℕ) (o : ℕ) (low high into out : List ℕ) (n : NodeSums tab st o high low) (b : EndSums st o into out) where
-  pub into-low-fits : (k : ℕ) → Fits w64 (getD into k 0 + getD low k 0)
-  into-low-fits k =
-      let x = sum-below toNode (flowAt st o) 9 81 into (b .into) (amount-most st o flowPart) (omega arith) k in
-      let y = sum-below (nodeAt tab) (loAt st o) 9 (entryCount tab) low (n .low) (amount-most st o loPart) (count-most tab) k in
-      omega arith
+pub small-fits : (r s : List ℕ) → Small r → Small s → (k : ℕ) → Fits w64 (getD r k 0 + getD s k 0)
+small-fits r s a b k = let p = a .at k in let q = b .at k in omega arith
 
-  pub out-high-fits : (k : ℕ) → Fits w64 (getD out k 0 + getD high k 0)
-  out-high-fits k =
-      let x = sum-below fromNode (flowAt st o) 9 81 out (b .out) (amount-most st o flowPart) (omega arith) k in
-      let y = sum-below (nodeAt tab) (hiAt st o) 9 (entryCount tab) high (n .high) (amount-most st o hiPart) (count-most tab) k in
-      omega arith
-
-  pub level-all : (k : ℕ) → Level into low out high k → 9 ≤ k → Says true (Balances tab (flowAt st o) (hiAt st o) (loAt st o))
-  unfolding Balances
-  level-all k h g = record {
-    then = λ t. record {
-      eq = λ i l. let e = h .at i (omega arith) in let p = n .low .at i l in let q = n .high .at i l in let r = b .into .at i l in let s = b .out .at i l in omega arith;
-    };
-  }
+pub level-all : (into low out high : List ℕ) (k : ℕ) → Level into low out high k → k ≤ 9 → 9 ≤ k → Says true (Level into low out high 9)
+level-all into low out high k h l g = let e : k ≡ 9 = omega arith in record { then = λ t. rw (← e) h }
 
 -- ---- nets
 
@@ -64,10 +48,18 @@ given-next tab hs ls k w g d a b = record { high = λ i l. high i l (ℕ-discret
     low i l (yes q) = rw q (b ∙ d)
     low i l (no n) = g .low i (omega arith)
 
-pub given-all : (tab st : List ℕ) (o : ℕ) (hs ls : List ℕ) (k : ℕ) → NetSums tab st o hs ls → Given tab hs ls k → 32 ≤ k → Says true (GivesWeights tab (hiAt st o) (loAt st o))
-given-all tab st o hs ls k n h l = record { then = λ t. record { high = λ j q. sym (n .high .at j q) ∙ h .high j (omega arith); low = λ j q. sym (n .low .at j q) ∙ h .low j (omega arith) } }
+pub given-all : (tab hs ls : List ℕ) (k : ℕ) → Given tab hs ls k → k ≤ 32 → 32 ≤ k → Says true (Given tab hs ls 32)
+given-all tab hs ls k h l g = let e : k ≡ 32 = omega arith in record { then = λ t. rw (← e) h }
 
 -- ---- both
 
-pub both-pass : (tab st : List ℕ) (o : ℕ) (b g : Bool) → Says b (Balances tab (flowAt st o) (hiAt st o) (loAt st o)) → not b ≡ false → Says g (GivesWeights tab (hiAt st o) (loAt st o)) → Says g (Passes tab (flowAt st o) (hiAt st o) (loAt st o))
-both-pass tab st o b g sb eb sg = record { then = λ t. record { balance = said b sb eb; weights = sg .then t } }
+module _ (tab arcs st : List ℕ) (o : ℕ) (nh nl th tl : List ℕ) (u d : ℕ) (is os : List ℕ) (x y : ℕ) (e : EntrySums tab st o (entryCount tab) nh nl th tl u d) (f : FlowSums arcs st o 81 is os x y) where
+  balanced : Level is nl os nh 9 → Balances tab (flowAt st o) (hiAt st o) (loAt st o)
+  unfolding Balances
+  balanced h = record { eq = λ i l. let e′ = h .at i l in let p = e .node-low .at i l in let q = e .node-high .at i l in let r = f .into .at i l in let s = f .out .at i l in omega arith }
+
+  given : Given tab th tl 32 → GivesWeights tab (hiAt st o) (loAt st o)
+  given h = record { high = λ j l. sym (e .net-high .at j l) ∙ h .high j l; low = λ j l. sym (e .net-low .at j l) ∙ h .low j l }
+
+  pub both-pass : (b g : Bool) → Says b (Level is nl os nh 9) → not b ≡ false → Says g (Given tab th tl 32) → Says g (Passes tab (flowAt st o) (hiAt st o) (loAt st o))
+  both-pass b g sb eb sg = record { then = λ t. record { balance = balanced (said b sb eb); weights = given (sg .then t) } }

@@ -44,18 +44,25 @@ pub record Gathers (end f : ℕ → ℕ) (m n : ℕ) (r : List ℕ) : Type 0 whe
   pub long : length r ≡ n
   pub at : (k : ℕ) → k < n → getD r k 0 ≡ atNode end f m k
 
--- at nodes and on nets, what the entries carry to hi and from lo; at nodes, what the bounds carry into and out of them
-pub record NodeSums (tab st : List ℕ) (o : ℕ) (hs ls : List ℕ) : Type 0 where
-  pub high : Gathers (nodeAt tab) (hiAt st o) (entryCount tab) 9 hs
-  pub low : Gathers (nodeAt tab) (loAt st o) (entryCount tab) 9 ls
+-- of the first m entries: what they carry to hi and from lo at nodes and on nets, and that times greatest and least places
+pub record EntrySums (tab st : List ℕ) (o m : ℕ) (nh nl th tl : List ℕ) (u d : ℕ) : Type 0 where
+  pub node-high : Gathers (nodeAt tab) (hiAt st o) m 9 nh
+  pub node-low : Gathers (nodeAt tab) (loAt st o) m 9 nl
+  pub net-high : Gathers (netAt tab) (hiAt st o) m 32 th
+  pub net-low : Gathers (netAt tab) (loAt st o) m 32 tl
+  pub up : u ≡ weigh (mostAt tab) (hiAt st o) m
+  pub down : d ≡ weigh (leastAt tab) (loAt st o) m
 
-pub record NetSums (tab st : List ℕ) (o : ℕ) (hs ls : List ℕ) : Type 0 where
-  pub high : Gathers (netAt tab) (hiAt st o) (entryCount tab) 32 hs
-  pub low : Gathers (netAt tab) (loAt st o) (entryCount tab) 32 ls
+-- of the first m bounds: what they carry into nodes and out of them, all of it, and that times the bounds
+pub record FlowSums (arcs st : List ℕ) (o m : ℕ) (is os : List ℕ) (a b : ℕ) : Type 0 where
+  pub into : Gathers toNode (flowAt st o) m 9 is
+  pub out : Gathers fromNode (flowAt st o) m 9 os
+  pub all : a ≡ sum (flowAt st o) m
+  pub by : b ≡ weigh (boundAt arcs) (flowAt st o) m
 
-pub record EndSums (st : List ℕ) (o : ℕ) (is os : List ℕ) : Type 0 where
-  pub into : Gathers toNode (flowAt st o) 81 9 is
-  pub out : Gathers fromNode (flowAt st o) 81 9 os
+-- sums of which two are added
+pub record Small (r : List ℕ) : Type 0 where
+  pub at : (k : ℕ) → getD r k 0 ≤ 8388480
 
 -- the first k sums are equal
 pub record Level (into low out high : List ℕ) (k : ℕ) : Type 0 where
@@ -66,15 +73,7 @@ pub record Given (tab hs ls : List ℕ) (k : ℕ) : Type 0 where
   pub high : (j : ℕ) → j < k → getD hs j 0 ≡ weightAt tab j
   pub low : (j : ℕ) → j < k → getD ls j 0 ≡ weightAt tab j
 
--- amounts times greatest and least places; the sum of the bounds' amounts, and of amounts times bounds
-pub record PlaceSums (tab st : List ℕ) (o u d : ℕ) : Type 0 where
-  pub up : u ≡ weigh (mostAt tab) (hiAt st o) (entryCount tab)
-  pub down : d ≡ weigh (leastAt tab) (loAt st o) (entryCount tab)
-
-pub record BoundSums (arcs st : List ℕ) (o a b : ℕ) : Type 0 where
-  pub all : a ≡ sum (flowAt st o) 81
-  pub by : b ≡ weigh (boundAt arcs) (flowAt st o) 81
-
+-- the worth of all amounts
 pub record WorthSums (tab arcs st : List ℕ) (o g l : ℕ) : Type 0 where
   pub more : g ≡ gained tab arcs (flowAt st o) (hiAt st o)
   pub less : l ≡ lost tab (flowAt st o) (loAt st o)

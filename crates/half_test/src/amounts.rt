@@ -1,20 +1,27 @@
-// The tests that amounts balance at every node and give each net its weight.
+// The tests that amounts balance at every node and give each net its weight, and what they are worth.
 ghost use Rattle.half_test.specs.State.{flowAt, hiAt, loAt};
-ghost use Rattle.half_test.specs.Amounts.{Balances, GivesWeights, Passes};
-ghost use Rattle.half_test.specs.Tests.{Says};
-use crate::gather::at_ends;
-use crate::gather::at_nodes;
-use crate::gather::on_nets;
+ghost use Rattle.half_test.specs.Amounts.{Passes};
+ghost use Rattle.half_test.specs.Tests.{Says, Small, Level, Given, WorthSums};
+use crate::gather::OfBounds;
+use crate::gather::OfEntries;
+use crate::gather::of_bounds;
+use crate::gather::of_entries;
 use crate::read::weight;
 
-fn balances(tab: &[u32; 1024], st: &[u32; 2560], o: usize) -> bool
-    ensures { λ r. ⌜ Says r (Balances (now (tab .entry)) (flowAt (now (st .entry)) o) (hiAt (now (st .entry)) o) (loAt (now (st .entry)) o)) ⌝ }
+// Amounts that pass both tests, or may not; their worth is `more` less `less`.
+pub(crate) struct Worth {
+    pub passes: bool,
+    pub more: u64,
+    pub less: u64,
+}
+
+fn balances(e: OfEntries, b: OfBounds) -> bool
+    requires { ⌜ Small (b .into) × Small (b .out) × Small (e .low) × Small (e .high) ⌝ }
+    ensures { λ r. ⌜ Says r (Level (b .into) (e .low) (b .out) (e .high) 9) ⌝ }
 {
-    let n = at_nodes(tab, st, o);
-    let b = at_ends(st, o);
     let mut k: usize = 0;
     while k < 9 {
-        if b.into[k] + n.low[k] != b.out[k] + n.high[k] {
+        if b.into[k] + e.low[k] != b.out[k] + e.high[k] {
             return false;
         }
         k += 1;
@@ -22,17 +29,16 @@ fn balances(tab: &[u32; 1024], st: &[u32; 2560], o: usize) -> bool
     true
 }
 
-fn gives_weights(tab: &[u32; 1024], st: &[u32; 2560], o: usize) -> bool
-    ensures { λ r. ⌜ Says r (GivesWeights (now (tab .entry)) (hiAt (now (st .entry)) o) (loAt (now (st .entry)) o)) ⌝ }
+fn gives_weights(tab: &[u32; 1024], e: OfEntries) -> bool
+    ensures { λ r. ⌜ Says r (Given (now (tab .entry)) (e .hi) (e .lo) 32) ⌝ }
 {
-    let n = on_nets(tab, st, o);
     let mut j: usize = 0;
     while j < 32 {
         let w = weight(tab, j);
-        if n.high[j] != w {
+        if e.hi[j] != w {
             return false;
         }
-        if n.low[j] != w {
+        if e.lo[j] != w {
             return false;
         }
         j += 1;
@@ -40,12 +46,22 @@ fn gives_weights(tab: &[u32; 1024], st: &[u32; 2560], o: usize) -> bool
     true
 }
 
-// Whether the amounts of state o balance and give each net its weight at hi and at lo.
-pub(crate) fn passes(tab: &[u32; 1024], st: &[u32; 2560], o: usize) -> bool
-    ensures { λ r. ⌜ Says r (Passes (now (tab .entry)) (flowAt (now (st .entry)) o) (hiAt (now (st .entry)) o) (loAt (now (st .entry)) o)) ⌝ }
+// The worth of the amounts of state o, and whether they balance and give each net its weight at hi and at lo.
+pub(crate) fn worth_of(tab: &[u32; 1024], arcs: &[u32; 128], st: &[u32; 2560], o: usize) -> Worth
+    ensures { λ r. ⌜ WorthSums (now (tab .entry)) (now (arcs .entry)) (now (st .entry)) o (r .more) (r .less) ⌝ }
+    ensures { λ r. ⌜ Says (r .passes) (Passes (now (tab .entry)) (flowAt (now (st .entry)) o) (hiAt (now (st .entry)) o) (loAt (now (st .entry)) o)) ⌝ }
 {
-    if !balances(tab, st, o) {
-        return false;
+    let e = of_entries(tab, st, o);
+    let b = of_bounds(arcs, st, o);
+    let more = e.up + b.by;
+    let less = e.down + 16777216 * b.all;
+    if !balances(e, b) {
+        return Worth {
+            passes: false,
+            more,
+            less,
+        };
     }
-    gives_weights(tab, st, o)
+    let passes = gives_weights(tab, e);
+    Worth { passes, more, less }
 }

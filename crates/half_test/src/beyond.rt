@@ -2,8 +2,7 @@
 ghost use Rattle.bounds.specs.Half.{AboveOn};
 ghost use Rattle.half_test.specs.Arrays.{axisOn};
 ghost use Rattle.half_test.specs.Tests.{Says};
-use crate::amounts::passes;
-use crate::worth::worth_of;
+use crate::amounts::worth_of;
 
 // Whether the amounts of state o show that the half fit is above the room or does not exist.
 pub fn shows_beyond(
@@ -22,5 +21,5 @@ pub fn shows_beyond(
     if w.more - w.less <= room {
         return false;
     }
-    passes(tab, st, o)
+    w.passes
 }

@@ -1,77 +1,91 @@
-// What amounts give at the nodes and on the nets, each in one pass over the entries or the bounds.
-ghost use Rattle.half_test.specs.Tests.{NodeSums, NetSums, EndSums};
+// What amounts give, in one pass over the entries and one over the bounds.
+ghost use Rattle.half_test.specs.Arrays.{entryCount};
+ghost use Rattle.half_test.specs.Tests.{EntrySums, FlowSums};
 use crate::read::FLOWS;
 use crate::read::HIGHS;
 use crate::read::LOWS;
 use crate::read::amount;
+use crate::read::bound;
 use crate::read::entries;
+use crate::read::least;
+use crate::read::most;
 use crate::read::net;
 use crate::read::node;
 
-// At each node, or on each net, what the entries carry to hi and from lo.
-pub(crate) struct AtNodes {
+// What the entries carry to hi and from lo at each node (high, low) and of each net (hi, lo), and that times their greatest and least places.
+pub(crate) struct OfEntries {
     pub high: [u64; 9],
     pub low: [u64; 9],
+    pub hi: [u64; 32],
+    pub lo: [u64; 32],
+    pub up: u64,
+    pub down: u64,
 }
 
-pub(crate) struct OnNets {
-    pub high: [u64; 32],
-    pub low: [u64; 32],
-}
-
-// Into each node and out of it what the bounds carry.
-pub(crate) struct AtEnds {
+// Into each node and out of it what the bounds carry; all of it, and that times the bounds.
+pub(crate) struct OfBounds {
     pub into: [u64; 9],
     pub out: [u64; 9],
+    pub all: u64,
+    pub by: u64,
 }
 
-pub(crate) fn at_nodes(tab: &[u32; 1024], st: &[u32; 2560], o: usize) -> AtNodes
-    ensures { λ r. ⌜ NodeSums (now (tab .entry)) (now (st .entry)) o (r .high) (r .low) ⌝ }
+pub(crate) fn of_entries(tab: &[u32; 1024], st: &[u32; 2560], o: usize) -> OfEntries
+    ensures { λ r. ⌜ EntrySums (now (tab .entry)) (now (st .entry)) o (entryCount (now (tab .entry))) (r .high) (r .low) (r .hi) (r .lo) (r .up) (r .down) ⌝ }
 {
     let mut high = [0u64; 9];
     let mut low = [0u64; 9];
+    let mut hi = [0u64; 32];
+    let mut lo = [0u64; 32];
+    let mut up: u64 = 0;
+    let mut down: u64 = 0;
     let m = entries(tab);
     let mut e: usize = 0;
     while e < m {
         let k = node(tab, e);
+        let j = net(tab, e);
+        let p = most(tab, e);
+        let q = least(tab, e);
         let a = amount(st, o, HIGHS, e);
         let b = amount(st, o, LOWS, e);
         high[k] += a;
         low[k] += b;
+        hi[j] += a;
+        lo[j] += b;
+        up += p * a;
+        down += q * b;
         e += 1;
     }
-    AtNodes { high, low }
-}
-
-pub(crate) fn on_nets(tab: &[u32; 1024], st: &[u32; 2560], o: usize) -> OnNets
-    ensures { λ r. ⌜ NetSums (now (tab .entry)) (now (st .entry)) o (r .high) (r .low) ⌝ }
-{
-    let mut high = [0u64; 32];
-    let mut low = [0u64; 32];
-    let m = entries(tab);
-    let mut e: usize = 0;
-    while e < m {
-        let k = net(tab, e);
-        let a = amount(st, o, HIGHS, e);
-        let b = amount(st, o, LOWS, e);
-        high[k] += a;
-        low[k] += b;
-        e += 1;
+    OfEntries {
+        high,
+        low,
+        hi,
+        lo,
+        up,
+        down,
     }
-    OnNets { high, low }
 }
 
-pub(crate) fn at_ends(st: &[u32; 2560], o: usize) -> AtEnds
-    ensures { λ r. ⌜ EndSums (now (st .entry)) o (r .into) (r .out) ⌝ }
+pub(crate) fn of_bounds(arcs: &[u32; 128], st: &[u32; 2560], o: usize) -> OfBounds
+    ensures { λ r. ⌜ FlowSums (now (arcs .entry)) (now (st .entry)) o 81 (r .into) (r .out) (r .all) (r .by) ⌝ }
 {
     let mut into = [0u64; 9];
     let mut out = [0u64; 9];
+    let mut all: u64 = 0;
+    let mut by: u64 = 0;
     let mut c: usize = 0;
     while c < 81 {
         let a = amount(st, o, FLOWS, c);
-        into[c % 9] += a;
-        out[c / 9] += a;
+        let b = bound(arcs, c);
+        let u = c / 9;
+        let v = c % 9;
         c += 1;
+        if 0 < a {
+            into[v] += a;
+            out[u] += a;
+            all += a;
+            by += b * a;
+        }
     }
-    AtEnds { into, out }
+    OfBounds { into, out, all, by }
 }

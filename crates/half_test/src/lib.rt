@@ -8,4 +8,3 @@ pub mod proposal;
 mod read;
 mod reason;
 pub mod values;
-mod worth;

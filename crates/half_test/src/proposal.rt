@@ -1,13 +1,12 @@
 // The test of a proposed half fit: coordinates, amounts worth their length, and a reason for each macro's coordinate.
 ghost use Rattle.half_test.specs.State.{coordinates};
 ghost use Rattle.half_test.specs.Answer.{ShownOk};
-use crate::amounts::passes;
+use crate::amounts::worth_of;
 use crate::keeps::keeps_bounds;
 use crate::length::length_at;
 use crate::reason::reasons;
 use crate::values::coordinates_of;
 use crate::values::values_of;
-use crate::worth::worth_of;
 
 // The coordinates of the state are the half fit, of this length; or nothing is shown.
 pub enum Shown {
@@ -35,7 +34,7 @@ pub fn test_fit(tab: &[u32; 1024], arcs: &[u32; 128], st: &[u32; 2560], o: usize
     if w.more - w.less < l {
         return Shown::Not;
     }
-    if !passes(tab, st, o) {
+    if !w.passes {
         return Shown::Not;
     }
     Shown::Fit(l)

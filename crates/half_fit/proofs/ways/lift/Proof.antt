@@ -12,8 +12,8 @@ abbrev μ-loop : tie.MeasureT-loop
 at-requires : tie.Need-at-requires Inv-loop μ-loop
 at-requires c κs = search needs
 
-rise-requires : tie.Need-rise-requires Inv-loop μ-loop
-rise-requires c κs = search needs
+left-requires : tie.Need-left-requires Inv-loop μ-loop
+left-requires c κs = search needs
 
 loop-holds : tie.Need-loop-holds Inv-loop μ-loop
 loop-holds c = search needs
@@ -27,8 +27,8 @@ wrapping-sub-u32-requires c κs = search needs
 at-requires-2 : tie.Need-at-requires-2 Inv-loop μ-loop
 at-requires-2 c κs = search needs
 
-rise-requires-2 : tie.Need-rise-requires-2 Inv-loop μ-loop
-rise-requires-2 c κs = search needs
+left-requires-2 : tie.Need-left-requires-2 Inv-loop μ-loop
+left-requires-2 c κs = search needs
 
 wrapping-add-u32-requires : tie.Need-wrapping-add-u32-requires Inv-loop μ-loop
 wrapping-add-u32-requires c κs = search needs
@@ -55,12 +55,12 @@ lift-spec =
     Inv-loop
     μ-loop
     at-requires
-    rise-requires
+    left-requires
     loop-holds
     value-requires
     wrapping-sub-u32-requires
     at-requires-2
-    rise-requires-2
+    left-requires-2
     wrapping-add-u32-requires
     set-value-requires
     add-w

@@ -1,22 +1,16 @@
 use Prim.Native.Nat.{_≤_, _-_}
 use borrow.Author.Needs.{needs}
 use Rattle.half_test.specs.Tests.{Level}
-use Rattle.half_test.proofs.Passing.{level-none, into-low-fits, out-high-fits, level-next, level-all}
 use Rattle.half_test.proofs.Answers.{says-no}
+use Rattle.half_test.proofs.Passing.{level-none, small-fits, level-next, level-all}
 use Rattle.half_test.proofs.amounts.balances.Statement.{statement}
 use Rattle.half_test.proofs.amounts.balances.Tie as tie
 
 abbrev Inv-loop : tie.InvT-loop
-Inv-loop tab st o n b k₀ k = (k ≤ 9) × Level (b .into) (n .low) (b .out) (n .high) k
+Inv-loop e b k₀ k = (k ≤ 9) × Level (b .into) (e .low) (b .out) (e .high) k
 
 abbrev μ-loop : tie.MeasureT-loop
-μ-loop tab st o n b k₀ k = 9 - k
-
-at-nodes-requires : tie.Need-at-nodes-requires Inv-loop μ-loop
-at-nodes-requires c κs = search needs
-
-at-ends-requires : tie.Need-at-ends-requires Inv-loop μ-loop
-at-ends-requires c κs = search needs
+μ-loop e b k₀ k = 9 - k
 
 loop-holds : tie.Need-loop-holds Inv-loop μ-loop
 loop-holds c = (search needs, search level-none)
@@ -34,7 +28,7 @@ element-copy-out-if1-2 : tie.Need-element-copy-out-if1-2 Inv-loop μ-loop
 element-copy-out-if1-2 c = search needs
 
 add-if1 : tie.Need-add-if1 Inv-loop μ-loop
-add-if1 c = search into-low-fits
+add-if1 c = search small-fits
 
 mul-if1-3 : tie.Need-mul-if1-3 Inv-loop μ-loop
 mul-if1-3 c = search needs
@@ -49,7 +43,7 @@ element-copy-out-if1-4 : tie.Need-element-copy-out-if1-4 Inv-loop μ-loop
 element-copy-out-if1-4 c = search needs
 
 add-if1-2 : tie.Need-add-if1-2 Inv-loop μ-loop
-add-if1-2 c = search out-high-fits
+add-if1-2 c = search small-fits
 
 returns : tie.Need-returns Inv-loop μ-loop
 returns c = search says-no
@@ -72,8 +66,6 @@ balances-spec =
     (tie.spec
     Inv-loop
     μ-loop
-    at-nodes-requires
-    at-ends-requires
     loop-holds
     mul-if1
     element-copy-out-if1

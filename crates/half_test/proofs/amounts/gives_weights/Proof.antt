@@ -1,19 +1,16 @@
 use Prim.Native.Nat.{_≤_, _-_}
 use borrow.Author.Needs.{needs}
 use Rattle.half_test.specs.Tests.{Given}
-use Rattle.half_test.proofs.Passing.{given-none, given-next, given-all}
 use Rattle.half_test.proofs.Answers.{says-no}
+use Rattle.half_test.proofs.Passing.{given-none, given-next, given-all}
 use Rattle.half_test.proofs.amounts.gives_weights.Statement.{statement}
 use Rattle.half_test.proofs.amounts.gives_weights.Tie as tie
 
 abbrev Inv-loop : tie.InvT-loop
-Inv-loop tab st o n j₀ j = (j ≤ 32) × Given tab (n .high) (n .low) j
+Inv-loop tab e j₀ j = (j ≤ 32) × Given tab (e .hi) (e .lo) j
 
 abbrev μ-loop : tie.MeasureT-loop
-μ-loop tab st o n j₀ j = 32 - j
-
-on-nets-requires : tie.Need-on-nets-requires Inv-loop μ-loop
-on-nets-requires c κs = search needs
+μ-loop tab e j₀ j = 32 - j
 
 loop-holds : tie.Need-loop-holds Inv-loop μ-loop
 loop-holds c = (search needs, search given-none)
@@ -57,7 +54,6 @@ gives-weights-spec =
     (tie.spec
     Inv-loop
     μ-loop
-    on-nets-requires
     loop-holds
     weight-requires
     mul-if1

@@ -16,12 +16,9 @@ sub-if2 c = search needs
 returns-2 : tie.Need-returns-2
 returns-2 c = search says-no
 
-passes-requires : tie.Need-passes-requires
-passes-requires c κs = search needs
-
 returns-3 : tie.Need-returns-3
 returns-3 c = search shows-above
 
 pub shows-beyond-spec : {M : Type 1} → statement M
 shows-beyond-spec =
-    tie.close (tie.spec worth-of-requires returns sub-if2 returns-2 passes-requires returns-3)
+    tie.close (tie.spec worth-of-requires returns sub-if2 returns-2 returns-3)

@@ -33,9 +33,6 @@ returns-3 c = search needs
 returns-4 : tie.Need-returns-4
 returns-4 c = search needs
 
-passes-requires : tie.Need-passes-requires
-passes-requires c κs = search needs
-
 returns-5 : tie.Need-returns-5
 returns-5 c = search needs
 
@@ -56,6 +53,5 @@ test-fit-spec =
     worth-of-requires
     returns-3
     returns-4
-    passes-requires
     returns-5
     returns-6)

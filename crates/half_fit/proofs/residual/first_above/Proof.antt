@@ -1,31 +1,31 @@
 use Prim.Native.Nat.{_-_, _≤_}
 use borrow.Author.Needs.{needs}
-use Rattle.half_fit.proofs.residual.first_hi.Statement.{statement}
-use Rattle.half_fit.proofs.residual.first_hi.Tie as tie
+use Rattle.half_fit.proofs.residual.first_above.Statement.{statement}
+use Rattle.half_fit.proofs.residual.first_above.Tie as tie
 
 abbrev Inv-loop : tie.InvT-loop
-Inv-loop help s o from to best i₀ i = 0 ≤ 0
+Inv-loop help s o e from to best i₀ i = 0 ≤ 0
 
 abbrev μ-loop : tie.MeasureT-loop
-μ-loop help s o from to best i₀ i = to - i
+μ-loop help s o e from to best i₀ i = to - i
 
 loop-holds : tie.Need-loop-holds Inv-loop μ-loop
 loop-holds c = search needs
 
-list-requires : tie.Need-list-requires Inv-loop μ-loop
-list-requires c κs = search needs
+difference-requires : tie.Need-difference-requires Inv-loop μ-loop
+difference-requires c κs = search needs
 
 returns : tie.Need-returns Inv-loop μ-loop
 returns c = search needs
 
-list-requires-2 : tie.Need-list-requires-2 Inv-loop μ-loop
-list-requires-2 c κs = search needs
+key-requires : tie.Need-key-requires Inv-loop μ-loop
+key-requires c κs = search needs
 
-wide-requires : tie.Need-wide-requires Inv-loop μ-loop
-wide-requires c κs = search needs
+carrier-requires : tie.Need-carrier-requires Inv-loop μ-loop
+carrier-requires c κs = search needs
 
-get-requires : tie.Need-get-requires Inv-loop μ-loop
-get-requires c κs = search needs
+carried-requires : tie.Need-carried-requires Inv-loop μ-loop
+carried-requires c κs = search needs
 
 returns-2 : tie.Need-returns-2 Inv-loop μ-loop
 returns-2 c = search needs
@@ -42,18 +42,18 @@ loop-again c = search needs
 returns-3 : tie.Need-returns-3 Inv-loop μ-loop
 returns-3 c = search needs
 
-pub first-hi-spec : {M : Type 1} → statement M
-first-hi-spec =
+pub first-above-spec : {M : Type 1} → statement M
+first-above-spec =
     tie.close
     (tie.spec
     Inv-loop
     μ-loop
     loop-holds
-    list-requires
+    difference-requires
     returns
-    list-requires-2
-    wide-requires
-    get-requires
+    key-requires
+    carrier-requires
+    carried-requires
     returns-2
     add-i
     loop-less
