@@ -16,7 +16,8 @@ use Rattle.placement.specs.Order.{before}
 use Rattle.placement.specs.Letters.{Letter, keeps, Pair, pairs, keepsAll, keepsLetters}
 use Rattle.placement.specs.Least.{found, fitOf}
 use Rattle.placement.proofs.OrderLaws.{Compared, before-total, before-irreflexive}
-use Rattle.placement.proofs.Demand.{EarliestLeast, fit-found}
+use Rattle.placement.specs.Demand.{EarliestLeast}
+use Rattle.placement.proofs.Demand.{fit-found}
 use Rattle.placement.proofs.FitIs.{NowhereLarger, not-earlier, letters-long}
 use Rattle.numbers.proofs.Lattice.{Extremes}
 use Rattle.bounds.proofs.Lattice.{low-keeps, high-keeps, lengths-extremes}
