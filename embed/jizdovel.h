@@ -1,7 +1,7 @@
 /* Jizdovel, an exact macro placer: the C interface of the static library libjizdovel.a (x86-64).
  *
  * Every function takes every text, letter string and list, and ends. Each is proved to answer what
- * crates/jizdovel/specs says; docs/PROMISES.md lists the promises.
+ * its contract in crates/jizdovel says; docs/PROMISES.md lists the promises.
  *
  * The answer is a number, and a value beside it that is written through `value`:
  *

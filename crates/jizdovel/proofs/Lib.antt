@@ -1,4 +1,1 @@
-pub mod Numbers
-pub mod Coding
-pub mod MeasureRead
-pub mod FitDone
+pub mod Handing

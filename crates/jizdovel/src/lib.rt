@@ -1,20 +1,17 @@
 // The C interface of the placer, as a static library: bytes and numbers in, a number and a value out. embed/jizdovel.h declares the functions for C.
-mod codes;
-mod fitting;
-mod measuring;
-
-use crate::codes::answer_code;
-use crate::codes::chip_code;
-use crate::codes::record_code;
-use crate::fitting::fit_text;
-use crate::measuring::measure_text;
+use host_codes::answer_code;
+use host_codes::chip_code;
+use host_codes::record_code;
+use host_fit::fit_text;
+use host_measure::measure_text;
 ghost use mathlib.Core.Path.{_≡_};
 ghost use lib.ListN.{length};
 ghost use Rattle.chip.specs.Text.{readChip};
 ghost use Rattle.record.specs.Text.{readRecord};
 ghost use Rattle.search.specs.Place.{placeText};
-ghost use Rattle.jizdovel.specs.Code.{code, ofReading, ofAnswer, ofMeasure, ofFit};
-ghost use Rattle.jizdovel.specs.Services.{measureText, fitText, SlotsFilled, placesAfter};
+ghost use Rattle.host_codes.specs.Code.{code, ofReading, ofAnswer, ofMeasure, ofFit};
+ghost use Rattle.host_measure.specs.MeasureText.{measureText};
+ghost use Rattle.host_fit.specs.FitText.{fitText, SlotsFilled, placesAfter};
 
 // Chip text to record text.
 #[no_mangle]

@@ -1,4 +1,4 @@
-use Rattle.jizdovel.proofs.Coding.{read-handed}
+use Rattle.jizdovel.proofs.Handing.{read-handed}
 use borrow.Author.Needs.{needs}
 use Rattle.jizdovel.proofs.jizdovel_check_chip.Statement.{statement}
 use Rattle.jizdovel.proofs.jizdovel_check_chip.Tie as tie

@@ -1,5 +1,5 @@
 use borrow.Author.Needs.{needs}
-use Rattle.jizdovel.proofs.FitDone.{fit-handed, fit-filled, fit-corners}
+use Rattle.jizdovel.proofs.Handing.{fit-handed, fit-filled, fit-corners}
 use Rattle.jizdovel.proofs.jizdovel_fit.Statement.{statement}
 use Rattle.jizdovel.proofs.jizdovel_fit.Tie as tie
 

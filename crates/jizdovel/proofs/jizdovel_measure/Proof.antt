@@ -1,5 +1,5 @@
 use borrow.Author.Needs.{needs}
-use Rattle.jizdovel.proofs.Coding.{measure-handed}
+use Rattle.jizdovel.proofs.Handing.{measure-handed}
 use Rattle.jizdovel.proofs.jizdovel_measure.Statement.{statement}
 use Rattle.jizdovel.proofs.jizdovel_measure.Tie as tie
 

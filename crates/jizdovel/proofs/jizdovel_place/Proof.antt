@@ -1,4 +1,4 @@
-use Rattle.jizdovel.proofs.Coding.{place-handed, place-left}
+use Rattle.jizdovel.proofs.Handing.{place-handed, place-left}
 use borrow.Author.Needs.{needs}
 use Rattle.jizdovel.proofs.jizdovel_place.Statement.{statement}
 use Rattle.jizdovel.proofs.jizdovel_place.Tie as tie

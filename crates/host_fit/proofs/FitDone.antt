@@ -1,0 +1,177 @@
+-- The fit of a chip text: what is refused before it, and what the two lent lists hold, in the form of the needs.
+use Prim.Native.Nat.{ℕ, _+_, _*_, _≤_, _<_}
+use mathlib.Core.Path.{_≡_, refl, sym, ap, subst, _∙_}
+use mathlib.Core.Bool.{Bool, true, false}
+use Prim.{Unit, tt}
+use mathlib.Core.List.{List}
+use native.Mathlib.Omega.{arith}
+use lib.Dec.{eqb, leb}
+use lib.ListN.{length, take}
+use borrow.Author.Tests.{le-leb, lt-leb}
+use Rattle.model.specs.declared.Chip.{Chip as HeldChip}
+use Rattle.model.specs.declared.Refusal.{Refusal}
+use Rattle.model.specs.declared.Spot.{Spot}
+use Rattle.model.specs.Meaning.{Chip, chipOf}
+use Rattle.grammar.specs.Reading.{Reading, accepted, refused}
+use Rattle.chip.specs.Text.{readChip}
+use Rattle.chip.specs.Passed.{Passed}
+use Rattle.placement.specs.Least.{Best, nothing, found, fitOf}
+use Rattle.slots.specs.Fit.{Fit, refusedBy, noFit, placed, areLetters, lettersOf, letterCount, slotCount, demanded, bestFit, fitChip, fitLetters, Filled}
+use Rattle.branches.proofs.Betters.{Sized}
+use Rattle.branches.proofs.Closing.{fit-sized}
+use Rattle.fit.specs.declared.Fitted.{Fitted}
+use Rattle.fit.specs.declared.FitOutcome.{FitOutcome}
+use Rattle.fit.specs.declared.FitOutcome.the-variants as outcome
+use Rattle.fit.specs.declared.FitAnswer.{FitAnswer}
+use Rattle.fit.specs.Answer.{outcomeOf, positionsOf, answerFor}
+use Rattle.fit.proofs.Outcomes.{take-padded, is-placed, is-none, is-refused}
+use Rattle.host_codes.specs.declared.Code.{Code}
+use Rattle.host_codes.specs.Code.{code, refused as refusedCode, ofFit, ofOutcome}
+use Rattle.host_codes.specs.Lists.{numbersOf}
+use Rattle.host_fit.specs.FitText.{over, fitRead, placesAfter, FitDone, Refusing}
+
+outcome-fit : (f : Fit) → ofOutcome (outcomeOf f) ≡ ofFit f
+outcome-fit (refusedBy number line) = refl
+outcome-fit noFit = refl
+outcome-fit (placed wl slots ps) = refl
+
+-- ---- a placement has a corner for each macro
+
+abbrev SizedFit : ℕ → Fit → Type 0
+SizedFit n (refusedBy number line) = Unit {0}
+SizedFit n noFit = Unit {0}
+SizedFit n (placed wl slots ps) = length ps ≡ n
+
+module _ (n : ℕ) where
+  sized-demanded : (b : Bool) (number : ℕ) (f : Fit) → SizedFit n f → SizedFit n (demanded b number f)
+  sized-demanded true number f h = h
+  sized-demanded false number f h = tt
+
+  sized-best : (slots : ℕ) (b : Best) → Sized n b → SizedFit n (bestFit slots b)
+  sized-best slots nothing h = tt
+  sized-best slots (found wl ps) h = h
+
+module _ (c : HeldChip) (ok : Passed c) (s : List ℕ) where
+  abbrev C : Chip
+  C = chipOf c
+
+  twice : c .n + c .n ≡ 2 * length (C .macs)
+  twice = let e = ok .macs in omega arith
+
+  -- the tests before the space that is lent
+  abbrev lettered : Fit → Fit
+  lettered f = demanded (eqb (length s) (letterCount C)) 11 (demanded (areLetters s) 12 f)
+
+  abbrev best : Fit
+  best = bestFit (slotCount C) (fitOf C (lettersOf s))
+
+  fit-is : (room : ℕ) → fitLetters C s room ≡ lettered (demanded (leb (slotCount C) room) 15 best)
+  unfolding fitLetters
+  fit-is room = ap (λ (t : Reading Chip). fitChip t s room) (sym (ok .read))
+
+  fit-placed-sized : (room : ℕ) → SizedFit (length (C .macs)) (fitLetters C s room)
+  fit-placed-sized room =
+      let n = length (C .macs) in
+      subst (SizedFit n) (sym (fit-is room))
+      (sized-demanded n (eqb (length s) (letterCount C)) 11 (demanded (areLetters s) 12 (demanded (leb (slotCount C) room) 15 best))
+      (sized-demanded n (areLetters s) 12 (demanded (leb (slotCount C) room) 15 best)
+      (sized-demanded n (leb (slotCount C) room) 15 best (sized-best n (slotCount C) (fitOf C (lettersOf s)) (fit-sized C (lettersOf s))))))
+
+  -- ---- the list of positions is too short
+
+  -- 15 for the one list or the other
+  either : (b : Bool) → demanded b 15 (refusedBy 15 0) ≡ refusedBy 15 0
+  either true = refl
+  either false = refl
+
+  module _ (room : ℕ) (h : room < c .n + c .n) where
+    many : 1 < slotCount C
+    many = let e = twice in omega arith
+
+    one-slot : fitLetters C s 1 ≡ lettered (refusedBy 15 0)
+    one-slot = fit-is 1 ∙ ap (λ (b : Bool). lettered (demanded b 15 best)) (lt-leb (slotCount C) 1 many)
+
+    too-short : (slots : ℕ) → fitRead (accepted C) s slots room ≡ lettered (refusedBy 15 0)
+    too-short slots =
+        ap (λ (b : Bool). lettered (demanded (leb (slotCount C) slots) 15 (demanded b 15 best))) (lt-leb (2 * length (C .macs)) room (let e = twice in omega arith))
+        ∙ ap lettered (either (leb (slotCount C) slots))
+
+    -- a refusal leaves both lists
+    slots-stay : (a b : Bool) (l : List ℕ) → Filled C s (demanded a 11 (demanded b 12 (refusedBy 15 0))) l l
+    slots-stay true true l = refl
+    slots-stay true false l = refl
+    slots-stay false b l = refl
+
+    places-stay : (a b : Bool) (l : List ℕ) → l ≡ placesAfter (demanded a 11 (demanded b 12 (refusedBy 15 0))) l
+    places-stay true true l = refl
+    places-stay true false l = refl
+    places-stay false b l = refl
+
+    pub short-done : (one : ℕ) → one ≡ 1 → (a : FitAnswer) → a ≡ answerFor (fitLetters C s one) → (r : Code) → r ≡ code (ofOutcome (a .outcome)) → Refusing c s room r
+    short-done one m a q r e = record { done = by }
+      where
+        told : a .outcome ≡ outcomeOf (fitLetters C s 1)
+        told = ap (λ (t : FitAnswer). t .outcome) q ∙ ap (λ (k : ℕ). outcomeOf (fitLetters C s k)) m
+
+        by : (slots places : List ℕ) → length places ≡ room → FitDone (accepted C) s r slots slots places places
+        by slots places l =
+            let same : fitRead (accepted C) s (length slots) (length places) ≡ lettered (refusedBy 15 0) = ap (fitRead (accepted C) s (length slots)) l ∙ too-short (length slots) in
+            record {
+              answer = e ∙ (ap (λ (t : FitOutcome). code (ofOutcome t)) told ∙ (ap code (outcome-fit (fitLetters C s 1)) ∙ ap (λ (f : Fit). code (ofFit f)) (one-slot ∙ sym same)));
+              filled = subst (λ (f : Fit). Filled C s f slots slots) (sym same) (slots-stay (eqb (length s) (letterCount C)) (areLetters s) slots);
+              corners = places-stay (eqb (length s) (letterCount C)) (areLetters s) places ∙ ap (λ (f : Fit). placesAfter f places) (sym same);
+            }
+
+  -- ---- there is room for the positions
+
+  module _ (slots slotsAfter places : List ℕ) (h : c .n + c .n ≤ length places) (a : FitAnswer) (q : a ≡ answerFor (fitLetters C s (length slots))) (w : Filled C s (fitLetters C s (length slots)) slots slotsAfter) (r : Code) where
+    abbrev F : Fit
+    F = fitLetters C s (length slots)
+
+    same-fit : fitRead (accepted C) s (length slots) (length places) ≡ F
+    same-fit =
+        ap (λ (b : Bool). lettered (demanded (leb (slotCount C) (length slots)) 15 (demanded b 15 best))) (le-leb (2 * length (C .macs)) (length places) (let e = twice in omega arith))
+        ∙ sym (fit-is (length slots))
+
+    outcome-is : a .outcome ≡ outcomeOf F
+    outcome-is = ap (λ (t : FitAnswer). t .outcome) q
+
+    done-by : (placesThen : List ℕ) → r ≡ code (ofFit F) → placesThen ≡ placesAfter F places → FitDone (accepted C) s r slots slotsAfter places placesThen
+    done-by placesThen e p = record {
+      answer = e ∙ ap (λ (f : Fit). code (ofFit f)) (sym same-fit);
+      filled = subst (λ (f : Fit). Filled C s f slots slotsAfter) (sym same-fit) w;
+      corners = p ∙ ap (λ (f : Fit). placesAfter f places) (sym same-fit);
+    }
+
+    coded : (o : FitOutcome) → a .outcome ≡ o → r ≡ code (ofOutcome o) → r ≡ code (ofFit F)
+    coded o k e = e ∙ (ap (λ (t : FitOutcome). code (ofOutcome t)) (sym k ∙ outcome-is) ∙ ap code (outcome-fit F))
+
+    pub long-placed : (f : Fitted) → a .outcome ≡ outcome.Placed f → r ≡ code (ofOutcome (outcome.Placed f)) → (placesThen : List ℕ) → placesThen ≡ over (numbersOf (take (c .n) (a .spots))) places → FitDone (accepted C) s r slots slotsAfter places placesThen
+    long-placed f k e placesThen p = done-by placesThen (coded (outcome.Placed f) k e) (p ∙ (ap (λ (t : List Spot). over (numbersOf t) places) spots ∙ ap (λ (g : Fit). placesAfter g places) (sym is)))
+      where
+        is : F ≡ placed (f .length) (f .slots) (positionsOf F)
+        is = is-placed (a .outcome) F outcome-is f k
+
+        sized : length (positionsOf F) ≡ c .n
+        sized = subst (SizedFit (length (C .macs))) is (fit-placed-sized (length slots)) ∙ ok .macs
+
+        spots : take (c .n) (a .spots) ≡ positionsOf F
+        spots = ap (λ (t : FitAnswer). take (c .n) (t .spots)) q ∙ take-padded (c .n) (positionsOf F) sized
+
+    pub long-none : a .outcome ≡ outcome.NoFit → r ≡ code (ofOutcome outcome.NoFit) → FitDone (accepted C) s r slots slotsAfter places places
+    long-none k e = done-by places (coded outcome.NoFit k e) (ap (λ (f : Fit). placesAfter f places) (sym (is-none (a .outcome) F outcome-is k)))
+
+    pub long-refused : (f : Refusal) → a .outcome ≡ outcome.Refused f → r ≡ code (refusedCode (f .no) (f .line)) → FitDone (accepted C) s r slots slotsAfter places places
+    long-refused f k e = done-by places (coded (outcome.Refused f) k e) (ap (λ (g : Fit). placesAfter g places) (sym (is-refused (a .outcome) F outcome-is f k)))
+
+pub refused-done : (c : HeldChip) (s : List ℕ) (room : ℕ) (r : Code) → Refusing c s room r → (slots places : List ℕ) → room ≡ length places → FitDone (accepted (chipOf c)) s r slots slots places places
+refused-done c s room r d slots places e = d .done slots places (sym e)
+
+-- ---- the chip of a text
+
+module _ (text s slots slotsAfter places placesThen : List ℕ) (r : Code) where
+  pub fit-read : (c : HeldChip) → readChip text ≡ accepted (chipOf c) → FitDone (accepted (chipOf c)) s r slots slotsAfter places placesThen → FitDone (readChip text) s r slots slotsAfter places placesThen
+  fit-read c e d = subst (λ (t : Reading Chip). FitDone t s r slots slotsAfter places placesThen) (sym e) d
+
+pub fit-refused : (text s slots places : List ℕ) (f : Refusal) (r : Code) → readChip text ≡ refused (f .no) (f .line) → r ≡ code (refusedCode (f .no) (f .line)) → FitDone (readChip text) s r slots slots places places
+fit-refused text s slots places f r e q = subst (λ (t : Reading Chip). FitDone t s r slots slots places places) (sym e) (record { answer = q; filled = refl; corners = refl })

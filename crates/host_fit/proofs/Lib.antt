@@ -1,0 +1,2 @@
+pub mod CornersStored
+pub mod FitDone

@@ -1,0 +1,52 @@
+-- What a fit answers and leaves in the two lent lists, over the bytes and numbers that a host hands over.
+use Prim.Native.Nat.{ℕ, _*_}
+use mathlib.Core.Path.{_≡_}
+use mathlib.Core.List.{List, _++_}
+use lib.Dec.{eqb, leb}
+use lib.ListN.{length, drop}
+use Rattle.model.specs.declared.Chip.{Chip as HeldChip}
+use Rattle.model.specs.Meaning.{Chip, chipOf}
+use Rattle.grammar.specs.Reading.{Reading, accepted, refused}
+use Rattle.chip.specs.Text.{readChip}
+use Rattle.placement.specs.Least.{fitOf}
+use Rattle.slots.specs.Fit.{Fit, refusedBy, noFit, placed, areLetters, lettersOf, letterCount, slotCount, demanded, bestFit, Filled}
+use Rattle.host_codes.specs.declared.Code.{Code}
+use Rattle.host_codes.specs.Code.{code, ofFit}
+use Rattle.host_codes.specs.Lists.{numbersOf}
+
+-- the text is read first; then 11, 12, then 15 for the slots and 15 for the positions, by the lengths of the two lists
+abbrev pub fitRead : Reading Chip → List ℕ → ℕ → ℕ → Fit
+fitRead (accepted c) s slots places =
+    demanded (eqb (length s) (letterCount c)) 11
+    (demanded (areLetters s) 12
+    (demanded (leb (slotCount c) slots) 15
+    (demanded (leb (2 * length (c .macs)) places) 15 (bestFit (slotCount c) (fitOf c (lettersOf s))))))
+fitRead (refused number line) s slots places = refusedBy number line
+
+abbrev pub fitText : List ℕ → List ℕ → ℕ → ℕ → Fit
+fitText text s slots places = fitRead (readChip text) s slots places
+
+-- the list of slots: before was in it at entry, after at exit
+abbrev pub SlotsFilled : Reading Chip → List ℕ → Fit → List ℕ → List ℕ → Type 0
+SlotsFilled (accepted c) s f before after = Filled c s f before after
+SlotsFilled (refused number line) s f before after = after ≡ before
+
+-- numbers at the front of a list, the rest as it was
+abbrev pub over : List ℕ → List ℕ → List ℕ
+over xs before = xs ++ drop (length xs) before
+
+-- the list of positions: the corners of a placement, and the rest as it was
+abbrev pub placesAfter : Fit → List ℕ → List ℕ
+placesAfter (placed wl slots ps) before = over (numbersOf ps) before
+placesAfter noFit before = before
+placesAfter (refusedBy number line) before = before
+
+-- the answer and both lists of a fit
+pub record FitDone (read : Reading Chip) (s : List ℕ) (r : Code) (slots slotsAfter places placesThen : List ℕ) : Type 0 where
+  pub answer : r ≡ code (ofFit (fitRead read s (length slots) (length places)))
+  pub filled : SlotsFilled read s (fitRead read s (length slots) (length places)) slots slotsAfter
+  pub corners : placesThen ≡ placesAfter (fitRead read s (length slots) (length places)) places
+
+-- the answer where the list of positions is too short: a refusal, whatever list of slots is lent
+pub record Refusing (c : HeldChip) (s : List ℕ) (room : ℕ) (r : Code) : Type 0 where
+  pub done : (slots places : List ℕ) → length places ≡ room → FitDone (accepted (chipOf c)) s r slots slots places places

@@ -1,0 +1,94 @@
+// The fit of a chip text, with slots and positions into lent lists.
+use chipreader::ChipAnswer;
+use fit::FitOutcome;
+use host_codes::Code;
+use host_codes::fit_code;
+use host_codes::refusal_code;
+use model::Chip;
+use model::Spot;
+ghost use mathlib.Core.Path.{_≡_};
+ghost use Prim.Native.Nat.{_+_, _≤_, _<_};
+ghost use lib.ListN.{length, take};
+ghost use Rattle.model.specs.Meaning.{chipOf};
+ghost use Rattle.grammar.specs.Reading.{accepted};
+ghost use Rattle.chip.specs.Text.{readChip};
+ghost use Rattle.chip.specs.Passed.{Passed};
+ghost use Rattle.host_codes.specs.Lists.{numbersOf};
+ghost use Rattle.host_fit.specs.FitText.{over, FitDone, Refusing};
+
+// The first n corners as numbers x1, y1, x2, y2 ..
+fn put_corners(list: &mut [u64], spots: [Spot; 8], n: usize)
+    requires { ⌜ n ≤ 8 ⌝ }
+    requires { ⌜ n + n ≤ length (now list) ⌝ }
+    ensures { λ _. ⌜ now (list .exit) ≡ over (numbersOf (take n spots)) (now (list .entry)) ⌝ }
+{
+    let mut i: usize = 0;
+    while i < n {
+        let p = spots[i];
+        list[i + i] = p.x;
+        list[i + i + 1] = p.y;
+        i += 1;
+    }
+}
+
+// The refusal where the list of positions is too short: with one slot lent, no fit of a macro is made, so 11, 12 or 15 is answered.
+fn short_code(c: Chip, letters: &[u8], room: usize) -> Code
+    requires { ⌜ Passed c ⌝ }
+    requires { ⌜ room < c .n + c .n ⌝ }
+    ensures { λ r. ⌜ Refusing c (now (letters .entry)) room r ⌝ }
+{
+    let mut one = [0u16; 1];
+    let a = fit::fit_letters(c, letters, &mut one);
+    let outcome = a.outcome;
+    fit_code(outcome)
+}
+
+// A chip that was read, and room for its positions.
+fn long_code(c: Chip, letters: &[u8], slots: &mut [u16], positions: &mut [u64]) -> Code
+    requires { ⌜ Passed c ⌝ }
+    requires { ⌜ c .n + c .n ≤ length (now positions) ⌝ }
+    ensures { λ r. ⌜ FitDone (accepted (chipOf c)) (now (letters .entry)) r (now (slots .entry)) (now (slots .exit)) (now (positions .entry)) (now (positions .exit)) ⌝ }
+{
+    let n = c.n;
+    let a = fit::fit_letters(c, letters, slots);
+    let spots = a.spots;
+    let outcome = a.outcome;
+    match outcome {
+        FitOutcome::Placed(f) => {
+            put_corners(positions, spots, n);
+            fit_code(FitOutcome::Placed(f))
+        }
+        FitOutcome::NoFit => fit_code(FitOutcome::NoFit),
+        FitOutcome::Refused(f) => refusal_code(f),
+    }
+}
+
+// A chip that was read.
+fn fit_chip(c: Chip, letters: &[u8], slots: &mut [u16], positions: &mut [u64]) -> Code
+    requires { ⌜ Passed c ⌝ }
+    ensures { λ r. ⌜ FitDone (accepted (chipOf c)) (now (letters .entry)) r (now (slots .entry)) (now (slots .exit)) (now (positions .entry)) (now (positions .exit)) ⌝ }
+{
+    let n = c.n;
+    let room = positions.len();
+    if room < n + n {
+        return short_code(c, letters, room);
+    }
+    long_code(c, letters, slots, positions)
+}
+
+pub fn fit_text(
+    text: &[u8],
+    letters: &[u8],
+    slots: &mut [u16],
+    positions: &mut [u64],
+) -> Code
+    ensures { λ r. ⌜ FitDone (readChip (now (text .entry))) (now (letters .entry)) r (now (slots .entry)) (now (slots .exit)) (now (positions .entry)) (now (positions .exit)) ⌝ }
+{
+    let read = chipreader::read_chip(text);
+    let answer = read.answer;
+    let c = read.chip;
+    match answer {
+        ChipAnswer::Accepted => fit_chip(c, letters, slots, positions),
+        ChipAnswer::Refused(f) => refusal_code(f),
+    }
+}

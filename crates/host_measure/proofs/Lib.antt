@@ -1,0 +1,2 @@
+pub mod CornersRead
+pub mod MeasureRead

@@ -1,0 +1,23 @@
+use Rattle.host_measure.proofs.MeasureRead.{wrong-count, two-each}
+use borrow.Author.Needs.{needs}
+use Rattle.host_measure.proofs.measure_chip.Statement.{statement}
+use Rattle.host_measure.proofs.measure_chip.Tie as tie
+
+add-if1 : tie.Need-add-if1
+add-if1 c = search needs
+
+returns : tie.Need-returns
+returns c = search (needs, wrong-count)
+
+corners-requires : tie.Need-corners-requires
+corners-requires c κs = search needs
+
+measure-array-requires : tie.Need-measure-array-requires
+measure-array-requires c κs = search needs
+
+returns-2 : tie.Need-returns-2
+returns-2 c = search (needs, two-each)
+
+pub measure-chip-spec : {M : Type 1} → statement M
+measure-chip-spec =
+    tie.close (tie.spec add-if1 returns corners-requires measure-array-requires returns-2)

@@ -1,3 +1,0 @@
-pub mod Code
-pub mod Lists
-pub mod Services
