@@ -76,12 +76,7 @@ fn fit_chip(c: Chip, letters: &[u8], slots: &mut [u16], positions: &mut [u64]) -
     long_code(c, letters, slots, positions)
 }
 
-pub fn fit_text(
-    text: &[u8],
-    letters: &[u8],
-    slots: &mut [u16],
-    positions: &mut [u64],
-) -> Code
+pub fn fit_text(text: &[u8], letters: &[u8], slots: &mut [u16], positions: &mut [u64]) -> Code
     ensures { λ r. ⌜ FitDone (readChip (now (text .entry))) (now (letters .entry)) r (now (slots .entry)) (now (slots .exit)) (now (positions .entry)) (now (positions .exit)) ⌝ }
 {
     let read = chipreader::read_chip(text);
