@@ -13,6 +13,7 @@ use Rattle.model.proofs.FirstOf.{first-take}
 use Rattle.chip.specs.Passed.{Passed}
 use Rattle.placement.specs.Letters.{Letter}
 use Rattle.bounds.specs.Half.{HalfOn}
+use Rattle.slots.specs.declared.Direction.{Direction}
 use Rattle.slots.specs.declared.Direction.the-variants.{Horizontal as horizontal, Vertical as vertical}
 use Rattle.slots.specs.Axes.{axisFor, cornersOn}
 use Rattle.halves.proofs.Halving.{spots-y}
@@ -20,11 +21,14 @@ use Rattle.half_fit.specs.declared.service.HalfFit.{HalfFit}
 use Rattle.half_fit.specs.declared.service.HalfOutcome.{HalfOutcome}
 use Rattle.half_fit.specs.declared.service.HalfOutcome.the-variants as answer
 use Rattle.best.specs.Best.{bestOf, CountIs}
-use Rattle.search.specs.Search.{lettersIn, FitHeld, HalfSaid, uprightSpots, ChildHeld}
+use Rattle.search.specs.Search.{noRecord, lettersIn, FitHeld, roomOf, HalfSaid, uprightSpots, ChildHeld}
 use Rattle.search.specs.Turns.{Beside}
 use Rattle.search.proofs.Cornering.{take-corners}
 use Rattle.search.proofs.FourChildren.{nothing-none}
 use Rattle.search.proofs.Joining.{least-held}
+
+pub upright-is : (l n m : ℕ) (ps qs : List Spot) → n ≡ m → ps ≡ qs → _≡_ {A = HeldRecord} (record { outcome = outcome.Least l n; spots = ps }) (record { outcome = outcome.Least l m; spots = qs })
+upright-is l n m ps qs e f = rw (e, f)
 
 module _ (c : HeldChip) (letters : List ℕ) (p : ℕ) (ok : Passed c) where
   abbrev C : Chip
@@ -67,3 +71,7 @@ module _ (c : HeldChip) (letters : List ℕ) (p : ℕ) (ok : Passed c) where
     where
       no-none : outcome.None ≡ outcome.Least l n → ⊥
       no-none z = let q : _≡_ {A = ℕ} 0 1 = cc in absurd (omega arith)
+
+-- without a placement so far the room is that of the first half fits
+pub first-room : (c : Chip) (ls : List Letter) (d : Direction) (r : HeldRecord) (l : ℕ) (f : HalfFit) → r ≡ noRecord → HalfSaid c ls d 4000000000 (f .outcome) (f .at) → HalfSaid c ls d (roomOf (r .outcome) l) (f .outcome) (f .at)
+first-room c ls d r l f e h = rw e h

@@ -55,15 +55,15 @@ module _ (c : HeldChip) (letters : List ℕ) (p : ℕ) (ok : Passed c) (e : Lett
   long : length (take p letters) ≡ p
   long = let f = e .few in length-take-le p letters (omega arith)
 
-  enough : slotCount C ≤ 728
+  enough : slotCount C ≤ 784
   enough = let m = ok .valid .macCount in let q = ok .valid .pins in let f = e .few in let g = e .count in omega arith
 
-  -- 728 slots are lent, so that no refusal is left
-  fits : fitLetters C (take p letters) 728 ≡ bestFit (slotCount C) (fitOf C ls)
+  -- 784 slots are lent, so that no refusal is left
+  fits : fitLetters C (take p letters) 784 ≡ bestFit (slotCount C) (fitOf C ls)
   unfolding fitLetters
-  fits = rw (← ok .read, eq-eqb (length (take p letters)) (letterCount C) (long ∙ e .count), e .bytes, le-leb (slotCount C) 728 enough)
+  fits = rw (← ok .read, eq-eqb (length (take p letters)) (letterCount C) (long ∙ e .count), e .bytes, le-leb (slotCount C) 784 enough)
 
-  module _ (room : ℕ) (m : room ≡ 728) (a : FitAnswer) (q : a ≡ answerFor (fitLetters C (take p letters) room)) where
+  module _ (room : ℕ) (m : room ≡ 784) (a : FitAnswer) (q : a ≡ answerFor (fitLetters C (take p letters) room)) where
     is : a ≡ answerFor (bestFit (slotCount C) (fitOf C ls))
     is = q ∙ ap answerFor (ap (fitLetters C (take p letters)) m ∙ fits)
 

@@ -1,6 +1,4 @@
 // The search: each call decides one further pair.
-use best::replaced;
-use best::replaces_best;
 use crate::child::child;
 use crate::child::letter_slot;
 use crate::choose::choose;
@@ -15,6 +13,8 @@ use crate::node::Parts;
 use crate::node::decided;
 use crate::node::less;
 use crate::node::no_record;
+use best::replaced;
+use best::replaces_best;
 use bounds::Slot;
 use half_tables::with_bound;
 use model::Outcome;

@@ -69,7 +69,7 @@ pub(crate) fn fit_record(c: Chip, letters: [u8; LETTERS], p: usize) -> Record
     requires { ⌜ Passed c × Lettered c letters p ⌝ }
     ensures { λ r. ⌜ FitHeld c letters p r ⌝ }
 {
-    let mut flow = [0u16; 728];
+    let mut flow = [0u16; 784];
     let a = fit::fit_letters(c, &letters[..p], &mut flow);
     let spots = a.spots;
     let outcome = a.outcome;

@@ -1,6 +1,6 @@
 // What is left of a branch once some letters of a pair are closed.
-use best::replaces_best;
 use crate::node::no_record;
+use best::replaces_best;
 use bounds::Slot;
 use model::Record;
 ghost use mathlib.Core.Path.{_≡_};

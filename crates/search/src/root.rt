@@ -17,6 +17,7 @@ use model::Spot;
 use slots::Direction;
 ghost use mathlib.Core.Path.{_≡_};
 ghost use Prim.Native.Nat.{_<_};
+ghost use lib.ListN.{length};
 ghost use Rattle.model.specs.Meaning.{chipOf};
 ghost use Rattle.chip.specs.Passed.{Passed};
 ghost use Rattle.chip_array.specs.Array.{chipIn};
@@ -88,6 +89,7 @@ fn ordered(c: Chip, e: [u32; 128]) -> [u32; 128]
 // A placement with x 0 and the given y, of length l.
 fn upright(cs: &[u64; 640], at: [u64; 8], l: u64) -> Record
     ensures { λ r. ⌜ r ≡ record { outcome = Outcome.Least l (chipIn (now (cs .entry)) .n); spots = uprightSpots at } ⌝ }
+    ensures { λ r. ⌜ length (r .spots) ≡ 8 ⌝ }
 {
     Record {
         outcome: Outcome::Least(l, macro_count(cs)),

@@ -1,5 +1,7 @@
 use Rattle.search.proofs.Placing.{arrays-hold, arrays-stand, start-counted, whole-record}
 use Rattle.search.proofs.Parts.{lent-asked, lent-searched}
+use Rattle.search.proofs.Joining.{read-held}
+use Rattle.search.proofs.Rooting.{first-asked}
 use borrow.Author.Needs.{needs}
 use Rattle.search.proofs.service.chip_record.Statement.{statement}
 use Rattle.search.proofs.service.chip_record.Tie as tie
@@ -25,23 +27,44 @@ first-half-requires c κs = search needs
 first-half-requires-2 : tie.Need-first-half-requires-2
 first-half-requires-2 c κs = search needs
 
+first-fit-requires : tie.Need-first-fit-requires
+first-fit-requires c κs =
+    let made = c .before .before .before .before .before .before .before .before .before .before .before .before .before .before .before in
+    let lent = made .before .before in
+    let counted = lent .before .before in
+    let ok = counted .before .pre in
+    let across = c .before .before .before .before .before .before .first-half in
+    let up = c .before .first-half2 in
+    first-asked _ _ ok (counted .letter-count .ensures) _ (lent .array-of .ensures) _ _ _ _ (arrays-hold _ _ _ _ ok (made .before .arrays-of .ensures)) (arrays-hold _ _ _ _ ok (made .arrays-of2 .ensures)) _ (across .result) (up .result) (across .ensures) (up .ensures)
+
 root-requires : tie.Need-root-requires
-root-requires c κs = (search needs, search needs, search arrays-hold, search arrays-hold)
+root-requires c κs =
+    let made = c .before .before .before .before .before .before .before .before .before .before .before .before .before .before .before .before in
+    let lent = made .before .before in
+    let counted = lent .before .before in
+    let ok = counted .before .pre in (
+      ok,
+      counted .letter-count .ensures,
+      arrays-hold _ _ _ _ ok (made .before .arrays-of .ensures),
+      arrays-hold _ _ _ _ ok (made .arrays-of2 .ensures),
+      read-held _ _ (lent .array-of .ensures) _ _ _ (c .first-fit .ensures),
+    )
 
 no-record-requires : tie.Need-no-record-requires
 no-record-requires c κs = search needs
 
 search-requires : tie.Need-search-requires
 search-requires c κs =
-    let first = c .before .before .before .before .before .before .before .before .before .before .before .before .before .before .before .before .before .before .before .before .before .before .before .before in
-    let ok = first .before .before .before .before .pre in
-    lent-asked _ _ (first .before .array-of .ensures) _ _ _ _ _ _ ok (first .before .before .parts-of .ensures) (arrays-stand _ _ _ _ _ ok (first .arrays-of .ensures) (c .before .before .before .before .before .before .before .before .before .before .before .before .before .before .before .before .before .before .before .before .before .before .before .arrays-of2 .ensures)) (c .before .before .before .before .before .before .before .before .root .ensures .node) (start-counted _ _ ok (c .no-record .ensures))
+    let made = c .before .before .before .before .before .before .before .before .before .before .before .before .before .before .before .before .before .before .before .before .before .before .before .before .before in
+    let lent = made .before .before in
+    let ok = lent .before .before .before .pre in
+    lent-asked _ _ (lent .array-of .ensures) _ _ _ _ _ _ ok (lent .before .parts-of .ensures) (arrays-stand _ _ _ _ _ ok (made .before .arrays-of .ensures) (made .arrays-of2 .ensures)) (c .before .before .before .before .before .before .before .before .root .ensures .node) (start-counted _ _ ok (c .no-record .ensures))
 
 returns : tie.Need-returns
 returns c =
-    let first = c .before .before .before .before .before .before .before .before .before .before .before .before .before .before .before .before .before .before .before .before .before .before .before .before .before in
-    let counted = first .before .before .before in
-    whole-record _ _ (counted .before .pre) (counted .letter-count .ensures) _ _ _ (c .before .before .before .before .before .before .before .before .before .root .ensures) (c .before .no-record .ensures) (lent-searched _ _ (first .before .array-of .ensures) _ _ _ _ _ _ (c .search .ensures))
+    let lent = c .before .before .before .before .before .before .before .before .before .before .before .before .before .before .before .before .before .before .before .before .before .before .before .before .before .before .before .before in
+    let counted = lent .before .before in
+    whole-record _ _ (counted .before .pre) (counted .letter-count .ensures) _ _ _ (c .before .before .before .before .before .before .before .before .before .root .ensures) (c .before .no-record .ensures) (lent-searched _ _ (lent .array-of .ensures) _ _ _ _ _ _ (c .search .ensures))
 
 pub chip-record-spec : {M : Type 1} → statement M
 chip-record-spec =
@@ -54,6 +77,7 @@ chip-record-spec =
     arrays-of-requires-2
     first-half-requires
     first-half-requires-2
+    first-fit-requires
     root-requires
     no-record-requires
     search-requires
