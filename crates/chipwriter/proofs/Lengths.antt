@@ -1,4 +1,4 @@
--- The text of an item whose values are in range has at most 62 bytes: `items-short`.
+-- The text of an item whose values are in range has at most 62 bytes: `items-short`. A number below 10 to the k has at most k digits: `digits-short`.
 use mathlib.Core.Path.{_≡_, refl}
 use mathlib.Core.Bool.{Bool, true, _&&_, false≢true}
 use mathlib.Core.List.{List, [], _∷_}
@@ -20,11 +20,11 @@ use Rattle.grammar.proofs.FieldsText.{ranges, ranged-got}
 use Rattle.grammar.proofs.Items.{Within}
 use Rattle.grammar.proofs.Every.{Every}
 
-abbrev tenTo : ℕ → ℕ
+abbrev pub tenTo : ℕ → ℕ
 tenTo zero = 1
 tenTo (suc k) = 10 * tenTo k
 
-digits-short : (n k : ℕ) → n < tenTo (suc k) → length (digits n) ≤ suc k
+pub digits-short : (n k : ℕ) → n < tenTo (suc k) → length (digits n) ≤ suc k
 digits-short = by-digits (λ n. (k : ℕ) → n < tenTo (suc k) → length (digits n) ≤ suc k) (λ n h k b. rw (digits-small n h) (omega arith)) large
   where
     large : (n : ℕ) → 10 ≤ n → ((k : ℕ) → n / 10 < tenTo (suc k) → length (digits (n / 10)) ≤ suc k) → (k : ℕ) → n < tenTo (suc k) → length (digits n) ≤ suc k

@@ -1,0 +1,5 @@
+pub mod Numbers
+pub mod LineNumbers
+pub mod RecordShort
+pub mod PrintedShort
+pub mod Printing
