@@ -3,3 +3,4 @@ pub mod LineNumbers
 pub mod RecordShort
 pub mod PrintedShort
 pub mod Printing
+pub mod Refusals

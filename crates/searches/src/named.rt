@@ -40,10 +40,10 @@ fn print_answer(name: &[u8], answer: WriteAnswer, out: &[u8]) {
     }
 }
 
-// A chip's text with a buffer longer than any record.
+// What the program prints for a text, in a buffer longer than any record.
 fn placed(name: &[u8], text: &[u8]) {
     let mut out = [FILL; 256];
-    let answer = search::service::place_text(text, &mut out);
+    let answer = printed::print_text(text, &mut out);
     print_answer(name, answer, &out);
 }
 
@@ -58,6 +58,19 @@ fn lend_first(name: &[u8], text: &[u8], room: usize, out: &mut [u8]) {
 fn lent(name: &[u8], text: &[u8], room: usize) {
     let mut out = [FILL; 256];
     lend_first(name, text, room, &mut out);
+}
+
+fn print_first(name: &[u8], text: &[u8], room: usize, out: &mut [u8]) {
+    if room <= out.len() {
+        let answer = printed::print_text(text, &mut out[0..room]);
+        print_answer(name, answer, out);
+    }
+}
+
+// What the program prints for a text, into the first part of a buffer.
+fn shown(name: &[u8], text: &[u8], room: usize) {
+    let mut out = [FILL; 256];
+    print_first(name, text, room, &mut out);
 }
 
 // A chip held as a value.
@@ -135,6 +148,31 @@ fn texts_refused() {
         b"die,w,5,h,3\nfix,x,2,y,0,w,1,h,2\nfix,x,2,y,0,w,1,h,2\nend\n",
     );
     placed(b"no end", b"die,w,5,h,3\nmac,w,1,h,1\n");
+    placed(b"a field too few", b"die,w,5\n");
+    placed(
+        b"ninth macro",
+        b"die,w,5,h,3\nmac,w,1,h,1\nmac,w,1,h,1\nmac,w,1,h,1\nmac,w,1,h,1\nmac,w,1,h,1\nmac,w,1,h,1\nmac,w,1,h,1\nmac,w,1,h,1\nmac,w,1,h,1\nend\n",
+    );
+    let long = [97u8; 16385];
+    placed(b"16,385 bytes", &long);
+    placed(b"16,384 bytes", &long[0..16384]);
+}
+
+// The line of the empty text's refusal has 20 bytes.
+fn refusals_lent() {
+    shown(b"a refusal into no byte", b"", 0);
+    shown(b"a refusal into 19 bytes", b"", 19);
+    shown(b"a refusal into 20 bytes", b"", 20);
+    shown(
+        b"a record into 9 bytes",
+        b"die,w,3,h,1\nmac,w,4,h,1\nend\n",
+        9,
+    );
+    shown(
+        b"a record into 10 bytes",
+        b"die,w,3,h,1\nmac,w,4,h,1\nend\n",
+        10,
+    );
 }
 
 // Document 01's example; its record has 46 bytes.
@@ -330,6 +368,7 @@ pub fn run() {
     marked();
     slips();
     texts_refused();
+    refusals_lent();
     rooms();
     values();
     easy0();
