@@ -1,4 +1,3 @@
-pub mod Marks
 pub mod OrderLaws
 pub mod Cover
 pub mod FirstLeast

@@ -3,5 +3,4 @@ pub mod Length
 pub mod Order
 pub mod Letters
 pub mod Least
-pub mod Marks
 pub mod Demand
