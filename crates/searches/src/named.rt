@@ -163,8 +163,16 @@ fn refusals_lent() {
     shown(b"a refusal into no byte", b"", 0);
     shown(b"a refusal into 19 bytes", b"", 19);
     shown(b"a refusal into 20 bytes", b"", 20);
-    shown(b"a record into 9 bytes", b"die,w,3,h,1\nmac,w,4,h,1\nend\n", 9);
-    shown(b"a record into 10 bytes", b"die,w,3,h,1\nmac,w,4,h,1\nend\n", 10);
+    shown(
+        b"a record into 9 bytes",
+        b"die,w,3,h,1\nmac,w,4,h,1\nend\n",
+        9,
+    );
+    shown(
+        b"a record into 10 bytes",
+        b"die,w,3,h,1\nmac,w,4,h,1\nend\n",
+        10,
+    );
 }
 
 // Document 01's example; its record has 46 bytes.
