@@ -36,7 +36,8 @@ extern "C" {
 #define JIZDOVEL_YES 0
 #define JIZDOVEL_NO 255
 
-/* The most that a chip can need: bytes of a record, slots of a fit, numbers of a position list. */
+/* Enough for every chip: bytes of a record (it has at most 192, by theorem: `chip-record-short` in
+ * crates/printed/proofs/RecordShort.antt), slots of a fit, numbers of a position list. */
 #define JIZDOVEL_RECORD_BYTES 256
 #define JIZDOVEL_SLOTS 728
 #define JIZDOVEL_POSITIONS 16

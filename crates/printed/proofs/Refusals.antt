@@ -1,4 +1,4 @@
--- The refusal number of every service is 1 to 15, so it is never 0 or 255, the two numbers of the C interface that are no refusal: `write-chip-number` to `fit-number`.
+-- The refusal number of writing, searching, placing, printing, measuring and fitting is 1 to 15, so it is never 0 or 255, the two numbers of the C interface that are no refusal.
 use Prim.Native.Nat.{ℕ, _≤_}
 use mathlib.Core.Path.{_≡_, refl, ap}
 use mathlib.Core.Bool.{Bool, true, false}

@@ -1,4 +1,5 @@
--- What `place` prints for a text. Document 01, "The search and its record": the program prints the record, or `refused,no,4,line,1` (number, line). Lines end with LF.
+-- What `place` prints for a text. Document 01, "The search and its record": the program prints the record, or `refused,no,4,line,1`
+-- (number, line). Lines end with LF.
 use Prim.Native.Nat.{ℕ}
 use mathlib.Core.List.{List, [], _∷_, _++_}
 use lib.Dec.{leb}
@@ -33,6 +34,6 @@ printedRead (refused n l) = refusalLine n l
 abbrev pub printed : List ℕ → List ℕ
 printed text = printedRead (readChip text)
 
--- the same into a lent buffer: in its first bytes, and the rest as it was; refusal 15 where the buffer is shorter, and all of it as it was
+-- the same into a lent buffer: in its first bytes, and the rest as it was; 15 where the buffer is shorter, and all of it as it was
 abbrev pub printText : List ℕ → List ℕ → Written
 printText text out = fit (leb (length (printed text)) (length out)) (printed text) out
