@@ -20,7 +20,7 @@ fn lend_first(name: &[u8], c: Chip, letters: &[u8], room: usize, flow: &mut [u16
 }
 
 // A fit with the first part of a list.
-pub fn lent(name: &[u8], c: Chip, letters: &[u8], room: usize) {
+pub(crate) fn lent(name: &[u8], c: Chip, letters: &[u8], room: usize) {
     let mut flow = [FILL; 800];
     lend_first(name, c, letters, room, &mut flow);
 }
