@@ -1,0 +1,38 @@
+// Runs the cases of standard input through the services and prints every answer.
+//
+// A case is a line: a verb and its fields, each after a tab. In a text \n is LF, \r CR, \xNN the byte NN, \\ a backslash, and {N*s} is s repeated N
+// times. A number is decimal, or `max`, the greatest of 64 bits. Positions are written x,y and parted by blanks. A line that begins with # is passed over.
+//
+//     chip TEXT                      read and written back: `ok`, or number,line
+//     record TEXT                    the same of a record
+//     on TEXT                        the chip that the next lines are about
+//     set KEY NUMBER                 a change of that chip, held as a value (module chips)
+//     write NAME ROOM                that chip written: the length of its text, or number,line
+//     least NAME WL N ROOM POSITIONS a record written
+//     none NAME ROOM                 the record `none` written
+//     make NAME THING NUMBERS        a constructor: `made`, or 4
+//     measure NAME COUNT POSITIONS   legal or not and the wirelength, from an array and from a lent list
+//     fit NAME ROOM LETTERS          a fit, its list counted
+//     strings NAME P COUNT           fits of the first COUNT strings of P letters
+//     spoil NAME LETTERS I A J B     a fit whose list is changed at I and J before it is counted
+//     amounts NAME LETTERS N         the first N amounts of a fit's list
+//     print NAME ROOM                what the program prints for the text
+//     place NAME ROOM                the record of the text
+//     search NAME ROOM               the record of the chip as a value
+mod chips;
+mod count;
+mod fields;
+mod fitting;
+mod measuring;
+mod reading;
+mod report;
+mod searching;
+mod unfold;
+mod values;
+mod verbs;
+
+fn main() {
+    let mut input = io::large_buffer();
+    let n = io::read_full(0, &mut input);
+    verbs::run(&input[0..n]);
+}
