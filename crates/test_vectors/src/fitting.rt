@@ -5,7 +5,6 @@ use crate::count::list_right;
 use crate::count::slot_count;
 use crate::fields::number_at;
 use crate::fields::part;
-use crate::fields::print_at;
 use crate::report::print_numbers;
 use fit::FitAnswer;
 use fit::FitOutcome;

@@ -9,7 +9,7 @@
 //     set KEY NUMBER                 a change of that chip, held as a value (module chips)
 //     write NAME ROOM                that chip written: the length of its text, or number,line
 //     least NAME WL N ROOM POSITIONS a record written
-//     none NAME ROOM                 the record `none` written
+//     none NAME ROOM POSITIONS       the record `none` written; its positions do not count
 //     make NAME THING NUMBERS        a constructor: `made`, or 4
 //     measure NAME COUNT POSITIONS   legal or not and the wirelength, from an array and from a lent list
 //     fit NAME ROOM LETTERS          a fit, its list counted

@@ -1,7 +1,6 @@
 // Values written into lent buffers, and constructors.
 use crate::fields::is_at;
 use crate::fields::number_at;
-use crate::fields::print_at;
 use crate::fields::signed_at;
 use crate::fields::spots_at;
 use crate::report::FILL;
