@@ -164,7 +164,7 @@ fn chips() {
 
 // The record of document 01's example, and `none`.
 fn least(wl: u64, n: usize) -> Record {
-    let mut spots = [Spot { x: 0, y: 0 }; 8];
+    let mut spots = [Spot { x: 0, y: 0 }; Mac::COUNT];
     spots[0] = Spot { x: 0, y: 1 };
     Record {
         outcome: Outcome::Least(wl, n),
@@ -181,7 +181,7 @@ fn far_spot() {
 fn none() {
     let r = Record {
         outcome: Outcome::None,
-        spots: [Spot { x: 9999, y: 0 }; 8],
+        spots: [Spot { x: 9999, y: 0 }; Mac::COUNT],
     };
     write_record(b"none", r);
 }

@@ -60,16 +60,16 @@ fn blank_chip() -> Chip
             y: 0,
             w: 0,
             h: 0,
-        }; 8],
+        }; Fix::COUNT],
         n: 0,
-        macs: [Mac { w: 0, h: 0 }; 8],
+        macs: [Mac { w: 0, h: 0 }; Mac::COUNT],
         t: 0,
-        nets: [Net { weight: 0, pins: 0 }; 32],
+        nets: [Net { weight: 0, pins: 0 }; Net::COUNT],
         pins: [Pin {
             m: 0,
             xup: 0,
             yup: 0,
-        }; 128],
+        }; Pin::COUNT],
     }
 }
 

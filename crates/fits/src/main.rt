@@ -276,12 +276,12 @@ fn heaviest() {
 }
 
 // As large as a chip gets: 8 fixes, 8 macros, 32 nets of four pins; 92 letters, 364 slots in each direction.
-fn full_pins() -> [Pin; 128] {
+fn full_pins() -> [Pin; Pin::COUNT] {
     let mut pins = [Pin {
         m: 0,
         xup: 4096,
         yup: 4096,
-    }; 128];
+    }; Pin::COUNT];
     let mut i: usize = 0;
     while i < 128 {
         pins[i] = Pin {
@@ -294,8 +294,8 @@ fn full_pins() -> [Pin; 128] {
     pins
 }
 
-fn full_nets() -> [Net; 32] {
-    let mut nets = [Net { weight: 1, pins: 4 }; 32];
+fn full_nets() -> [Net; Net::COUNT] {
+    let mut nets = [Net { weight: 1, pins: 4 }; Net::COUNT];
     let mut j: usize = 0;
     while j < 32 {
         nets[j] = Net {
@@ -308,13 +308,13 @@ fn full_nets() -> [Net; 32] {
 }
 
 // Fixes 1 x 1 along the lower edge and the upper edge.
-fn full_fixes() -> [Fix; 8] {
+fn full_fixes() -> [Fix; Fix::COUNT] {
     let mut fixes = [Fix {
         x: 0,
         y: 0,
         w: 1,
         h: 1,
-    }; 8];
+    }; Fix::COUNT];
     let mut i: usize = 0;
     while i < 8 {
         fixes[i] = Fix {
@@ -333,7 +333,7 @@ fn full() -> Chip {
     c.k = 8;
     c.n = 8;
     c.t = 32;
-    let macs = [Mac { w: 1, h: 1 }; 8];
+    let macs = [Mac { w: 1, h: 1 }; Mac::COUNT];
     let fixes = full_fixes();
     let nets = full_nets();
     let pins = full_pins();

@@ -7,11 +7,12 @@ use fit::FitAnswer;
 use fit::FitOutcome;
 use fit::Fitted;
 use model::Chip;
+use model::Mac;
 use model::Refusal;
 use model::Spot;
 
 // Positions from i on that are not 0,0 do not belong to an answer.
-fn print_rest(spots: [Spot; 8], from: usize) {
+fn print_rest(spots: [Spot; Mac::COUNT], from: usize) {
     let mut i = from;
     while i < 8 {
         let s = spots[i];
@@ -31,7 +32,7 @@ fn print_spot(s: Spot) {
     io::print_decimal(1, s.y);
 }
 
-fn print_spots(spots: [Spot; 8], n: usize) {
+fn print_spots(spots: [Spot; Mac::COUNT], n: usize) {
     let mut i: usize = 0;
     while i < 8 {
         if i < n {
@@ -70,7 +71,7 @@ fn flow_right(c: Chip, letters: &[u8], f: Fitted, flow: &[u16]) -> bool {
     list_right(c, letters, flow, f.length, false)
 }
 
-fn print_placed(c: Chip, letters: &[u8], f: Fitted, spots: [Spot; 8], flow: &[u16]) {
+fn print_placed(c: Chip, letters: &[u8], f: Fitted, spots: [Spot; Mac::COUNT], flow: &[u16]) {
     io::print_decimal(1, f.length);
     print_spots(spots, c.n);
     if flow_right(c, letters, f, flow) {

@@ -1,6 +1,7 @@
 // Measures chips at positions and prints a line for each case: number and line of a refusal, or legal or illegal and the wirelength.
 use measure::MeasureAnswer;
 use model::Chip;
+use model::Mac;
 use model::Spot;
 
 fn print_measure(name: &[u8], answer: MeasureAnswer) {
@@ -31,7 +32,7 @@ fn chip_of(text: &[u8]) -> Chip {
 
 // A chip at the first count of up to two positions.
 fn two(name: &[u8], c: Chip, count: usize, a: Spot, b: Spot) {
-    let mut spots = [Spot { x: 0, y: 0 }; 8];
+    let mut spots = [Spot { x: 0, y: 0 }; Mac::COUNT];
     spots[0] = a;
     spots[1] = b;
     print_measure(name, measure::measure_array(c, count, spots));
@@ -106,7 +107,7 @@ fn example_refused() {
 
 // Only the positions below the count belong to the list.
 fn past_the_count() {
-    let mut spots = [Spot { x: 5000, y: 5000 }; 8];
+    let mut spots = [Spot { x: 5000, y: 5000 }; Mac::COUNT];
     spots[0] = Spot { x: 0, y: 1 };
     spots[1] = Spot { x: 0, y: 0 };
     print_measure(
@@ -292,7 +293,7 @@ fn pins() {
 
 // Three macros of which the first and the third overlap.
 fn first_and_third() {
-    let mut spots = [Spot { x: 0, y: 0 }; 8];
+    let mut spots = [Spot { x: 0, y: 0 }; Mac::COUNT];
     spots[1] = Spot { x: 4, y: 0 };
     spots[2] = Spot { x: 1, y: 0 };
     let c = chip_of(b"die,w,9,h,1\nmac,w,2,h,1\nmac,w,2,h,1\nmac,w,2,h,1\nend\n");
@@ -331,7 +332,7 @@ fn longest(name: &[u8], x: u64, y: u64) {
 
 // The example measured over a lent list.
 fn listed(name: &[u8], count: usize, x: u64, y: u64) {
-    let mut spots = [Spot { x: 0, y: 0 }; 8];
+    let mut spots = [Spot { x: 0, y: 0 }; Mac::COUNT];
     spots[0] = Spot { x, y };
     print_measure(name, measurelist::measure_spots(example(), count, spots));
 }

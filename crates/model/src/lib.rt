@@ -263,12 +263,12 @@ impl Pin {
 pub struct Chip {
     pub die: Die,
     pub k: usize,
-    pub fixes: [Fix; 8],
+    pub fixes: [Fix; Fix::COUNT],
     pub n: usize,
-    pub macs: [Mac; 8],
+    pub macs: [Mac; Mac::COUNT],
     pub t: usize,
-    pub nets: [Net; 32],
-    pub pins: [Pin; 128],
+    pub nets: [Net; Net::COUNT],
+    pub pins: [Pin; Pin::COUNT],
 }
 
 // A macro's lower left corner in a placement.
@@ -291,7 +291,7 @@ pub enum Outcome {
 // A record. Spots past the count do not belong to it; a count above the array stands for one macro too many.
 pub struct Record {
     pub outcome: Outcome,
-    pub spots: [Spot; 8],
+    pub spots: [Spot; Mac::COUNT],
 }
 
 impl Record {

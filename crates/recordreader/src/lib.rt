@@ -39,7 +39,7 @@ pub(crate) struct State {
     pub found: bool,
     pub wl: u64,
     pub count: usize,
-    pub spots: [Spot; 8],
+    pub spots: [Spot; Mac::COUNT],
 }
 
 // What a line leads to: its fault, or what has been read with it.
@@ -49,10 +49,10 @@ pub(crate) struct Taken {
 }
 
 // Blank spots: 0,0 each.
-fn blank_spots() -> [Spot; 8]
+fn blank_spots() -> [Spot; Mac::COUNT]
     ensures { λ r. ⌜ r ≡ replicate 8 blankSpot ⌝ }
 {
-    [Spot { x: 0, y: 0 }; 8]
+    [Spot { x: 0, y: 0 }; Mac::COUNT]
 }
 
 // Place: whether a word of rank b may stand after one of rank a: it may where b is from least[a] to most[a].

@@ -11,7 +11,7 @@ use model::Spot;
 pub struct Found {
     pub any: bool,
     pub length: u64,
-    pub spots: [Spot; 8],
+    pub spots: [Spot; Mac::COUNT],
     pub count: u64,
     pub whole: bool,
 }
@@ -19,7 +19,7 @@ pub struct Found {
 // Positions, or that there are no later ones.
 struct Turn {
     over: bool,
-    spots: [Spot; 8],
+    spots: [Spot; Mac::COUNT],
 }
 
 // No sum comes near the limit.
@@ -72,7 +72,7 @@ fn in_die(die: Die, b: Fix) -> bool {
 }
 
 // Whether a box is apart from each of the first count boxes.
-pub fn clear(b: Fix, boxes: [Fix; 8], count: usize) -> bool {
+pub fn clear(b: Fix, boxes: [Fix; Fix::COUNT], count: usize) -> bool {
     let mut i: usize = 0;
     while i < 8 {
         if count <= i {
@@ -95,13 +95,13 @@ fn box_of(m: Mac, s: Spot) -> Fix {
     }
 }
 
-fn boxes_of(macs: [Mac; 8], spots: [Spot; 8]) -> [Fix; 8] {
+fn boxes_of(macs: [Mac; Mac::COUNT], spots: [Spot; Mac::COUNT]) -> [Fix; Fix::COUNT] {
     let mut boxes = [Fix {
         x: 0,
         y: 0,
         w: 0,
         h: 0,
-    }; 8];
+    }; Fix::COUNT];
     let mut i: usize = 0;
     while i < 8 {
         boxes[i] = box_of(macs[i], spots[i]);
@@ -110,7 +110,13 @@ fn boxes_of(macs: [Mac; 8], spots: [Spot; 8]) -> [Fix; 8] {
     boxes
 }
 
-fn legal_box(die: Die, fixes: [Fix; 8], k: usize, boxes: [Fix; 8], i: usize) -> bool {
+fn legal_box(
+    die: Die,
+    fixes: [Fix; Fix::COUNT],
+    k: usize,
+    boxes: [Fix; Fix::COUNT],
+    i: usize,
+) -> bool {
     if 8 <= i {
         return true;
     }
@@ -124,7 +130,13 @@ fn legal_box(die: Die, fixes: [Fix; 8], k: usize, boxes: [Fix; 8], i: usize) -> 
     clear(b, boxes, i)
 }
 
-fn legal_boxes(die: Die, fixes: [Fix; 8], k: usize, boxes: [Fix; 8], n: usize) -> bool {
+fn legal_boxes(
+    die: Die,
+    fixes: [Fix; Fix::COUNT],
+    k: usize,
+    boxes: [Fix; Fix::COUNT],
+    n: usize,
+) -> bool {
     let mut i: usize = 0;
     while i < 8 {
         if n <= i {
@@ -138,7 +150,7 @@ fn legal_boxes(die: Die, fixes: [Fix; 8], k: usize, boxes: [Fix; 8], n: usize) -
     true
 }
 
-fn legal(c: Chip, spots: [Spot; 8]) -> bool {
+fn legal(c: Chip, spots: [Spot; Mac::COUNT]) -> bool {
     let die = c.die;
     let fixes = c.fixes;
     let macs = c.macs;
@@ -146,7 +158,7 @@ fn legal(c: Chip, spots: [Spot; 8]) -> bool {
 }
 
 // Where a pin lies, 4,096 higher.
-fn place_of(spots: [Spot; 8], p: Pin) -> Spot {
+fn place_of(spots: [Spot; Mac::COUNT], p: Pin) -> Spot {
     let m = p.m;
     if m == 0 {
         return Spot { x: p.xup, y: p.yup };
@@ -197,7 +209,12 @@ fn wider(e: Extent, p: Spot) -> Extent {
 }
 
 // Greatest less least x, plus greatest less least y, of count pins from `from` on.
-fn half_around(spots: [Spot; 8], pins: [Pin; 128], from: usize, count: usize) -> u64 {
+fn half_around(
+    spots: [Spot; Mac::COUNT],
+    pins: [Pin; Pin::COUNT],
+    from: usize,
+    count: usize,
+) -> u64 {
     let mut e = Extent {
         least: Spot { x: 65535, y: 65535 },
         most: Spot { x: 0, y: 0 },
@@ -227,7 +244,7 @@ fn after(from: usize, net: Net) -> usize {
     128
 }
 
-fn length_of(c: Chip, spots: [Spot; 8]) -> u64 {
+fn length_of(c: Chip, spots: [Spot; Mac::COUNT]) -> u64 {
     let nets = c.nets;
     let pins = c.pins;
     let t = c.t;
@@ -248,7 +265,7 @@ fn length_of(c: Chip, spots: [Spot; 8]) -> u64 {
 }
 
 // The positions that come next: the last macro's y first, up to the die's sides.
-fn next(spots: [Spot; 8], n: usize, die: Die) -> Turn {
+fn next(spots: [Spot; Mac::COUNT], n: usize, die: Die) -> Turn {
     let mut spots = spots;
     let mut i: usize = 8;
     while 0 < i {
@@ -273,13 +290,13 @@ fn nothing() -> Found {
     Found {
         any: false,
         length: 0,
-        spots: [Spot { x: 0, y: 0 }; 8],
+        spots: [Spot { x: 0, y: 0 }; Mac::COUNT],
         count: 0,
         whole: true,
     }
 }
 
-fn first(spots: [Spot; 8], length: u64) -> Found {
+fn first(spots: [Spot; Mac::COUNT], length: u64) -> Found {
     Found {
         any: true,
         length,
@@ -290,7 +307,7 @@ fn first(spots: [Spot; 8], length: u64) -> Found {
 }
 
 // With one legal placement more, which comes later.
-fn with_legal(found: Found, spots: [Spot; 8], length: u64) -> Found {
+fn with_legal(found: Found, spots: [Spot; Mac::COUNT], length: u64) -> Found {
     if !found.any {
         return first(spots, length);
     }
@@ -304,7 +321,7 @@ fn with_legal(found: Found, spots: [Spot; 8], length: u64) -> Found {
     found
 }
 
-fn tried(c: Chip, spots: [Spot; 8], found: Found) -> Found {
+fn tried(c: Chip, spots: [Spot; Mac::COUNT], found: Found) -> Found {
     if !legal(c, spots) {
         return found;
     }
@@ -315,7 +332,7 @@ fn tried(c: Chip, spots: [Spot; 8], found: Found) -> Found {
 pub fn try_every(c: Chip) -> Found {
     let die = c.die;
     let mut found = nothing();
-    let mut spots = [Spot { x: 0, y: 0 }; 8];
+    let mut spots = [Spot { x: 0, y: 0 }; Mac::COUNT];
     let mut i: usize = 0;
     while i < 1000000 {
         found = tried(c, spots, found);

@@ -85,8 +85,8 @@ fn small_side(case: u64, place: u64, most: u64) -> u64 {
 }
 
 // A macro may be larger than the die.
-fn macs_of(case: u64, most: u64) -> [Mac; 8] {
-    let mut macs = [Mac { w: 1, h: 1 }; 8];
+fn macs_of(case: u64, most: u64) -> [Mac; Mac::COUNT] {
+    let mut macs = [Mac { w: 1, h: 1 }; Mac::COUNT];
     let mut i: usize = 0;
     while i < 8 {
         let at = 200 + 4 * i as u64;
@@ -175,12 +175,12 @@ fn pin_of(case: u64, place: u64, n: usize) -> Pin {
     }
 }
 
-fn pins_of(case: u64, n: usize) -> [Pin; 128] {
+fn pins_of(case: u64, n: usize) -> [Pin; Pin::COUNT] {
     let mut pins = [Pin {
         m: 0,
         xup: 4096,
         yup: 4096,
-    }; 128];
+    }; Pin::COUNT];
     let mut i: usize = 0;
     while i < 16 {
         pins[i] = pin_of(case, 100 + 3 * i as u64, n);
@@ -190,8 +190,8 @@ fn pins_of(case: u64, n: usize) -> [Pin; 128] {
 }
 
 // Weights 1 to 4. One net in seven has one pin, the others have two, three or four.
-fn nets_of(case: u64) -> [Net; 32] {
-    let mut nets = [Net { weight: 1, pins: 1 }; 32];
+fn nets_of(case: u64) -> [Net; Net::COUNT] {
+    let mut nets = [Net { weight: 1, pins: 1 }; Net::COUNT];
     let mut j: usize = 0;
     while j < 4 {
         let at = 50 + 2 * j as u64;
@@ -213,16 +213,16 @@ fn blank_chip(die: Die) -> Chip {
             y: 0,
             w: 0,
             h: 0,
-        }; 8],
+        }; Fix::COUNT],
         n: 0,
-        macs: [Mac { w: 0, h: 0 }; 8],
+        macs: [Mac { w: 0, h: 0 }; Mac::COUNT],
         t: 0,
-        nets: [Net { weight: 0, pins: 0 }; 32],
+        nets: [Net { weight: 0, pins: 0 }; Net::COUNT],
         pins: [Pin {
             m: 0,
             xup: 0,
             yup: 0,
-        }; 128],
+        }; Pin::COUNT],
     }
 }
 

@@ -1,5 +1,6 @@
 // The text of a record, written without the services that are tested.
 use crate::every::Found;
+use model::Mac;
 use model::Spot;
 
 // What the buffers hold before they are lent.
@@ -40,7 +41,7 @@ fn put_spot(out: &mut [u8], at: usize, m: u64, s: Spot) -> usize {
     put(out, a, b"\n")
 }
 
-fn put_spots(out: &mut [u8], at: usize, spots: [Spot; 8], n: usize) -> usize {
+fn put_spots(out: &mut [u8], at: usize, spots: [Spot; Mac::COUNT], n: usize) -> usize {
     let mut a = at;
     let mut i: usize = 0;
     while i < 8 {
