@@ -4,6 +4,7 @@ use mathlib.Core.Path.{_≡_}
 use lib.ListN.{replicate}
 use Rattle.model.specs.declared.Chip.{Chip as HeldChip}
 use Rattle.model.specs.Meaning.{Chip, chipOf, blankFix, blankMac, blankNet, blankPin}
+use Rattle.model.specs.Limits.{mostFixes, mostMacs, mostNets, mostPins}
 use Rattle.grammar.specs.Reading.{Reading, accepted, refused}
 use Rattle.chipreader.specs.declared.ChipAnswer.{ChipAnswer}
 use Rattle.chipreader.specs.declared.ChipAnswer.the-variants as answer
@@ -14,12 +15,12 @@ abbrev pub blankChip : HeldChip
 blankChip = record {
   die = record { w = 0; h = 0 };
   k = 0;
-  fixes = replicate 8 blankFix;
+  fixes = replicate mostFixes blankFix;
   n = 0;
-  macs = replicate 8 blankMac;
+  macs = replicate mostMacs blankMac;
   t = 0;
-  nets = replicate 32 blankNet;
-  pins = replicate 128 blankPin;
+  nets = replicate mostNets blankNet;
+  pins = replicate mostPins blankPin;
 }
 
 -- document 01's number and values for each case of the answer

@@ -10,6 +10,7 @@ use Rattle.model.specs.declared.Word.the-variants as word
 use Rattle.model.specs.declared.Chip.{Chip}
 use Rattle.model.specs.Meaning.{chipOf, firstOf, blankNet}
 use Rattle.model.proofs.Nets.{taken}
+use Rattle.model.specs.Limits.{mostFixes, mostMacs, mostNets, mostPins}
 use Rattle.grammar.specs.Words.{isWord}
 use Rattle.grammar.specs.Reading.{Step, next, fault as faulty}
 use Rattle.line.specs.declared.Fault.{Fault}
@@ -29,10 +30,10 @@ pub record Holds {A : Type 0} (most count : ℕ) (items : List A) : Type 0 where
 
 -- the counts stay within the arrays, the pins are those that the nets take, and a net stands before a pin
 pub record Sound (s : State) : Type 0 where
-  pub fixes : Holds 8 (s .chip .k) (s .chip .fixes)
-  pub macs : Holds 8 (s .chip .n) (s .chip .macs)
-  pub nets : Holds 32 (s .chip .t) (s .chip .nets)
-  pub pins : Holds 128 (s .pins) (s .chip .pins)
+  pub fixes : Holds mostFixes (s .chip .k) (s .chip .fixes)
+  pub macs : Holds mostMacs (s .chip .n) (s .chip .macs)
+  pub nets : Holds mostNets (s .chip .t) (s .chip .nets)
+  pub pins : Holds mostPins (s .pins) (s .chip .pins)
   pub counted : taken (firstOf blankNet (s .chip .t) (s .chip .nets)) ≡ s .pins
   pub opened : (isWord (s .last) word.Net || isWord (s .last) word.Pin) ≡ true → 1 ≤ s .chip .t
 

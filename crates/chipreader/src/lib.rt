@@ -8,6 +8,7 @@ use model::Mac;
 use model::Net;
 use model::Pin;
 use model::Refusal;
+use model::TEXT_MOST;
 use model::Word;
 ghost use mathlib.Core.Path.{_≡_};
 ghost use Rattle.model.specs.Meaning.{chipOf};
@@ -374,7 +375,7 @@ pub fn read_chip(text: &[u8]) -> ChipRead
     ensures { λ r. ⌜ meantChip r ≡ readChip (now (text .entry)) ⌝ }
     ensures { λ r. ⌜ afterRefusal (r .answer) (r .chip) ≡ blankChip ⌝ }
 {
-    if 16384 < text.len() {
+    if TEXT_MOST < text.len() {
         return refused(1, 0);
     }
     read_lines(text)

@@ -6,6 +6,7 @@ use model::Mac;
 use model::Net;
 use model::Pin;
 use model::Refusal;
+use model::TEXT_MOST;
 use model::Tested;
 use model::WriteAnswer;
 ghost use mathlib.Core.Path.{_≡_};
@@ -122,10 +123,10 @@ fn pin_in_range(p: Pin) -> bool
     if Mac::COUNT < p.m {
         return false;
     }
-    if !model::within(p.xup, Pin::PLACE_LEAST_UP, Pin::PLACE_MOST_UP) {
+    if !model::within(p.xup, Pin::LEAST_UP, Pin::MOST_UP) {
         return false;
     }
-    model::within(p.yup, Pin::PLACE_LEAST_UP, Pin::PLACE_MOST_UP)
+    model::within(p.yup, Pin::LEAST_UP, Pin::MOST_UP)
 }
 
 // The fault of pin i of a chip with n macros, or 0: count 6, range 4, no such macro 8.
@@ -290,7 +291,7 @@ pub fn test_chip(c: Chip) -> Tested
         return Tested::Passed;
     };
     let mut none = [0u8; 1];
-    if 16384 < chipprinter::put_chip(&mut none, 0, c) {
+    if TEXT_MOST < chipprinter::put_chip(&mut none, 0, c) {
         return Tested::Refused(Refusal { no: 1, line: 0 });
     }
     Tested::Refused(f)

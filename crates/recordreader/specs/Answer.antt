@@ -5,6 +5,7 @@ use lib.ListN.{replicate}
 use Rattle.model.specs.declared.Outcome.the-variants as outcome
 use Rattle.model.specs.declared.Record.{Record as HeldRecord}
 use Rattle.model.specs.Meaning.{Record, recordOf, blankSpot}
+use Rattle.model.specs.Limits.{mostMacs}
 use Rattle.grammar.specs.Reading.{Reading, accepted, refused}
 use Rattle.recordreader.specs.declared.RecordAnswer.{RecordAnswer}
 use Rattle.recordreader.specs.declared.RecordAnswer.the-variants as answer
@@ -12,7 +13,7 @@ use Rattle.recordreader.specs.declared.RecordRead.{RecordRead}
 
 -- a record that holds nothing
 abbrev pub blankRecord : HeldRecord
-blankRecord = record { outcome = outcome.None; spots = replicate 8 blankSpot }
+blankRecord = record { outcome = outcome.None; spots = replicate mostMacs blankSpot }
 
 -- document 01's number and values for each case of the answer
 abbrev pub meant : RecordAnswer → HeldRecord → Reading Record

@@ -8,6 +8,7 @@ use lib.Dec.{leb}
 use Rattle.model.specs.declared.Word.the-variants as word
 use Rattle.model.specs.declared.Spot.{Spot}
 use Rattle.model.specs.Meaning.{Record, none, least, firstOf, blankSpot}
+use Rattle.model.specs.Limits.{mostMacs}
 use Rattle.grammar.specs.Words.{isWord}
 use Rattle.grammar.specs.Reading.{Step, next, fault as faulty}
 use Rattle.line.specs.declared.Fault.{Fault}
@@ -27,8 +28,8 @@ partOf s = record { last = s .last; result = resultOf (s .found) (s .wl) (s .cou
 
 -- the count stays within the array, and is 0 before a `least` line, which stands before an `at` line
 pub record Sound (s : State) : Type 0 where
-  pub few : s .count ≤ 8
-  pub long : length (s .spots) ≡ 8
+  pub few : s .count ≤ mostMacs
+  pub long : length (s .spots) ≡ mostMacs
   pub blank : s .found ≡ false → s .count ≡ 0
   pub opened : (isWord (s .last) word.Least || isWord (s .last) word.At) ≡ true → s .found ≡ true
 

@@ -6,6 +6,7 @@ use model::Outcome;
 use model::Record;
 use model::Refusal;
 use model::Spot;
+use model::TEXT_MOST;
 use model::Word;
 ghost use mathlib.Core.Path.{_≡_};
 ghost use Prim.Native.Nat.{_≤_, _<_};
@@ -322,7 +323,7 @@ pub fn read_record(text: &[u8]) -> RecordRead
     ensures { λ r. ⌜ meantRecord r ≡ readRecord (now (text .entry)) ⌝ }
     ensures { λ r. ⌜ afterRefusal (r .answer) (r .record) ≡ blankRecord ⌝ }
 {
-    if 16384 < text.len() {
+    if TEXT_MOST < text.len() {
         return refused(1, 0);
     }
     read_lines(text)

@@ -4,6 +4,7 @@ use model::Outcome;
 use model::Record;
 use model::Refusal;
 use model::Spot;
+use model::TEXT_MOST;
 use model::Tested;
 use model::Word;
 use model::WriteAnswer;
@@ -120,7 +121,7 @@ pub fn test_record(r: Record) -> Tested
     ensures { λ t. ⌜ testedAs (recordOf r) t ≡ readRecord (recordText (recordOf r)) ⌝ }
 {
     let mut none = [0u8; 1];
-    if 16384 < put_record(&mut none, 0, r) {
+    if TEXT_MOST < put_record(&mut none, 0, r) {
         return Tested::Refused(Refusal { no: 1, line: 0 });
     }
     test_lines(r)
