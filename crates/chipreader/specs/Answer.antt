@@ -1,7 +1,7 @@
 -- What the chip reader's answer means.
-use Prim.Native.Nat.{ℕ}
 use mathlib.Core.Path.{_≡_}
 use lib.ListN.{replicate}
+use Rattle.model.specs.declared.Refusal.{Refusal}
 use Rattle.model.specs.declared.Chip.{Chip as HeldChip}
 use Rattle.model.specs.Meaning.{Chip, chipOf, blankFix, blankMac, blankNet, blankPin}
 use Rattle.model.specs.Limits.{mostFixes, mostMacs, mostNets, mostPins}
@@ -37,9 +37,9 @@ abbrev pub afterRefusal : ChipAnswer → HeldChip → HeldChip
 afterRefusal answer.Accepted c = blankChip
 afterRefusal (answer.Refused f) c = c
 
--- refusal n at line l, with a blank chip
-abbrev pub refusedAt : ℕ → ℕ → ChipRead
-refusedAt n l = record { answer = answer.Refused (record { no = n; line = l }); chip = blankChip }
+-- the refusal f, with a blank chip
+abbrev pub refusedAt : Refusal → ChipRead
+refusedAt f = record { answer = answer.Refused f; chip = blankChip }
 
 -- r is the answer for a text that is read so
 pub record ReadOk (read : Reading Chip) (r : ChipRead) : Type 0 where

@@ -7,6 +7,7 @@ use lib.ListN.{length, getD}
 use lib.Dec.{leb}
 use Rattle.model.specs.declared.Word.{Word}
 use Rattle.model.specs.declared.Word.the-variants as word
+use Rattle.model.specs.declared.Refusal.{Refusal}
 use Rattle.model.specs.declared.Chip.{Chip}
 use Rattle.model.specs.Meaning.{chipOf, firstOf, blankNet}
 use Rattle.model.proofs.Nets.{taken}
@@ -51,17 +52,23 @@ mayFollow a b = leb (getD leastLast b 0) a && leb a (getD mostLast b 0)
 -- what a line leads to, by its fault
 abbrev pub stepOf : Fault → State → Step Part
 stepOf fault.Clear s = next (partOf s)
-stepOf (fault.No n) s = faulty n
+stepOf (fault.Refused f) s = faulty (f .no)
 
--- fault n, and what was read before
-abbrev pub withFault : State → ℕ → Taken
-withFault s n = record { fault = fault.No n; state = s }
+-- the line of a refusal; where there is none, the line l
+abbrev pub lineOf : Fault → ℕ → ℕ
+lineOf fault.Clear l = l
+lineOf (fault.Refused f) l = f .line
+
+-- the refusal f, and what was read before
+abbrev pub withFault : State → Refusal → Taken
+withFault s f = record { fault = fault.Refused f; state = s }
 
 -- no fault: w is the word of the last line, and c the chip so far
 abbrev pub withChip : State → Word → Chip → Taken
 withChip s w c = record { fault = fault.Clear; state = record { last = w; pins = s .pins; chip = c } }
 
--- t means the step, and what has been read is sound
-pub record TakenOk (t : Taken) (step : Step Part) : Type 0 where
+-- t means the step of line l, and what has been read is sound
+pub record TakenOk (t : Taken) (l : ℕ) (step : Step Part) : Type 0 where
   pub meant : stepOf (t .fault) (t .state) ≡ step
+  pub at : lineOf (t .fault) l ≡ l
   pub sound : Sound (t .state)

@@ -44,10 +44,10 @@ pub(crate) enum Field {
     Refused(Refusal),
 }
 
-// The fault of a line: none, or its number.
+// The fault of a line: none, or its refusal.
 pub enum Fault {
     Clear,
-    No(usize),
+    Refused(Refusal),
 }
 
 // What reading the fields of a line answers.
