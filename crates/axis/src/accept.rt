@@ -1,6 +1,5 @@
 // Whether an axis is within the limits of the solver.
 use crate::above::first_above;
-use crate::solve::NET_ROOM;
 use bounds::Axis;
 use bounds::AxisNet;
 use bounds::AxisPin;
@@ -16,12 +15,6 @@ const SIDE_MOST: u64 = 8192;
 const SHIFT_MOST: u64 = 16384;
 
 const WEIGHT_MOST: u64 = 1000;
-
-const MACRO_ROOM: usize = 8;
-
-const PAIR_ROOM: usize = 120;
-
-const PIN_ROOM: usize = 128;
 
 // A pair's slot between nodes of n macros.
 fn pair_fine(s: Slot, n: usize) -> bool
@@ -43,7 +36,7 @@ fn pair_fine(s: Slot, n: usize) -> bool
 }
 
 // The first p pairs.
-fn pairs_fine(pairs: [Slot; 120], p: usize, n: usize) -> bool
+fn pairs_fine(pairs: [Slot; Axis::PAIRS], p: usize, n: usize) -> bool
     requires { ⌜ p ≤ 120 ⌝ }
     ensures { λ r. ⌜ Decides r (PairsTo n pairs p) ⌝ }
 {
@@ -72,7 +65,7 @@ fn pin_fine(q: AxisPin, n: usize) -> bool
 }
 
 // The pins between two places.
-fn pins_fine(pins: [AxisPin; 128], from: usize, to: usize, n: usize) -> bool
+fn pins_fine(pins: [AxisPin; Axis::PINS], from: usize, to: usize, n: usize) -> bool
     requires { ⌜ from ≤ to ⌝ }
     requires { ⌜ to ≤ 128 ⌝ }
     ensures { λ r. ⌜ Decides r (PinsTo n pins from to) ⌝ }
@@ -102,14 +95,14 @@ fn counts_fine(t: AxisNet, from: usize) -> bool
     if t.pins < 1 {
         return false;
     }
-    if PIN_ROOM - from < t.pins {
+    if Axis::PINS - from < t.pins {
         return false;
     }
     true
 }
 
 // The first t nets, with their pins.
-fn nets_fine(nets: [AxisNet; 32], pins: [AxisPin; 128], t: usize, n: usize) -> bool
+fn nets_fine(nets: [AxisNet; Axis::NETS], pins: [AxisPin; Axis::PINS], t: usize, n: usize) -> bool
     requires { ⌜ t ≤ 32 ⌝ }
     ensures { λ r. ⌜ Decides r (NetsTo n nets pins t) ⌝ }
 {
@@ -134,13 +127,13 @@ fn nets_fine(nets: [AxisNet; 32], pins: [AxisPin; 128], t: usize, n: usize) -> b
 fn frame_fine(a: Axis) -> bool
     ensures { λ r. ⌜ Decides r (FrameTo a) ⌝ }
 {
-    if MACRO_ROOM < a.n {
+    if Axis::MACROS < a.n {
         return false;
     }
-    if PAIR_ROOM < a.p {
+    if Axis::PAIRS < a.p {
         return false;
     }
-    if NET_ROOM < a.t {
+    if Axis::NETS < a.t {
         return false;
     }
     if SIDE_MOST < a.side {

@@ -1,7 +1,7 @@
 // The slots and the nets of an axis, written into the arrays of a graph.
 use crate::graph::SLOT_ROOM;
-use crate::solve::NET_ROOM;
 use crate::solve::Span;
+use bounds::Axis;
 use bounds::AxisNet;
 use bounds::AxisPin;
 use bounds::Slot;
@@ -22,7 +22,7 @@ const FAR: u64 = 32768;
 pub(crate) fn put_sizes(
     ss: [Slot; SLOT_ROOM],
     side: u64,
-    sizes: [u64; 8],
+    sizes: [u64; Axis::MACROS],
     n: usize,
 ) -> [Slot; SLOT_ROOM]
     requires { ⌜ n ≤ 8 ⌝ }
@@ -54,7 +54,7 @@ pub(crate) fn put_sizes(
 pub(crate) fn put_pairs(
     ss: [Slot; SLOT_ROOM],
     at: usize,
-    pairs: [Slot; 120],
+    pairs: [Slot; Axis::PAIRS],
     p: usize,
 ) -> [Slot; SLOT_ROOM]
     requires { ⌜ p ≤ 120 ⌝ }
@@ -90,8 +90,8 @@ pub(crate) fn put_nets(
     at: usize,
     base: u64,
     h: usize,
-    nets: [AxisNet; 32],
-    pins: [AxisPin; 128],
+    nets: [AxisNet; Axis::NETS],
+    pins: [AxisPin; Axis::PINS],
     t: usize,
 ) -> [Slot; SLOT_ROOM]
     requires { ⌜ t ≤ 32 ⌝ }
@@ -152,7 +152,7 @@ pub(crate) fn put_ends(ss: [Slot; SLOT_ROOM], at: usize, h: usize, t: usize) -> 
 }
 
 // How many pins t nets have.
-pub(crate) fn count_pins(nets: [AxisNet; 32], t: usize) -> usize
+pub(crate) fn count_pins(nets: [AxisNet; Axis::NETS], t: usize) -> usize
     requires { ⌜ t ≤ 32 ⌝ }
     requires { ⌜ pinsBefore t nets ≤ 128 ⌝ }
     ensures { λ r. ⌜ r ≡ pinsBefore t nets ⌝ }
@@ -168,7 +168,7 @@ pub(crate) fn count_pins(nets: [AxisNet; 32], t: usize) -> usize
 }
 
 // The ends and the weights of t nets, of n macros.
-pub(crate) fn spans(n: usize, nets: [AxisNet; 32], t: usize) -> [Span; NET_ROOM]
+pub(crate) fn spans(n: usize, nets: [AxisNet; Axis::NETS], t: usize) -> [Span; Axis::NETS]
     requires { ⌜ n ≤ 8 ⌝ }
     requires { ⌜ t ≤ 32 ⌝ }
     ensures { λ r. ⌜ SpansTo n nets t r ⌝ }
@@ -177,7 +177,7 @@ pub(crate) fn spans(n: usize, nets: [AxisNet; 32], t: usize) -> [Span; NET_ROOM]
         lo: 0,
         hi: 0,
         weight: 0,
-    }; NET_ROOM];
+    }; Axis::NETS];
     let mut j: usize = 0;
     while j < t {
         let k = nets[j];

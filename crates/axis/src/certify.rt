@@ -9,8 +9,8 @@ use crate::graph::NODE_ROOM;
 use crate::graph::SLOT_ROOM;
 use crate::propose::NODES;
 use crate::propose::WAYS;
-use crate::solve::NET_ROOM;
 use crate::solve::Span;
+use bounds::Axis;
 use bounds::Slot;
 ghost use mathlib.Core.Path.{_≡_};
 ghost use Prim.Native.Nat.{_<_, _≤_};
@@ -146,7 +146,7 @@ fn slot_sums(g: Graph, f: [u64; SLOT_ROOM]) -> Sums
 }
 
 // The same with the nets' weights, which enter at lo and leave at hi.
-fn net_sums(b: Sums, nets: [Span; NET_ROOM], count: usize) -> Sums
+fn net_sums(b: Sums, nets: [Span; Axis::NETS], count: usize) -> Sums
     requires { ⌜ Modest (b .into) (b .out) ⌝ }
     requires { ⌜ count ≤ netRoom ⌝ }
     requires { ⌜ Spanned nets count ⌝ }
@@ -281,7 +281,7 @@ fn is_rooted(g: Graph, f: [u64; SLOT_ROOM], x: [u64; NODE_ROOM], way: [usize; WA
 }
 
 // The weights of all nets.
-fn total(nets: [Span; NET_ROOM], count: usize) -> u64
+fn total(nets: [Span; Axis::NETS], count: usize) -> u64
     requires { ⌜ count ≤ netRoom ⌝ }
     requires { ⌜ Spanned nets count ⌝ }
     ensures { λ r. ⌜ r ≡ sum (weights nets) count ⌝ }
@@ -297,7 +297,7 @@ fn total(nets: [Span; NET_ROOM], count: usize) -> u64
 }
 
 // Whether the amounts carry the nets' weights from lo to hi.
-fn is_flow(g: Graph, nets: [Span; NET_ROOM], count: usize, f: [u64; SLOT_ROOM]) -> bool
+fn is_flow(g: Graph, nets: [Span; Axis::NETS], count: usize, f: [u64; SLOT_ROOM]) -> bool
     requires { ⌜ Fine g ⌝ }
     requires { ⌜ count ≤ netRoom ⌝ }
     requires { ⌜ Nets g nets count ⌝ }
@@ -317,7 +317,7 @@ fn is_flow(g: Graph, nets: [Span; NET_ROOM], count: usize, f: [u64; SLOT_ROOM]) 
 // Whether the values are the smallest of the least, the amounts prove it, and `way` has parents and ranks.
 pub(crate) fn certified(
     g: Graph,
-    nets: [Span; NET_ROOM],
+    nets: [Span; Axis::NETS],
     count: usize,
     x: [u64; NODE_ROOM],
     f: [u64; SLOT_ROOM],

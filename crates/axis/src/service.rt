@@ -50,7 +50,7 @@ pub enum Verdict {
 // at: the macros' coordinates. amounts: what each listed slot carries, a flow where solved, a closed chain where unsolvable.
 pub struct Solution {
     pub verdict: Verdict,
-    pub at: [u64; 8],
+    pub at: [u64; Axis::MACROS],
     pub amounts: [u64; SLOT_ROOM],
 }
 
@@ -148,7 +148,7 @@ fn add_pairs(a: Axis) -> Solution
     }
     Solution {
         verdict: Verdict::Unsolvable,
-        at: [0u64; 8],
+        at: [0u64; Axis::MACROS],
         amounts: f,
     }
 }
@@ -194,7 +194,7 @@ fn judge_none(a: Axis, c: Proposal) -> Solution
     if is_chain(g, f) {
         return Solution {
             verdict: Verdict::Unsolvable,
-            at: [0u64; 8],
+            at: [0u64; Axis::MACROS],
             amounts: f,
         };
     }
@@ -214,7 +214,7 @@ fn too_large(a: Axis, i: usize) -> Solution
     f[o + 1] = 1;
     Solution {
         verdict: Verdict::Unsolvable,
-        at: [0u64; 8],
+        at: [0u64; Axis::MACROS],
         amounts: f,
     }
 }
@@ -226,7 +226,7 @@ pub fn solve(a: Axis) -> Solution
     if !is_held(a) {
         return Solution {
             verdict: Verdict::Malformed,
-            at: [0u64; 8],
+            at: [0u64; Axis::MACROS],
             amounts: [0u64; SLOT_ROOM],
         };
     }

@@ -7,15 +7,13 @@ use crate::graph::SLOT_ROOM;
 use crate::growth::Growth;
 use crate::growth::grow_step;
 use crate::growth::seed;
+use bounds::Axis;
 ghost use Prim.Native.Nat.{_<_, _≤_};
 ghost use Rattle.axis.specs.Limits.{netRoom};
 ghost use Rattle.axis.specs.Graph.{Fine};
 ghost use Rattle.axis.specs.Growth.{Growing};
 ghost use Rattle.axis.specs.Admit.{Free};
 ghost use Rattle.axis.specs.Solved.{Nets, Settled, Flows, Solved};
-
-// The nets that an axis has room for.
-pub const NET_ROOM: usize = 32;
 
 // The lower and the upper node of a net, and its weight.
 pub struct Span {
@@ -25,7 +23,7 @@ pub struct Span {
 }
 
 // Every net's weight, from amounts of 0.
-fn drain_all(g: Graph, x: [u64; NODE_ROOM], nets: [Span; NET_ROOM], count: usize) -> Flowed
+fn drain_all(g: Graph, x: [u64; NODE_ROOM], nets: [Span; Axis::NETS], count: usize) -> Flowed
     requires { ⌜ Fine g ⌝ }
     requires { ⌜ Free g x ⌝ }
     requires { ⌜ count ≤ netRoom ⌝ }
@@ -66,7 +64,7 @@ fn settle(g: Graph, f: [u64; SLOT_ROOM], w: Growth) -> Growth
 pub(crate) fn solve_axis(
     g: Graph,
     x: [u64; NODE_ROOM],
-    nets: [Span; NET_ROOM],
+    nets: [Span; Axis::NETS],
     count: usize,
 ) -> Flowed
     requires { ⌜ Fine g ⌝ }

@@ -2,6 +2,7 @@
 use crate::drain::lesser;
 use crate::graph::NODE_ROOM;
 use crate::growth::FARTHEST;
+use bounds::Axis;
 use bounds::AxisNet;
 use bounds::AxisPin;
 ghost use mathlib.Core.Path.{_≡_};
@@ -25,7 +26,7 @@ fn greater(a: u64, b: u64) -> u64
 }
 
 // The least and the greatest place of c pins.
-fn net_ends(x: [u64; NODE_ROOM], pins: [AxisPin; 128], from: usize, c: usize) -> Ends
+fn net_ends(x: [u64; NODE_ROOM], pins: [AxisPin; Axis::PINS], from: usize, c: usize) -> Ends
     requires { ⌜ from + c ≤ 128 ⌝ }
     requires { ⌜ PinsIn x pins from (from + c) ⌝ }
     ensures { λ r. ⌜ Around x pins from (from + c) (r .lo) (r .hi) ⌝ }
@@ -49,8 +50,8 @@ pub(crate) fn start_values(
     x: [u64; NODE_ROOM],
     n: usize,
     base: u64,
-    nets: [AxisNet; 32],
-    pins: [AxisPin; 128],
+    nets: [AxisNet; Axis::NETS],
+    pins: [AxisPin; Axis::PINS],
     t: usize,
 ) -> [u64; NODE_ROOM]
     requires { ⌜ n ≤ 8 ⌝ }
@@ -78,12 +79,12 @@ pub(crate) fn start_values(
 }
 
 // How far each of n macros lies from node 0.
-pub(crate) fn coordinates(x: [u64; NODE_ROOM], n: usize) -> [u64; 8]
+pub(crate) fn coordinates(x: [u64; NODE_ROOM], n: usize) -> [u64; Axis::MACROS]
     requires { ⌜ n ≤ 8 ⌝ }
     requires { ⌜ Onwards n x ⌝ }
     ensures { λ r. ⌜ Placed x r n ⌝ }
 {
-    let mut r = [0u64; 8];
+    let mut r = [0u64; Axis::MACROS];
     let mut i: usize = 0;
     while i < n {
         r[i] = x[i + 1] - x[0];

@@ -4,6 +4,7 @@
 // each entry; at 512 where the entries of each net begin, at 576 the nets' weights; at 896 the counts of nets, macros and entries.
 // picks: the pin at the greatest place of each entry, and at 128 on the one at the least. ends: node of each pin, at 128 on its place.
 // arcs: the greatest bound from u to v at place 9 u + v, held higher by 2^24. by: the slot that has it.
+use bounds::Axis;
 use bounds::AxisNet;
 use bounds::AxisPin;
 use bounds::Slot;
@@ -76,11 +77,11 @@ pub(crate) fn put_die(
     arcs: &mut [u32; ARCS],
     by: &mut [usize; ARCS],
     side: u64,
-    sizes: [u64; 8],
+    sizes: [u64; Axis::MACROS],
     n: usize,
 ) {
     let mut i: usize = 0;
-    while i < 8 {
+    while i < Axis::MACROS {
         let w = sizes[i];
         let s = 2 * i;
         let back = i < n;
@@ -96,12 +97,12 @@ pub(crate) fn put_die(
 pub(crate) fn put_letters(
     arcs: &mut [u32; ARCS],
     by: &mut [usize; ARCS],
-    pairs: [Slot; 120],
+    pairs: [Slot; Axis::PAIRS],
     p: usize,
     from: usize,
 ) {
     let mut j: usize = 0;
-    while j < 120 {
+    while j < Axis::PAIRS {
         if p <= j {
             return;
         }
@@ -114,9 +115,9 @@ pub(crate) fn put_letters(
 // ---- nets
 
 // The nodes and the places of the pins.
-fn put_pins(pins: [AxisPin; 128], ends: &mut [u32; PICKS]) {
+fn put_pins(pins: [AxisPin; Axis::PINS], ends: &mut [u32; PICKS]) {
     let mut i: usize = 0;
-    while i < 128 {
+    while i < Axis::PINS {
         let q = pins[i];
         ends[i] = narrow(q.node);
         ends[128 + i] = narrow_value(q.up);
@@ -204,13 +205,13 @@ fn put_nets(
     tab: &mut [u32; TAB],
     picks: &mut [u32; PICKS],
     ends: &[u32; PICKS],
-    nets: [AxisNet; 32],
+    nets: [AxisNet; Axis::NETS],
     t: usize,
 ) -> usize {
     let mut q: usize = 0;
     let mut e: usize = 0;
     let mut j: usize = 0;
-    while j < 32 {
+    while j < Axis::NETS {
         if t <= j {
             return e;
         }
@@ -229,8 +230,8 @@ fn put_nets(
 pub(crate) fn put_tables(
     tab: &mut [u32; TAB],
     picks: &mut [u32; PICKS],
-    nets: [AxisNet; 32],
-    pins: [AxisPin; 128],
+    nets: [AxisNet; Axis::NETS],
+    pins: [AxisPin; Axis::PINS],
     t: usize,
     n: usize,
 ) {

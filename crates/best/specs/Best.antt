@@ -9,6 +9,7 @@ use Rattle.model.specs.declared.Record.{Record as HeldRecord}
 use Rattle.model.specs.declared.Outcome.{Outcome}
 use Rattle.model.specs.declared.Outcome.the-variants as outcome
 use Rattle.model.specs.Meaning.{Record, none, least, recordOf}
+use Rattle.model.specs.Limits.{mostMacs}
 use Rattle.placement.specs.Least.{Best, nothing, found}
 use Rattle.branches.specs.Branch.{better}
 
@@ -23,10 +24,10 @@ abbrev pub CountIs : ℕ → Outcome → Type 0
 CountIs n outcome.None = Unit {0}
 CountIs n (outcome.Least wl m) = m ≡ n
 
--- no placement, or a placement of n macros, which are at most 8; the array of corners is whole
+-- no placement, or a placement of n macros, which are not too many; the array of corners is whole
 pub record Counted (n : ℕ) (r : HeldRecord) : Type 0 where
-  pub few : n ≤ 8
-  pub whole : length (r .spots) ≡ 8
+  pub few : n ≤ mostMacs
+  pub whole : length (r .spots) ≡ mostMacs
   pub count : CountIs n (r .outcome)
 
 -- what replaces the best is a placement

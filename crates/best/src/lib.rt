@@ -1,4 +1,5 @@
 // The best placement so far: document 01, "replaced by a shorter one, or by an equally short one that comes earlier".
+use model::Mac;
 use model::Outcome;
 use model::Record;
 use model::Spot;
@@ -9,11 +10,11 @@ ghost use Rattle.branches.specs.Branch.{pick, better};
 ghost use Rattle.best.specs.Best.{bestOf, Told, Better};
 
 // Whether the first n corners of a come before the first m of b.
-fn comes_before(n: usize, a: [Spot; 8], m: usize, b: [Spot; 8]) -> bool
+fn comes_before(n: usize, a: [Spot; Mac::COUNT], m: usize, b: [Spot; Mac::COUNT]) -> bool
     ensures { λ r. ⌜ r ≡ before (firstOf blankSpot n a) (firstOf blankSpot m b) ⌝ }
 {
     let mut i: usize = 0;
-    while i < 8 {
+    while i < Mac::COUNT {
         if n <= i {
             return false;
         }

@@ -24,11 +24,22 @@ pub struct AxisNet {
 pub struct Axis {
     pub side: u64,
     pub n: usize,
-    pub sizes: [u64; 8],
+    pub sizes: [u64; Axis::MACROS],
     pub p: usize,
-    pub pairs: [Slot; 120],
+    pub pairs: [Slot; Axis::PAIRS],
     pub base: u64,
     pub t: usize,
-    pub nets: [AxisNet; 32],
-    pub pins: [AxisPin; 128],
+    pub nets: [AxisNet; Axis::NETS],
+    pub pins: [AxisPin; Axis::PINS],
+}
+
+impl Axis {
+    // How many macros, pairs, nets and pins an axis has at most.
+    pub const MACROS: usize = 8;
+
+    pub const PAIRS: usize = 120;
+
+    pub const NETS: usize = 32;
+
+    pub const PINS: usize = 128;
 }

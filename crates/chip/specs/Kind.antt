@@ -11,6 +11,7 @@ use Rattle.model.specs.declared.Mac.{Mac}
 use Rattle.model.specs.Meaning.{Pin, Net, Chip}
 use Rattle.model.specs.declared.Word.{Word}
 use Rattle.model.specs.declared.Word.the-variants as word
+use Rattle.model.specs.Limits.{mostFixes, mostMacs, mostNets, mostPins}
 use Rattle.grammar.specs.Words.{isWord, isIn, chipWords, value, size}
 use Rattle.grammar.specs.Reading.{Kind, Step, next, fault, check}
 
@@ -42,14 +43,14 @@ unfoldable pub pinCount : List Net → ℕ
 pinCount [] = 0
 pinCount (t ∷ ts) = length (t .pins) + pinCount ts
 
--- there is room for one more of the kind: a chip has at most 8 fixes, 8 macros, 32 nets and 128 pins
+-- there is room for one more of the kind
 abbrev pub room : Chip → Word → Bool
 room c word.Nothing = true
 room c word.Die = true
-room c word.Fix = ltb (length (c .fixes)) 8
-room c word.Mac = ltb (length (c .macs)) 8
-room c word.Net = ltb (length (c .nets)) 32
-room c word.Pin = ltb (pinCount (c .nets)) 128
+room c word.Fix = ltb (length (c .fixes)) mostFixes
+room c word.Mac = ltb (length (c .macs)) mostMacs
+room c word.Net = ltb (length (c .nets)) mostNets
+room c word.Pin = ltb (pinCount (c .nets)) mostPins
 room c word.End = true
 room c word.Least = true
 room c word.None = true

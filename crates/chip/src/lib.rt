@@ -44,11 +44,11 @@ fn fixes_apart(a: Fix, b: Fix) -> bool
 }
 
 // Whether a fix overlaps none of the first k fixes.
-pub fn clear_of_fixes(f: Fix, fixes: [Fix; 8], k: usize) -> bool
+pub fn clear_of_fixes(f: Fix, fixes: [Fix; Fix::COUNT], k: usize) -> bool
     ensures { λ r. ⌜ r ≡ clearOf f (take k fixes) ⌝ }
 {
     let mut i: usize = 0;
-    while i < 8 {
+    while i < Fix::COUNT {
         if k <= i {
             return true;
         }

@@ -10,7 +10,7 @@ use Rattle.model.specs.declared.Mac.{Mac}
 use Rattle.model.specs.declared.Net.{Net}
 use Rattle.model.specs.declared.Pin.{Pin}
 use Rattle.model.specs.Meaning.{blankFix, blankMac, blankNet, blankPin}
-use Rattle.chip_array.specs.Array.{macRoom, netRoom, pinRoom, fixRoom}
+use Rattle.model.specs.Limits.{mostMacs, mostNets, mostPins, mostFixes}
 use Rattle.chip_array.specs.Array.{macsAt, netsAt, pinsAt, fixesAt, macNumbers, netNumbers, pinNumbers, fixNumbers, macIn, netIn, pinIn, fixIn}
 use Rattle.chip_array.specs.Array.{macsIn, netsIn, pinsIn, fixesIn}
 use Rattle.chip_array.proofs.Tables.{tabulate-of, Filled, filled-more, filled-all}
@@ -43,63 +43,63 @@ module _ (d s : List ℕ) (i : ℕ) where
 
 -- ---- the array is filled with what is read
 
-pub macs-filled : (s : List ℕ) (xs : List Mac) (i : ℕ) → i < macRoom → Filled (macIn s) macRoom xs i → Filled (macIn s) macRoom (set xs i (macIn s i)) (i + 1)
-macs-filled s xs i h t = filled-more (macIn s) macRoom xs i h t
+pub macs-filled : (s : List ℕ) (xs : List Mac) (i : ℕ) → i < mostMacs → Filled (macIn s) mostMacs xs i → Filled (macIn s) mostMacs (set xs i (macIn s i)) (i + 1)
+macs-filled s xs i h t = filled-more (macIn s) mostMacs xs i h t
 
-pub macs-all : (s : List ℕ) (xs : List Mac) (i : ℕ) → i ≤ macRoom → macRoom ≤ i → Filled (macIn s) macRoom xs i → xs ≡ macsIn s
+pub macs-all : (s : List ℕ) (xs : List Mac) (i : ℕ) → i ≤ mostMacs → mostMacs ≤ i → Filled (macIn s) mostMacs xs i → xs ≡ macsIn s
 unfolding macsIn
-macs-all s xs i h g t = filled-all (macIn s) macRoom xs i h g t
+macs-all s xs i h g t = filled-all (macIn s) mostMacs xs i h g t
 
-pub nets-filled : (s : List ℕ) (xs : List Net) (i : ℕ) → i < netRoom → Filled (netIn s) netRoom xs i → Filled (netIn s) netRoom (set xs i (netIn s i)) (i + 1)
-nets-filled s xs i h t = filled-more (netIn s) netRoom xs i h t
+pub nets-filled : (s : List ℕ) (xs : List Net) (i : ℕ) → i < mostNets → Filled (netIn s) mostNets xs i → Filled (netIn s) mostNets (set xs i (netIn s i)) (i + 1)
+nets-filled s xs i h t = filled-more (netIn s) mostNets xs i h t
 
-pub nets-all : (s : List ℕ) (xs : List Net) (i : ℕ) → i ≤ netRoom → netRoom ≤ i → Filled (netIn s) netRoom xs i → xs ≡ netsIn s
+pub nets-all : (s : List ℕ) (xs : List Net) (i : ℕ) → i ≤ mostNets → mostNets ≤ i → Filled (netIn s) mostNets xs i → xs ≡ netsIn s
 unfolding netsIn
-nets-all s xs i h g t = filled-all (netIn s) netRoom xs i h g t
+nets-all s xs i h g t = filled-all (netIn s) mostNets xs i h g t
 
-pub pins-filled : (s : List ℕ) (xs : List Pin) (i : ℕ) → i < pinRoom → Filled (pinIn s) pinRoom xs i → Filled (pinIn s) pinRoom (set xs i (pinIn s i)) (i + 1)
-pins-filled s xs i h t = filled-more (pinIn s) pinRoom xs i h t
+pub pins-filled : (s : List ℕ) (xs : List Pin) (i : ℕ) → i < mostPins → Filled (pinIn s) mostPins xs i → Filled (pinIn s) mostPins (set xs i (pinIn s i)) (i + 1)
+pins-filled s xs i h t = filled-more (pinIn s) mostPins xs i h t
 
-pub pins-all : (s : List ℕ) (xs : List Pin) (i : ℕ) → i ≤ pinRoom → pinRoom ≤ i → Filled (pinIn s) pinRoom xs i → xs ≡ pinsIn s
+pub pins-all : (s : List ℕ) (xs : List Pin) (i : ℕ) → i ≤ mostPins → mostPins ≤ i → Filled (pinIn s) mostPins xs i → xs ≡ pinsIn s
 unfolding pinsIn
-pins-all s xs i h g t = filled-all (pinIn s) pinRoom xs i h g t
+pins-all s xs i h g t = filled-all (pinIn s) mostPins xs i h g t
 
-pub fixes-filled : (s : List ℕ) (xs : List Fix) (i : ℕ) → i < fixRoom → Filled (fixIn s) fixRoom xs i → Filled (fixIn s) fixRoom (set xs i (fixIn s i)) (i + 1)
-fixes-filled s xs i h t = filled-more (fixIn s) fixRoom xs i h t
+pub fixes-filled : (s : List ℕ) (xs : List Fix) (i : ℕ) → i < mostFixes → Filled (fixIn s) mostFixes xs i → Filled (fixIn s) mostFixes (set xs i (fixIn s i)) (i + 1)
+fixes-filled s xs i h t = filled-more (fixIn s) mostFixes xs i h t
 
-pub fixes-all : (s : List ℕ) (xs : List Fix) (i : ℕ) → i ≤ fixRoom → fixRoom ≤ i → Filled (fixIn s) fixRoom xs i → xs ≡ fixesIn s
+pub fixes-all : (s : List ℕ) (xs : List Fix) (i : ℕ) → i ≤ mostFixes → mostFixes ≤ i → Filled (fixIn s) mostFixes xs i → xs ≡ fixesIn s
 unfolding fixesIn
-fixes-all s xs i h g t = filled-all (fixIn s) fixRoom xs i h g t
+fixes-all s xs i h g t = filled-all (fixIn s) mostFixes xs i h g t
 
 -- ---- what stands is read
 
-pub macs-back : (s : List ℕ) (xs : List Mac) → length xs ≡ macRoom → Stand macNumbers 2 (λ a. refl) macsAt xs blankMac s → macsIn s ≡ xs
+pub macs-back : (s : List ℕ) (xs : List Mac) → length xs ≡ mostMacs → Stand macNumbers 2 (λ a. refl) macsAt xs blankMac s → macsIn s ≡ xs
 unfolding macsIn
-macs-back s xs l t = tabulate-of (macIn s) macRoom xs blankMac l at
+macs-back s xs l t = tabulate-of (macIn s) mostMacs xs blankMac l at
   where
-    at : (i : ℕ) → i < macRoom → macIn s i ≡ getD xs i blankMac
+    at : (i : ℕ) → i < mostMacs → macIn s i ≡ getD xs i blankMac
     at i h =
         let g : i < length xs = omega arith in
         let a = stand-first macNumbers 2 (λ a. refl) macsAt xs blankMac s t i g (omega arith) in
         let b = t .at i 1 g (omega arith) in
         rw (a, b)
 
-pub nets-back : (s : List ℕ) (xs : List Net) → length xs ≡ netRoom → Stand netNumbers 2 (λ a. refl) netsAt xs blankNet s → netsIn s ≡ xs
+pub nets-back : (s : List ℕ) (xs : List Net) → length xs ≡ mostNets → Stand netNumbers 2 (λ a. refl) netsAt xs blankNet s → netsIn s ≡ xs
 unfolding netsIn
-nets-back s xs l t = tabulate-of (netIn s) netRoom xs blankNet l at
+nets-back s xs l t = tabulate-of (netIn s) mostNets xs blankNet l at
   where
-    at : (i : ℕ) → i < netRoom → netIn s i ≡ getD xs i blankNet
+    at : (i : ℕ) → i < mostNets → netIn s i ≡ getD xs i blankNet
     at i h =
         let g : i < length xs = omega arith in
         let a = stand-first netNumbers 2 (λ a. refl) netsAt xs blankNet s t i g (omega arith) in
         let b = t .at i 1 g (omega arith) in
         rw (a, b)
 
-pub pins-back : (s : List ℕ) (xs : List Pin) → length xs ≡ pinRoom → Stand pinNumbers 3 (λ a. refl) pinsAt xs blankPin s → pinsIn s ≡ xs
+pub pins-back : (s : List ℕ) (xs : List Pin) → length xs ≡ mostPins → Stand pinNumbers 3 (λ a. refl) pinsAt xs blankPin s → pinsIn s ≡ xs
 unfolding pinsIn
-pins-back s xs l t = tabulate-of (pinIn s) pinRoom xs blankPin l at
+pins-back s xs l t = tabulate-of (pinIn s) mostPins xs blankPin l at
   where
-    at : (i : ℕ) → i < pinRoom → pinIn s i ≡ getD xs i blankPin
+    at : (i : ℕ) → i < mostPins → pinIn s i ≡ getD xs i blankPin
     at i h =
         let g : i < length xs = omega arith in
         let a = stand-first pinNumbers 3 (λ a. refl) pinsAt xs blankPin s t i g (omega arith) in
@@ -107,11 +107,11 @@ pins-back s xs l t = tabulate-of (pinIn s) pinRoom xs blankPin l at
         let c = t .at i 2 g (omega arith) in
         rw (a, b, c)
 
-pub fixes-back : (s : List ℕ) (xs : List Fix) → length xs ≡ fixRoom → Stand fixNumbers 4 (λ a. refl) fixesAt xs blankFix s → fixesIn s ≡ xs
+pub fixes-back : (s : List ℕ) (xs : List Fix) → length xs ≡ mostFixes → Stand fixNumbers 4 (λ a. refl) fixesAt xs blankFix s → fixesIn s ≡ xs
 unfolding fixesIn
-fixes-back s xs l t = tabulate-of (fixIn s) fixRoom xs blankFix l at
+fixes-back s xs l t = tabulate-of (fixIn s) mostFixes xs blankFix l at
   where
-    at : (i : ℕ) → i < fixRoom → fixIn s i ≡ getD xs i blankFix
+    at : (i : ℕ) → i < mostFixes → fixIn s i ≡ getD xs i blankFix
     at i h =
         let g : i < length xs = omega arith in
         let a = stand-first fixNumbers 4 (λ a. refl) fixesAt xs blankFix s t i g (omega arith) in

@@ -9,34 +9,22 @@ use Rattle.model.specs.declared.Mac.{Mac}
 use Rattle.model.specs.declared.Net.{Net as HeldNet}
 use Rattle.model.specs.declared.Pin.{Pin as HeldPin}
 use Rattle.model.specs.declared.Chip.{Chip as HeldChip}
+use Rattle.model.specs.Limits.{mostFixes, mostMacs, mostNets, mostPins}
 
 -- ---- places
-
--- how many items of each kind there are
-abbrev pub macRoom : ℕ
-macRoom = 8
-
-abbrev pub netRoom : ℕ
-netRoom = 32
-
-abbrev pub pinRoom : ℕ
-pinRoom = 128
-
-abbrev pub fixRoom : ℕ
-fixRoom = 8
 
 -- where the first item of each kind begins
 abbrev pub macsAt : ℕ
 macsAt = 8
 
 abbrev pub netsAt : ℕ
-netsAt = macsAt + 2 * macRoom
+netsAt = macsAt + 2 * mostMacs
 
 abbrev pub pinsAt : ℕ
-pinsAt = netsAt + 2 * netRoom
+pinsAt = netsAt + 2 * mostNets
 
 abbrev pub fixesAt : ℕ
-fixesAt = pinsAt + 3 * pinRoom
+fixesAt = pinsAt + 3 * mostPins
 
 -- ---- reading
 
@@ -64,16 +52,16 @@ fixIn s i = record { x = num s (fixesAt + 4 * i); y = num s (fixesAt + 4 * i + 1
 
 -- all items of each kind
 unfoldable pub macsIn : List ℕ → List Mac
-macsIn s = tabulate (macIn s) macRoom
+macsIn s = tabulate (macIn s) mostMacs
 
 unfoldable pub netsIn : List ℕ → List HeldNet
-netsIn s = tabulate (netIn s) netRoom
+netsIn s = tabulate (netIn s) mostNets
 
 unfoldable pub pinsIn : List ℕ → List HeldPin
-pinsIn s = tabulate (pinIn s) pinRoom
+pinsIn s = tabulate (pinIn s) mostPins
 
 unfoldable pub fixesIn : List ℕ → List Fix
-fixesIn s = tabulate (fixIn s) fixRoom
+fixesIn s = tabulate (fixIn s) mostFixes
 
 abbrev pub dieIn : List ℕ → Die
 dieIn s = record { w = num s 3; h = num s 4 }

@@ -16,7 +16,7 @@ ghost use Rattle.chip.specs.Text.{fixItem, macItem, pinItem, netItems, chipText
 ghost use Rattle.chipprinter.specs.Parts.{blockItems};
 
 // Fix i of the array, or a blank one past its end.
-fn fix_at(fixes: [Fix; 8], i: usize) -> Fix
+fn fix_at(fixes: [Fix; Fix::COUNT], i: usize) -> Fix
     ensures { λ r. ⌜ r ≡ getD fixes i blankFix ⌝ }
 {
     if i < 8 {
@@ -31,7 +31,7 @@ fn fix_at(fixes: [Fix; 8], i: usize) -> Fix
 }
 
 // Writes the lines of the fixes that the count k means from `at` on, as far as the buffer goes, and answers the place after them.
-fn put_fixes(out: &mut [u8], at: usize, fixes: [Fix; 8], k: usize) -> usize
+fn put_fixes(out: &mut [u8], at: usize, fixes: [Fix; Fix::COUNT], k: usize) -> usize
     ensures { λ r. ⌜ Wrote (now (out .entry)) (now (out .exit)) (itemsText (map fixItem (firstOf blankFix k fixes))) at r ⌝ }
 {
     let n = linewriter::shown(k, 8);
@@ -46,7 +46,7 @@ fn put_fixes(out: &mut [u8], at: usize, fixes: [Fix; 8], k: usize) -> usize
 }
 
 // Macro i of the array, or a blank one past its end.
-fn mac_at(macs: [Mac; 8], i: usize) -> Mac
+fn mac_at(macs: [Mac; Mac::COUNT], i: usize) -> Mac
     ensures { λ r. ⌜ r ≡ getD macs i blankMac ⌝ }
 {
     if i < 8 {
@@ -56,7 +56,7 @@ fn mac_at(macs: [Mac; 8], i: usize) -> Mac
 }
 
 // The same for the lines of the macros.
-fn put_macs(out: &mut [u8], at: usize, macs: [Mac; 8], k: usize) -> usize
+fn put_macs(out: &mut [u8], at: usize, macs: [Mac; Mac::COUNT], k: usize) -> usize
     ensures { λ r. ⌜ Wrote (now (out .entry)) (now (out .exit)) (itemsText (map macItem (firstOf blankMac k macs))) at r ⌝ }
 {
     let n = linewriter::shown(k, 8);
@@ -71,10 +71,10 @@ fn put_macs(out: &mut [u8], at: usize, macs: [Mac; 8], k: usize) -> usize
 }
 
 // Pin i of the array, or a blank one past its end.
-fn pin_at(pins: [Pin; 128], i: usize) -> Pin
+fn pin_at(pins: [Pin; Pin::COUNT], i: usize) -> Pin
     ensures { λ r. ⌜ r ≡ getD pins i blankPin ⌝ }
 {
-    if i < 128 {
+    if i < Pin::COUNT {
         return pins[i];
     }
     Pin {
@@ -85,11 +85,11 @@ fn pin_at(pins: [Pin; 128], i: usize) -> Pin
 }
 
 // The same for the lines of the pins of a net, `count` of them from pin q on.
-fn put_pins(out: &mut [u8], at: usize, pins: [Pin; 128], q: usize, count: usize) -> usize
+fn put_pins(out: &mut [u8], at: usize, pins: [Pin; Pin::COUNT], q: usize, count: usize) -> usize
     requires { ⌜ q ≤ 128 ⌝ }
     ensures { λ r. ⌜ Wrote (now (out .entry)) (now (out .exit)) (itemsText (map pinItem (pinsOf (firstOf blankPin count (drop q pins))))) at r ⌝ }
 {
-    let n = linewriter::shown(count, 128 - q);
+    let n = linewriter::shown(count, Pin::COUNT - q);
     let mut a = at;
     let mut i: usize = 0;
     while i < n {
@@ -102,20 +102,26 @@ fn put_pins(out: &mut [u8], at: usize, pins: [Pin; 128], q: usize, count: usize)
 }
 
 // Net i of the array, or a blank one past its end.
-fn net_at(nets: [Net; 32], i: usize) -> Net
+fn net_at(nets: [Net; Net::COUNT], i: usize) -> Net
     ensures { λ r. ⌜ r ≡ getD nets i blankNet ⌝ }
 {
-    if i < 32 {
+    if i < Net::COUNT {
         return nets[i];
     }
     Net { weight: 0, pins: 0 }
 }
 
 // The same for the lines of the nets, each with its pins.
-fn put_nets(out: &mut [u8], at: usize, nets: [Net; 32], t: usize, pins: [Pin; 128]) -> usize
+fn put_nets(
+    out: &mut [u8],
+    at: usize,
+    nets: [Net; Net::COUNT],
+    t: usize,
+    pins: [Pin; Pin::COUNT],
+) -> usize
     ensures { λ r. ⌜ Wrote (now (out .entry)) (now (out .exit)) (itemsText (netItems (netsOf (firstOf blankNet t nets) pins))) at r ⌝ }
 {
-    let n = linewriter::shown(t, 32);
+    let n = linewriter::shown(t, Net::COUNT);
     let mut a = at;
     let mut q: usize = 0;
     let mut j: usize = 0;
@@ -135,7 +141,11 @@ fn past(q: usize, count: usize) -> usize
     requires { ⌜ q ≤ 128 ⌝ }
     ensures { λ r. ⌜ r ≡ min (q + count) 128 ⌝ }
 {
-    if count <= 128 - q { q + count } else { 128 }
+    if count <= Pin::COUNT - q {
+        q + count
+    } else {
+        Pin::COUNT
+    }
 }
 
 // The same for the lines before the nets: die, fixes, macros.

@@ -60,39 +60,42 @@ module _ (c : HeldChip) where
   abbrev holdNet : ℕ → HeldChip
   holdNet w = record { die = c .die; k = c .k; fixes = c .fixes; n = c .n; macs = c .macs; t = c .t + 1; nets = set (c .nets) (c .t) (record { weight = w; pins = 0 }); pins = c .pins }
 
-module _ (s : State) (v : List ℕ) (four : length v ≡ 4) (sound : Sound s) (r : Taken) where
-  pub die-added : r ≡ withChip s word.Die (holdDie (s .chip) (heldDie v)) → TakenOk r (add (partOf s) word.Die (valuesOf word.Die v))
+module _ (s : State) (v : List ℕ) (four : length v ≡ 4) (sound : Sound s) (r : Taken) (l : ℕ) where
+  pub die-added : r ≡ withChip s word.Die (holdDie (s .chip) (heldDie v)) → TakenOk r l (add (partOf s) word.Die (valuesOf word.Die v))
   unfolding chipOf
   die-added e =
       rw e
       (record {
         meant = ap (λ (d : Die). after word.Die (withDie (chipOf (s .chip)) d)) (sym (die-values v four));
+        at = refl;
         sound = kept-sound s sound word.Die refl (heldDie v) (sound .fixes) (sound .macs);
       })
 
-  pub mac-added : Entered chipKind (partOf s) word.Mac → r ≡ withChip s word.Mac (holdMac (s .chip) (heldMac v)) → TakenOk r (add (partOf s) word.Mac (valuesOf word.Mac v))
+  pub mac-added : Entered chipKind (partOf s) word.Mac → r ≡ withChip s word.Mac (holdMac (s .chip) (heldMac v)) → TakenOk r l (add (partOf s) word.Mac (valuesOf word.Mac v))
   unfolding chipOf
   mac-added p e =
       rw e
       (record {
-        meant = rw (first-set blankMac (s .chip .n) (s .chip .macs) (heldMac v) (fits-in (sound .macs) l)) (ap (λ (m : Mac). after word.Mac (withMac (chipOf (s .chip)) m)) (sym (mac-values v four)));
-        sound = kept-sound s sound word.Mac refl (s .chip .die) (sound .fixes) (holds-more (sound .macs) (heldMac v) l);
+        meant = rw (first-set blankMac (s .chip .n) (s .chip .macs) (heldMac v) (fits-in (sound .macs) fits)) (ap (λ (m : Mac). after word.Mac (withMac (chipOf (s .chip)) m)) (sym (mac-values v four)));
+        at = refl;
+        sound = kept-sound s sound word.Mac refl (s .chip .die) (sound .fixes) (holds-more (sound .macs) (heldMac v) fits);
       })
     where
-      l : s .chip .n < 8
-      l = mac-fits s sound p
+      fits : s .chip .n < 8
+      fits = mac-fits s sound p
 
-  pub net-added : Entered chipKind (partOf s) word.Net → r ≡ withChip s word.Net (holdNet (s .chip) (getD v 0 0)) → TakenOk r (add (partOf s) word.Net (valuesOf word.Net v))
+  pub net-added : Entered chipKind (partOf s) word.Net → r ≡ withChip s word.Net (holdNet (s .chip) (getD v 0 0)) → TakenOk r l (add (partOf s) word.Net (valuesOf word.Net v))
   unfolding chipOf pinsOf firstOf
   net-added p e =
       rw e
       (record {
         meant = rw (one-more, nets-snoc nets net (s .chip .pins)) (ap (λ (w : ℕ). after word.Net (withNet (chipOf (s .chip)) (record { weight = w; pins = [] }))) (sym (net-values v four)));
-        sound = record { fixes = sound .fixes; macs = sound .macs; nets = holds-more (sound .nets) net l; pins = sound .pins; counted = ap taken one-more ∙ taken-snoc nets net ∙ omega (arith, sound .counted); opened = λ o. omega arith };
+        at = refl;
+        sound = record { fixes = sound .fixes; macs = sound .macs; nets = holds-more (sound .nets) net fits; pins = sound .pins; counted = ap taken one-more ∙ taken-snoc nets net ∙ omega (arith, sound .counted); opened = λ o. omega arith };
       })
     where
-      l : s .chip .t < 32
-      l = net-fits s sound p
+      fits : s .chip .t < 32
+      fits = net-fits s sound p
 
       net : HeldNet
       net = record { weight = getD v 0 0; pins = 0 }
@@ -101,7 +104,7 @@ module _ (s : State) (v : List ℕ) (four : length v ≡ 4) (sound : Sound s) (r
       nets = firstOf blankNet (s .chip .t) (s .chip .nets)
 
       one-more : firstOf blankNet (s .chip .t + 1) (set (s .chip .nets) (s .chip .t) net) ≡ nets ++ (net ∷ [])
-      one-more = first-set blankNet (s .chip .t) (s .chip .nets) net (fits-in (sound .nets) l)
+      one-more = first-set blankNet (s .chip .t) (s .chip .nets) net (fits-in (sound .nets) fits)
 
   -- a fix passes two tests more
   abbrev addFix : Fix → Step Part
@@ -112,24 +115,25 @@ module _ (s : State) (v : List ℕ) (four : length v ≡ 4) (sound : Sound s) (r
   step-fix t e = e ∙ ap addFix (sym (fix-values v four))
 
   module _ (inside : Bool) (i : inside ≡ fixInDie (s .chip .die) (heldFix v)) where
-    pub fix-leaves : not inside ≡ true → r ≡ withFault s 9 → TakenOk r (add (partOf s) word.Fix (valuesOf word.Fix v))
-    fix-leaves h e = rw e (record { meant = step-fix (fault 9) (rw (← i, not-true inside h)); sound = sound })
+    pub fix-leaves : not inside ≡ true → r ≡ withFault s (record { no = 9; line = l }) → TakenOk r l (add (partOf s) word.Fix (valuesOf word.Fix v))
+    fix-leaves h e = rw e (record { meant = step-fix (fault 9) (rw (← i, not-true inside h)); at = refl; sound = sound })
 
     module _ (stays : not inside ≡ false) (clear : Bool) (c : clear ≡ clearOf (heldFix v) (take (s .chip .k) (s .chip .fixes))) where
       tested : clear ≡ clearOf (heldFix v) (firstOf blankFix (s .chip .k) (s .chip .fixes))
       tested = rw (first-take blankFix (s .chip .k) (s .chip .fixes) (holds-all (sound .fixes))) c
 
-      pub fix-overlaps : not clear ≡ true → r ≡ withFault s 10 → TakenOk r (add (partOf s) word.Fix (valuesOf word.Fix v))
-      fix-overlaps h e = rw e (record { meant = step-fix (fault 10) (rw (← i, not-false inside stays, ← tested, not-true clear h)); sound = sound })
+      pub fix-overlaps : not clear ≡ true → r ≡ withFault s (record { no = 10; line = l }) → TakenOk r l (add (partOf s) word.Fix (valuesOf word.Fix v))
+      fix-overlaps h e = rw e (record { meant = step-fix (fault 10) (rw (← i, not-false inside stays, ← tested, not-true clear h)); at = refl; sound = sound })
 
-      pub fix-added : not clear ≡ false → Entered chipKind (partOf s) word.Fix → r ≡ withChip s word.Fix (holdFix (s .chip) (heldFix v)) → TakenOk r (add (partOf s) word.Fix (valuesOf word.Fix v))
+      pub fix-added : not clear ≡ false → Entered chipKind (partOf s) word.Fix → r ≡ withChip s word.Fix (holdFix (s .chip) (heldFix v)) → TakenOk r l (add (partOf s) word.Fix (valuesOf word.Fix v))
       unfolding chipOf
       fix-added h p e =
           rw e
           (record {
-            meant = step-fix _ (rw (← i, not-false inside stays, ← tested, not-false clear h, first-set blankFix (s .chip .k) (s .chip .fixes) (heldFix v) (fits-in (sound .fixes) l)));
-            sound = kept-sound s sound word.Fix refl (s .chip .die) (holds-more (sound .fixes) (heldFix v) l) (sound .macs);
+            meant = step-fix _ (rw (← i, not-false inside stays, ← tested, not-false clear h, first-set blankFix (s .chip .k) (s .chip .fixes) (heldFix v) (fits-in (sound .fixes) fits)));
+            at = refl;
+            sound = kept-sound s sound word.Fix refl (s .chip .die) (holds-more (sound .fixes) (heldFix v) fits) (sound .macs);
           })
         where
-          l : s .chip .k < 8
-          l = fix-fits s sound p
+          fits : s .chip .k < 8
+          fits = fix-fits s sound p

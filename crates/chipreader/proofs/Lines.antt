@@ -8,6 +8,7 @@ use lib.ListN.{length, take, drop}
 use borrow.Author.Tests.{ne-eqb}
 use Rattle.model.specs.declared.Chip.{Chip as HeldChip}
 use Rattle.model.specs.declared.Word.the-variants as word
+use Rattle.model.specs.declared.Refusal.{Refusal}
 use Rattle.model.specs.Meaning.{Chip, chipOf, firstOf, netsOf}
 use Rattle.model.proofs.Nets.{taken}
 use Rattle.grammar.specs.Words.{rank}
@@ -26,13 +27,13 @@ use Rattle.chipreader.specs.declared.ChipRead.{ChipRead}
 use Rattle.chipreader.specs.State.{Sound, partOf, withFault, TakenOk}
 use Rattle.chipreader.specs.Answer.{blankChip, refusedAt, ReadOk}
 
-pub refuses : (r : ChipRead) (n l : ℕ) (read : Reading Chip) → refused n l ≡ read → r ≡ refusedAt n l → ReadOk read r
-refuses r n l read q e = rw e (record { meant = q; blank = refl })
+pub refuses : (r : ChipRead) (f : Refusal) (read : Reading Chip) → r ≡ refusedAt f → refused (f .no) (f .line) ≡ read → ReadOk read r
+refuses r f read e q = rw e (record { meant = q; blank = refl })
 
 -- ---- before the first line
 
-pub too-long-read : (text : List ℕ) → 16384 < length text → (r : ChipRead) → r ≡ refusedAt 1 0 → ReadOk (readChip text) r
-too-long-read text h r e = refuses r 1 0 (readChip text) (too-long text h) e
+pub too-long-read : (text : List ℕ) → 16384 < length text → (r : ChipRead) → r ≡ refusedAt (record { no = 1; line = 0 }) → ReadOk (readChip text) r
+too-long-read text h r e = refuses r (record { no = 1; line = 0 }) (readChip text) e (too-long text h)
 
 abbrev empty : HeldChip → State
 empty c = record { last = word.Nothing; pins = 0; chip = c }
@@ -57,17 +58,19 @@ module _ (c : HeldChip) (e : c ≡ blankChip) where
 
 -- ---- a line
 
-module _ (text : List ℕ) (a z : ℕ) (end : z ≡ lineEnd text a) (s : State) (t : Taken) where
-  pub no-feed : Sound s → z ≡ length text → t ≡ withFault s 2 → TakenOk t (stepLine chipKind (partOf s) (lineAt text a z))
-  no-feed sound q e = rw e (record { meant = step-open text a z end chipKind (partOf s) q; sound = sound })
+module _ (text : List ℕ) (a z : ℕ) (end : z ≡ lineEnd text a) (s : State) (t : Taken) (line : ℕ) where
+  pub no-feed : Sound s → z ≡ length text → t ≡ withFault s (record { no = 2; line = line }) → TakenOk t line (stepLine chipKind (partOf s) (lineAt text a z))
+  no-feed sound q e = rw e (record { meant = step-open text a z end chipKind (partOf s) q; at = refl; sound = sound })
 
-  pub has-feed : (z ≡ length text → ⊥) → TakenOk t (stepBytes chipKind (partOf s) (take (z - a) (drop a text))) → TakenOk t (stepLine chipKind (partOf s) (lineAt text a z))
+  pub has-feed : (z ≡ length text → ⊥) → TakenOk t line (stepBytes chipKind (partOf s) (take (z - a) (drop a text))) → TakenOk t line (stepLine chipKind (partOf s) (lineAt text a z))
   has-feed q ok = rw (← step-ended text a z end chipKind (partOf s) q) ok
 
-  module _ (h : a < length text) (line : ℕ) (left : Left chipKind start text (partOf s) a line) (ok : TakenOk t (stepLine chipKind (partOf s) (lineAt text a z))) where
-    pub line-fails : (f : ℕ) → t .fault ≡ held.No f → refused f line ≡ readChip text
+  module _ (h : a < length text) (left : Left chipKind start text (partOf s) a line) (ok : TakenOk t line (stepLine chipKind (partOf s) (lineAt text a z))) where
+    pub line-fails : (f : Refusal) → t .fault ≡ held.Refused f → refused (f .no) (f .line) ≡ readChip text
     unfolding readChip
-    line-fails f g = ap chipRead (text-fails chipKind start text (partOf s) a line left z end h f (rw g at (ok .meant)))
+    line-fails f g =
+        let own : f .line ≡ line = rw g at (ok .at) in
+        rw own (ap chipRead (text-fails chipKind start text (partOf s) a line left z end h (f .no) (rw g at (ok .meant))))
 
     pub line-read : t .fault ≡ held.Clear → Left chipKind start text (partOf (t .state)) (z + 1) (line + 1)
     line-read g = text-goes-on chipKind start text (partOf s) a line left z end h (partOf (t .state)) (rw g at (ok .meant))

@@ -80,15 +80,15 @@ module _ (s : State) (sound : Sound s) (entered : Entered chipKind (partOf s) wo
   pub net-fits-one : Fits w64 (net .pins + 1)
   net-fits-one = omega (arith, all-pins, pin-fits s sound entered)
 
-  module _ (v : List ℕ) (four : length v ≡ 4) where
+  module _ (v : List ℕ) (four : length v ≡ 4) (l : ℕ) where
     abbrev addPinned : Pin → Step Part
     addPinned p = check (leb (p .m) (length (chipOf (s .chip) .macs))) 8 (after word.Pin (withPin (chipOf (s .chip)) p))
 
     step-pin : (t : Step Part) → t ≡ addPinned (pinOf (heldPin v)) → t ≡ add (partOf s) word.Pin (valuesOf word.Pin v)
     step-pin t e = e ∙ ap addPinned (sym (pin-values v four))
 
-    pub no-macro : (r : Taken) → s .chip .n < getD v 0 0 → r ≡ withFault s 8 → TakenOk r (add (partOf s) word.Pin (valuesOf word.Pin v))
-    no-macro r h e = rw e (record { meant = step-pin (fault 8) (rw (mac-count s sound, lt-leb _ _ h)); sound = sound })
+    pub no-macro : (r : Taken) → s .chip .n < getD v 0 0 → r ≡ withFault s (record { no = 8; line = l }) → TakenOk r l (add (partOf s) word.Pin (valuesOf word.Pin v))
+    no-macro r h e = rw e (record { meant = step-pin (fault 8) (rw (mac-count s sound, lt-leb _ _ h)); at = refl; sound = sound })
 
     abbrev holdPin : HeldChip
     holdPin = record { die = s .chip .die; k = s .chip .k; fixes = s .chip .fixes; n = s .chip .n; macs = s .chip .macs; t = s .chip .t; nets = set (s .chip .nets) place (onePin net); pins = set (s .chip .pins) (s .pins) (heldPin v) }
@@ -96,11 +96,12 @@ module _ (s : State) (sound : Sound s) (entered : Entered chipKind (partOf s) wo
     nets-with : netsOf (firstOf blankNet (s .chip .t) (set (s .chip .nets) place (onePin net))) (set (s .chip .pins) (s .pins) (heldPin v)) ≡ addPin (pinOf (heldPin v)) (netsOf (firstOf blankNet (s .chip .t) (s .chip .nets)) (s .chip .pins))
     nets-with = rw (last-pinned, last-net, ← all-pins) (nets-pin before net (s .chip .pins) (heldPin v) (omega (arith, all-pins, pin-fits s sound entered, sound .pins .long)))
 
-    pub pin-added : getD v 0 0 ≤ s .chip .n → TakenOk (record { fault = held.Clear; state = record { last = word.Pin; pins = s .pins + 1; chip = holdPin } }) (add (partOf s) word.Pin (valuesOf word.Pin v))
+    pub pin-added : getD v 0 0 ≤ s .chip .n → TakenOk (record { fault = held.Clear; state = record { last = word.Pin; pins = s .pins + 1; chip = holdPin } }) l (add (partOf s) word.Pin (valuesOf word.Pin v))
     unfolding chipOf
     pin-added h =
         record {
           meant = step-pin _ (rw (mac-count s sound, le-leb _ _ h, nets-with));
+          at = refl;
           sound = record {
             fixes = sound .fixes;
             macs = sound .macs;

@@ -1,9 +1,10 @@
 -- What the chip reader's answer means.
-use Prim.Native.Nat.{ℕ}
 use mathlib.Core.Path.{_≡_}
 use lib.ListN.{replicate}
+use Rattle.model.specs.declared.Refusal.{Refusal}
 use Rattle.model.specs.declared.Chip.{Chip as HeldChip}
 use Rattle.model.specs.Meaning.{Chip, chipOf, blankFix, blankMac, blankNet, blankPin}
+use Rattle.model.specs.Limits.{mostFixes, mostMacs, mostNets, mostPins}
 use Rattle.grammar.specs.Reading.{Reading, accepted, refused}
 use Rattle.chipreader.specs.declared.ChipAnswer.{ChipAnswer}
 use Rattle.chipreader.specs.declared.ChipAnswer.the-variants as answer
@@ -14,12 +15,12 @@ abbrev pub blankChip : HeldChip
 blankChip = record {
   die = record { w = 0; h = 0 };
   k = 0;
-  fixes = replicate 8 blankFix;
+  fixes = replicate mostFixes blankFix;
   n = 0;
-  macs = replicate 8 blankMac;
+  macs = replicate mostMacs blankMac;
   t = 0;
-  nets = replicate 32 blankNet;
-  pins = replicate 128 blankPin;
+  nets = replicate mostNets blankNet;
+  pins = replicate mostPins blankPin;
 }
 
 -- document 01's number and values for each case of the answer
@@ -36,9 +37,9 @@ abbrev pub afterRefusal : ChipAnswer → HeldChip → HeldChip
 afterRefusal answer.Accepted c = blankChip
 afterRefusal (answer.Refused f) c = c
 
--- refusal n at line l, with a blank chip
-abbrev pub refusedAt : ℕ → ℕ → ChipRead
-refusedAt n l = record { answer = answer.Refused (record { no = n; line = l }); chip = blankChip }
+-- the refusal f, with a blank chip
+abbrev pub refusedAt : Refusal → ChipRead
+refusedAt f = record { answer = answer.Refused f; chip = blankChip }
 
 -- r is the answer for a text that is read so
 pub record ReadOk (read : Reading Chip) (r : ChipRead) : Type 0 where

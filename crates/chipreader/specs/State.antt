@@ -7,9 +7,11 @@ use lib.ListN.{length, getD}
 use lib.Dec.{leb}
 use Rattle.model.specs.declared.Word.{Word}
 use Rattle.model.specs.declared.Word.the-variants as word
+use Rattle.model.specs.declared.Refusal.{Refusal}
 use Rattle.model.specs.declared.Chip.{Chip}
 use Rattle.model.specs.Meaning.{chipOf, firstOf, blankNet}
 use Rattle.model.proofs.Nets.{taken}
+use Rattle.model.specs.Limits.{mostFixes, mostMacs, mostNets, mostPins}
 use Rattle.grammar.specs.Words.{isWord}
 use Rattle.grammar.specs.Reading.{Step, next, fault as faulty}
 use Rattle.line.specs.declared.Fault.{Fault}
@@ -29,10 +31,10 @@ pub record Holds {A : Type 0} (most count : ℕ) (items : List A) : Type 0 where
 
 -- the counts stay within the arrays, the pins are those that the nets take, and a net stands before a pin
 pub record Sound (s : State) : Type 0 where
-  pub fixes : Holds 8 (s .chip .k) (s .chip .fixes)
-  pub macs : Holds 8 (s .chip .n) (s .chip .macs)
-  pub nets : Holds 32 (s .chip .t) (s .chip .nets)
-  pub pins : Holds 128 (s .pins) (s .chip .pins)
+  pub fixes : Holds mostFixes (s .chip .k) (s .chip .fixes)
+  pub macs : Holds mostMacs (s .chip .n) (s .chip .macs)
+  pub nets : Holds mostNets (s .chip .t) (s .chip .nets)
+  pub pins : Holds mostPins (s .pins) (s .chip .pins)
   pub counted : taken (firstOf blankNet (s .chip .t) (s .chip .nets)) ≡ s .pins
   pub opened : (isWord (s .last) word.Net || isWord (s .last) word.Pin) ≡ true → 1 ≤ s .chip .t
 
@@ -50,17 +52,23 @@ mayFollow a b = leb (getD leastLast b 0) a && leb a (getD mostLast b 0)
 -- what a line leads to, by its fault
 abbrev pub stepOf : Fault → State → Step Part
 stepOf fault.Clear s = next (partOf s)
-stepOf (fault.No n) s = faulty n
+stepOf (fault.Refused f) s = faulty (f .no)
 
--- fault n, and what was read before
-abbrev pub withFault : State → ℕ → Taken
-withFault s n = record { fault = fault.No n; state = s }
+-- the line of a refusal; where there is none, the line l
+abbrev pub lineOf : Fault → ℕ → ℕ
+lineOf fault.Clear l = l
+lineOf (fault.Refused f) l = f .line
+
+-- the refusal f, and what was read before
+abbrev pub withFault : State → Refusal → Taken
+withFault s f = record { fault = fault.Refused f; state = s }
 
 -- no fault: w is the word of the last line, and c the chip so far
 abbrev pub withChip : State → Word → Chip → Taken
 withChip s w c = record { fault = fault.Clear; state = record { last = w; pins = s .pins; chip = c } }
 
--- t means the step, and what has been read is sound
-pub record TakenOk (t : Taken) (step : Step Part) : Type 0 where
+-- t means the step of line l, and what has been read is sound
+pub record TakenOk (t : Taken) (l : ℕ) (step : Step Part) : Type 0 where
   pub meant : stepOf (t .fault) (t .state) ≡ step
+  pub at : lineOf (t .fault) l ≡ l
   pub sound : Sound (t .state)

@@ -8,6 +8,7 @@ use model::Mac;
 use model::Net;
 use model::Pin;
 use model::Refusal;
+use model::TEXT_MOST;
 use model::Word;
 ghost use mathlib.Core.Path.{_≡_};
 ghost use Rattle.model.specs.Meaning.{chipOf};
@@ -60,16 +61,16 @@ fn blank_chip() -> Chip
             y: 0,
             w: 0,
             h: 0,
-        }; 8],
+        }; Fix::COUNT],
         n: 0,
-        macs: [Mac { w: 0, h: 0 }; 8],
+        macs: [Mac { w: 0, h: 0 }; Mac::COUNT],
         t: 0,
-        nets: [Net { weight: 0, pins: 0 }; 32],
+        nets: [Net { weight: 0, pins: 0 }; Net::COUNT],
         pins: [Pin {
             m: 0,
             xup: 0,
             yup: 0,
-        }; 128],
+        }; Pin::COUNT],
     }
 }
 
@@ -129,11 +130,11 @@ fn entry_fault(s: State, w: Word) -> usize
 }
 
 // A faulty line: what was read before it stays.
-fn with_fault(s: State, no: usize) -> Taken
-    ensures { λ r. ⌜ r ≡ withFault s no ⌝ }
+fn with_fault(s: State, f: Refusal) -> Taken
+    ensures { λ r. ⌜ r ≡ withFault s f ⌝ }
 {
     Taken {
-        fault: Fault::No(no),
+        fault: Fault::Refused(f),
         state: s,
     }
 }
@@ -153,9 +154,9 @@ fn with_chip(s: State, w: Word, chip: Chip) -> Taken
 }
 
 // What a `die` line adds: the die.
-fn add_die(s: State, v: [u64; 4]) -> Taken
+fn add_die(s: State, v: [u64; 4], line: usize) -> Taken
     requires { ⌜ Sound s ⌝ }
-    ensures { λ r. ⌜ TakenOk r (add (partOf s) Word.Die (valuesOf Word.Die v)) ⌝ }
+    ensures { λ r. ⌜ TakenOk r line (add (partOf s) Word.Die (valuesOf Word.Die v)) ⌝ }
 {
     let mut chip = s.chip;
     let die = Die { w: v[0], h: v[1] };
@@ -164,10 +165,10 @@ fn add_die(s: State, v: [u64; 4]) -> Taken
 }
 
 // What a `fix` line adds: a last fix. Fix leaves the die 9; fix overlaps an earlier fix 10.
-fn add_fix(s: State, v: [u64; 4]) -> Taken
+fn add_fix(s: State, v: [u64; 4], line: usize) -> Taken
     requires { ⌜ Sound s ⌝ }
     requires { ⌜ Entered chipKind (partOf s) Word.Fix ⌝ }
-    ensures { λ r. ⌜ TakenOk r (add (partOf s) Word.Fix (valuesOf Word.Fix v)) ⌝ }
+    ensures { λ r. ⌜ TakenOk r line (add (partOf s) Word.Fix (valuesOf Word.Fix v)) ⌝ }
 {
     let f = Fix {
         x: v[0],
@@ -179,10 +180,10 @@ fn add_fix(s: State, v: [u64; 4]) -> Taken
     let k = chip.k;
     let fixes = chip.fixes;
     if !chip::fix_in_die(chip.die, f) {
-        return with_fault(s, 9);
+        return with_fault(s, Refusal { no: 9, line });
     }
     if !chip::clear_of_fixes(f, fixes, k) {
-        return with_fault(s, 10);
+        return with_fault(s, Refusal { no: 10, line });
     }
     chip.fixes[k] = f;
     chip.k = k + 1;
@@ -190,10 +191,10 @@ fn add_fix(s: State, v: [u64; 4]) -> Taken
 }
 
 // What a `mac` line adds: a last macro.
-fn add_mac(s: State, v: [u64; 4]) -> Taken
+fn add_mac(s: State, v: [u64; 4], line: usize) -> Taken
     requires { ⌜ Sound s ⌝ }
     requires { ⌜ Entered chipKind (partOf s) Word.Mac ⌝ }
-    ensures { λ r. ⌜ TakenOk r (add (partOf s) Word.Mac (valuesOf Word.Mac v)) ⌝ }
+    ensures { λ r. ⌜ TakenOk r line (add (partOf s) Word.Mac (valuesOf Word.Mac v)) ⌝ }
 {
     let mut chip = s.chip;
     let n = chip.n;
@@ -203,10 +204,10 @@ fn add_mac(s: State, v: [u64; 4]) -> Taken
 }
 
 // What a `net` line adds: a last net, without pins.
-fn add_net(s: State, v: [u64; 4]) -> Taken
+fn add_net(s: State, v: [u64; 4], line: usize) -> Taken
     requires { ⌜ Sound s ⌝ }
     requires { ⌜ Entered chipKind (partOf s) Word.Net ⌝ }
-    ensures { λ r. ⌜ TakenOk r (add (partOf s) Word.Net (valuesOf Word.Net v)) ⌝ }
+    ensures { λ r. ⌜ TakenOk r line (add (partOf s) Word.Net (valuesOf Word.Net v)) ⌝ }
 {
     let mut chip = s.chip;
     let t = chip.t;
@@ -219,15 +220,15 @@ fn add_net(s: State, v: [u64; 4]) -> Taken
 }
 
 // What a `pin` line adds: a last pin of the last net. No such macro 8.
-fn add_pin(s: State, v: [u64; 4]) -> Taken
+fn add_pin(s: State, v: [u64; 4], line: usize) -> Taken
     requires { ⌜ Sound s ⌝ }
     requires { ⌜ Entered chipKind (partOf s) Word.Pin ⌝ }
-    ensures { λ r. ⌜ TakenOk r (add (partOf s) Word.Pin (valuesOf Word.Pin v)) ⌝ }
+    ensures { λ r. ⌜ TakenOk r line (add (partOf s) Word.Pin (valuesOf Word.Pin v)) ⌝ }
 {
     let m = v[0] as usize;
     let mut chip = s.chip;
     if chip.n < m {
-        return with_fault(s, 8);
+        return with_fault(s, Refusal { no: 8, line });
     }
     let last = chip.t - 1;
     let q = s.pins;
@@ -252,23 +253,23 @@ fn add_pin(s: State, v: [u64; 4]) -> Taken
 }
 
 // What a line with the word w and the values v adds, or its fault.
-fn add_item(s: State, w: Word, v: [u64; 4]) -> Taken
+fn add_item(s: State, w: Word, v: [u64; 4], line: usize) -> Taken
     requires { ⌜ Sound s ⌝ }
     requires { ⌜ Entered chipKind (partOf s) w ⌝ }
-    ensures { λ r. ⌜ TakenOk r (add (partOf s) w (valuesOf w v)) ⌝ }
+    ensures { λ r. ⌜ TakenOk r line (add (partOf s) w (valuesOf w v)) ⌝ }
 {
     match w {
-        Word::Die => add_die(s, v),
-        Word::Fix => add_fix(s, v),
-        Word::Mac => add_mac(s, v),
-        Word::Net => add_net(s, v),
-        Word::Pin => add_pin(s, v),
+        Word::Die => add_die(s, v, line),
+        Word::Fix => add_fix(s, v, line),
+        Word::Mac => add_mac(s, v, line),
+        Word::Net => add_net(s, v, line),
+        Word::Pin => add_pin(s, v, line),
         Word::End => with_chip(s, Word::End, s.chip),
-        Word::Nothing => with_fault(s, 2),
-        Word::Least => with_fault(s, 2),
-        Word::None => with_fault(s, 2),
-        Word::At => with_fault(s, 2),
-        Word::Done => with_fault(s, 2),
+        Word::Nothing => with_fault(s, Refusal { no: 2, line }),
+        Word::Least => with_fault(s, Refusal { no: 2, line }),
+        Word::None => with_fault(s, Refusal { no: 2, line }),
+        Word::At => with_fault(s, Refusal { no: 2, line }),
+        Word::Done => with_fault(s, Refusal { no: 2, line }),
     }
 }
 
@@ -276,27 +277,27 @@ fn add_item(s: State, w: Word, v: [u64; 4]) -> Taken
 fn take_fields(rest: &[u8], s: State, w: Word, line: usize) -> Taken
     requires { ⌜ Sound s ⌝ }
     requires { ⌜ Entered chipKind (partOf s) w ⌝ }
-    ensures { λ r. ⌜ TakenOk r (stepFields chipKind (partOf s) w (fields (rules w) (now (rest .entry)))) ⌝ }
+    ensures { λ r. ⌜ TakenOk r line (stepFields chipKind (partOf s) w (fields (rules w) (now (rest .entry)))) ⌝ }
 {
     let fields = line::read_fields(rest, w, line);
     let answer = fields.answer;
     let values = fields.values;
     match answer {
-        Fields::Got => add_item(s, w, values),
-        Fields::Refused(f) => with_fault(s, f.no),
+        Fields::Got => add_item(s, w, values, line),
+        Fields::Refused(f) => with_fault(s, f),
     }
 }
 
 // What a line with these bytes leads to, where it has its LF.
 fn take_line(bytes: &[u8], s: State, line: usize) -> Taken
     requires { ⌜ Sound s ⌝ }
-    ensures { λ r. ⌜ TakenOk r (stepBytes chipKind (partOf s) (now (bytes .entry))) ⌝ }
+    ensures { λ r. ⌜ TakenOk r line (stepBytes chipKind (partOf s) (now (bytes .entry))) ⌝ }
 {
     let b = line::bytes_before(bytes, 44);
     let w = line::chip_word(&bytes[..b]);
     let no = entry_fault(s, w);
     if no != 0 {
-        return with_fault(s, no);
+        return with_fault(s, Refusal { no, line });
     }
     take_fields(&bytes[b..], s, w, line)
 }
@@ -306,20 +307,20 @@ fn next_line(text: &[u8], a: usize, e: usize, s: State, line: usize) -> Taken
     requires { ⌜ Sound s ⌝ }
     requires { ⌜ a ≤ length (now text) ⌝ }
     requires { ⌜ e ≡ lineEnd (now text) a ⌝ }
-    ensures { λ r. ⌜ TakenOk r (stepLine chipKind (partOf s) (lineAt (now (text .entry)) a e)) ⌝ }
+    ensures { λ r. ⌜ TakenOk r line (stepLine chipKind (partOf s) (lineAt (now (text .entry)) a e)) ⌝ }
 {
     if e == text.len() {
-        return with_fault(s, 2);
+        return with_fault(s, Refusal { no: 2, line });
     }
     take_line(&text[a..e], s, line)
 }
 
 // A refusal, with a blank chip.
-fn refused(no: usize, line: usize) -> ChipRead
-    ensures { λ r. ⌜ r ≡ refusedAt no line ⌝ }
+fn refused(f: Refusal) -> ChipRead
+    ensures { λ r. ⌜ r ≡ refusedAt f ⌝ }
 {
     ChipRead {
-        answer: ChipAnswer::Refused(Refusal { no, line }),
+        answer: ChipAnswer::Refused(f),
         chip: blank_chip(),
     }
 }
@@ -331,7 +332,7 @@ fn finish(s: State, line: usize) -> ChipRead
     let last = s.last;
     let chip = s.chip;
     if grammar::rank_of(last) != 6 {
-        return refused(5, line);
+        return refused(Refusal { no: 5, line });
     }
     ChipRead {
         answer: ChipAnswer::Accepted,
@@ -361,8 +362,8 @@ fn read_lines(text: &[u8]) -> ChipRead
                 a = e + 1;
                 line += 1;
             }
-            Fault::No(no) => {
-                return refused(no, line);
+            Fault::Refused(f) => {
+                return refused(f);
             }
         }
     }
@@ -374,8 +375,8 @@ pub fn read_chip(text: &[u8]) -> ChipRead
     ensures { λ r. ⌜ meantChip r ≡ readChip (now (text .entry)) ⌝ }
     ensures { λ r. ⌜ afterRefusal (r .answer) (r .chip) ≡ blankChip ⌝ }
 {
-    if 16384 < text.len() {
-        return refused(1, 0);
+    if TEXT_MOST < text.len() {
+        return refused(Refusal { no: 1, line: 0 });
     }
     read_lines(text)
 }

@@ -16,6 +16,7 @@ use Rattle.model.specs.declared.Tested.{Tested}
 use Rattle.model.specs.declared.Tested.the-variants as tested
 use Rattle.model.specs.declared.Word.the-variants as word
 use Rattle.model.specs.Meaning.{blankFix, blankMac, blankNet, blankPin, pinOf}
+use Rattle.model.specs.Limits.{mostFixes, mostMacs, mostNets, mostPins}
 use Rattle.grammar.specs.Line.{Rule, field, inRange}
 use Rattle.grammar.specs.Words.{byW, byH, rules, Item}
 use Rattle.grammar.specs.Steps.{need}
@@ -45,14 +46,14 @@ dieFault d = need (inLimits (dieItem d)) 4 0
 -- fix i: count 6, range 4, leaves the die 9, overlaps an earlier fix 10
 abbrev pub fixFault : Die → List Fix → ℕ → ℕ
 fixFault d fs i =
-    need (ltb i 8) 6
+    need (ltb i mostFixes) 6
     (need (inLimits (fixItem (getD fs i blankFix))) 4
     (need (fixInDie d (getD fs i blankFix)) 9
     (need (clearOf (getD fs i blankFix) (take i fs)) 10 0)))
 
 -- macro i: count 6, range 4
 abbrev pub macFault : List Mac → ℕ → ℕ
-macFault ms i = need (ltb i 8) 6 (need (inLimits (macItem (getD ms i blankMac))) 4 0)
+macFault ms i = need (ltb i mostMacs) 6 (need (inLimits (macItem (getD ms i blankMac))) 4 0)
 
 -- there is a net before net j, and it has no pin
 abbrev pub bareBefore : List HeldNet → ℕ → Bool
@@ -66,14 +67,14 @@ weightItem t = record { word = word.Net; values = pos (t .weight) ∷ [] }
 -- net j: count 6, the net before it without a pin 7, range 4
 abbrev pub netFault : List HeldNet → ℕ → ℕ
 netFault ts j =
-    need (ltb j 32) 6
+    need (ltb j mostNets) 6
     (need (not (bareBefore ts j)) 7
     (need (inLimits (weightItem (getD ts j blankNet))) 4 0))
 
 -- pin i of a chip with n macros: count 6, range 4, no such macro 8
 abbrev pub pinFault : List HeldPin → ℕ → ℕ → ℕ
 pinFault ps n i =
-    need (ltb i 128) 6
+    need (ltb i mostPins) 6
     (need (inLimits (pinItem (pinOf (getD ps i blankPin)))) 4
     (need (leb (getD ps i blankPin .m) n) 8 0))
 
@@ -120,7 +121,7 @@ itemsTested c =
 -- r is the answer to them, and the arrays have their lengths
 pub record ItemsAnswer (c : HeldChip) (r : Tested) : Type 0 where
   pub answer : r ≡ itemsTested c
-  pub fixes : length (c .fixes) ≡ 8
-  pub macs : length (c .macs) ≡ 8
-  pub nets : length (c .nets) ≡ 32
-  pub pins : length (c .pins) ≡ 128
+  pub fixes : length (c .fixes) ≡ mostFixes
+  pub macs : length (c .macs) ≡ mostMacs
+  pub nets : length (c .nets) ≡ mostNets
+  pub pins : length (c .pins) ≡ mostPins

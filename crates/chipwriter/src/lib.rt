@@ -6,6 +6,7 @@ use model::Mac;
 use model::Net;
 use model::Pin;
 use model::Refusal;
+use model::TEXT_MOST;
 use model::Tested;
 use model::WriteAnswer;
 ghost use mathlib.Core.Path.{_≡_};
@@ -51,7 +52,7 @@ fn fix_in_range(f: Fix) -> bool
 }
 
 // The fault of fix i, or 0: count 6, range 4, leaves the die 9, overlaps an earlier fix 10.
-fn fix_fault(d: Die, fixes: [Fix; 8], i: usize) -> usize
+fn fix_fault(d: Die, fixes: [Fix; Fix::COUNT], i: usize) -> usize
     ensures { λ r. ⌜ r ≡ fixFault d fixes i ⌝ }
 {
     if Fix::COUNT <= i {
@@ -71,7 +72,7 @@ fn fix_fault(d: Die, fixes: [Fix; 8], i: usize) -> usize
 }
 
 // The k fixes, from line 2 on.
-fn test_fixes(d: Die, fixes: [Fix; 8], k: usize) -> Tested
+fn test_fixes(d: Die, fixes: [Fix; Fix::COUNT], k: usize) -> Tested
     ensures { λ r. ⌜ r ≡ tests (fixFault d fixes) 2 0 k ⌝ }
 {
     let mut i: usize = 0;
@@ -86,7 +87,7 @@ fn test_fixes(d: Die, fixes: [Fix; 8], k: usize) -> Tested
 }
 
 // The fault of macro i, or 0: count 6, range 4.
-fn mac_fault(macs: [Mac; 8], i: usize) -> usize
+fn mac_fault(macs: [Mac; Mac::COUNT], i: usize) -> usize
     ensures { λ r. ⌜ r ≡ macFault macs i ⌝ }
 {
     if Mac::COUNT <= i {
@@ -100,7 +101,7 @@ fn mac_fault(macs: [Mac; 8], i: usize) -> usize
 }
 
 // The n macros, from the line given on.
-fn test_macs(macs: [Mac; 8], n: usize, line: usize) -> Tested
+fn test_macs(macs: [Mac; Mac::COUNT], n: usize, line: usize) -> Tested
     requires { ⌜ line ≤ 10 ⌝ }
     ensures { λ r. ⌜ r ≡ tests (macFault macs) line 0 n ⌝ }
 {
@@ -122,14 +123,14 @@ fn pin_in_range(p: Pin) -> bool
     if Mac::COUNT < p.m {
         return false;
     }
-    if !model::within(p.xup, Pin::PLACE_LEAST_UP, Pin::PLACE_MOST_UP) {
+    if !model::within(p.xup, Pin::LEAST_UP, Pin::MOST_UP) {
         return false;
     }
-    model::within(p.yup, Pin::PLACE_LEAST_UP, Pin::PLACE_MOST_UP)
+    model::within(p.yup, Pin::LEAST_UP, Pin::MOST_UP)
 }
 
 // The fault of pin i of a chip with n macros, or 0: count 6, range 4, no such macro 8.
-fn pin_fault(pins: [Pin; 128], i: usize, n: usize) -> usize
+fn pin_fault(pins: [Pin; Pin::COUNT], i: usize, n: usize) -> usize
     ensures { λ r. ⌜ r ≡ pinFault pins n i ⌝ }
 {
     if Pin::COUNT <= i {
@@ -146,7 +147,7 @@ fn pin_fault(pins: [Pin; 128], i: usize, n: usize) -> usize
 }
 
 // The pins of one net, `count` of them from pin q on, from the line given on.
-fn test_pins(pins: [Pin; 128], q: usize, count: usize, n: usize, line: usize) -> Tested
+fn test_pins(pins: [Pin; Pin::COUNT], q: usize, count: usize, n: usize, line: usize) -> Tested
     requires { ⌜ (q ≤ 128) × (line ≤ 200) ⌝ }
     ensures { λ r. ⌜ r ≡ pinsTested pins n q line count ⌝ }
 {
@@ -162,7 +163,7 @@ fn test_pins(pins: [Pin; 128], q: usize, count: usize, n: usize, line: usize) ->
 }
 
 // Whether there is a net before net j and it has no pin.
-fn bare_before(nets: [Net; 32], j: usize) -> bool
+fn bare_before(nets: [Net; Net::COUNT], j: usize) -> bool
     requires { ⌜ j ≤ 32 ⌝ }
     ensures { λ r. ⌜ r ≡ bareBefore nets j ⌝ }
 {
@@ -174,7 +175,7 @@ fn bare_before(nets: [Net; 32], j: usize) -> bool
 }
 
 // The fault of net j, or 0: count 6, the net before it without a pin 7, range 4.
-fn net_fault(nets: [Net; 32], j: usize) -> usize
+fn net_fault(nets: [Net; Net::COUNT], j: usize) -> usize
     ensures { λ r. ⌜ r ≡ netFault nets j ⌝ }
 {
     if Net::COUNT <= j {
@@ -191,7 +192,14 @@ fn net_fault(nets: [Net; 32], j: usize) -> usize
 }
 
 // Net j on the line given, with its pins from pin q on.
-fn test_net(nets: [Net; 32], j: usize, pins: [Pin; 128], q: usize, n: usize, line: usize) -> Tested
+fn test_net(
+    nets: [Net; Net::COUNT],
+    j: usize,
+    pins: [Pin; Pin::COUNT],
+    q: usize,
+    n: usize,
+    line: usize,
+) -> Tested
     requires { ⌜ (q ≤ 128) × (line ≤ 199) ⌝ }
     ensures { λ r. ⌜ r ≡ netTested nets pins n line q j ⌝ }
 {
@@ -204,7 +212,13 @@ fn test_net(nets: [Net; 32], j: usize, pins: [Pin; 128], q: usize, n: usize, lin
 }
 
 // The t nets with their pins and the end, from the line given on.
-fn test_nets(nets: [Net; 32], t: usize, pins: [Pin; 128], n: usize, first: usize) -> Tested
+fn test_nets(
+    nets: [Net; Net::COUNT],
+    t: usize,
+    pins: [Pin; Pin::COUNT],
+    n: usize,
+    first: usize,
+) -> Tested
     requires { ⌜ first ≤ 18 ⌝ }
     ensures { λ r. ⌜ r ≡ netsTested nets pins n first 0 0 t ⌝ }
 {
@@ -232,12 +246,12 @@ fn test_nets(nets: [Net; 32], t: usize, pins: [Pin; 128], n: usize, first: usize
 fn test_parts(
     die: Die,
     k: usize,
-    fixes: [Fix; 8],
+    fixes: [Fix; Fix::COUNT],
     n: usize,
-    macs: [Mac; 8],
+    macs: [Mac; Mac::COUNT],
     t: usize,
-    nets: [Net; 32],
-    pins: [Pin; 128],
+    nets: [Net; Net::COUNT],
+    pins: [Pin; Pin::COUNT],
 ) -> Tested
     ensures { λ r. ⌜ ItemsAnswer (record { die = die; k = k; fixes = fixes; n = n; macs = macs; t = t; nets = nets; pins = pins }) r ⌝ }
 {
@@ -277,7 +291,7 @@ pub fn test_chip(c: Chip) -> Tested
         return Tested::Passed;
     };
     let mut none = [0u8; 1];
-    if 16384 < chipprinter::put_chip(&mut none, 0, c) {
+    if TEXT_MOST < chipprinter::put_chip(&mut none, 0, c) {
         return Tested::Refused(Refusal { no: 1, line: 0 });
     }
     Tested::Refused(f)

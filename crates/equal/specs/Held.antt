@@ -6,6 +6,7 @@ use lib.ListN.{getD}
 use Rattle.model.specs.declared.Net.{Net}
 use Rattle.model.specs.declared.Pin.{Pin}
 use Rattle.model.specs.Meaning.{blankNet, blankPin}
+use Rattle.model.specs.Limits.{mostPins}
 use Rattle.chip.specs.Valid.{pinsBefore}
 use Rattle.halves.specs.Exchange.{renumbered}
 
@@ -37,6 +38,6 @@ pub record MatesTo (nets : List Net) (pins : List Pin) (t i j : ℕ) (mates : Li
 
 -- the pins of t nets fit, and the nets have mates
 pub record NetsAlike (nets : List Net) (pins : List Pin) (t i j : ℕ) : Type 0 where
-  pub fit : pinsBefore t nets ≤ 128
+  pub fit : pinsBefore t nets ≤ mostPins
   pub mates : List ℕ
   pub all : MatesTo nets pins t i j mates t

@@ -17,13 +17,19 @@ ghost use Rattle.equal.specs.Answer.{Yes};
 ghost use Rattle.equal.specs.Held.{NetsAlike};
 
 // Whether mates were found for t nets; false where their pins are more than a chip holds.
-fn nets_alike(nets: [Net; 32], t: usize, pins: [Pin; 128], i: usize, j: usize) -> bool
+fn nets_alike(
+    nets: [Net; Net::COUNT],
+    t: usize,
+    pins: [Pin; Pin::COUNT],
+    i: usize,
+    j: usize,
+) -> bool
     requires { ⌜ t ≤ 32 ⌝ }
     requires { ⌜ i < 8 ⌝ }
     requires { ⌜ j < 8 ⌝ }
     ensures { λ r. ⌜ Yes r (NetsAlike nets pins t i j) ⌝ }
 {
-    if 128 < start_of(nets, t) {
+    if Pin::COUNT < start_of(nets, t) {
         return false;
     }
     let mates = mates_of(nets, t, pins, i, j);
@@ -46,10 +52,10 @@ fn same_size(a: Mac, b: Mac) -> bool
 pub fn alike(c: Chip, i: usize, j: usize) -> bool
     ensures { λ r. ⌜ Yes r (Alike (chipOf c) i j) ⌝ }
 {
-    if 8 < c.n {
+    if Mac::COUNT < c.n {
         return false;
     }
-    if 32 < c.t {
+    if Net::COUNT < c.t {
         return false;
     }
     if c.n <= i {

@@ -9,7 +9,7 @@ ghost use Rattle.equal.specs.Answer.{Yes};
 ghost use Rattle.equal.specs.Held.{Turns, MatesTo};
 
 // Where the pins of net j begin; 129 past the pins that a chip holds.
-pub(crate) fn start_of(nets: [Net; 32], j: usize) -> usize
+pub(crate) fn start_of(nets: [Net; Net::COUNT], j: usize) -> usize
     requires { ⌜ j ≤ 32 ⌝ }
     ensures { λ r. ⌜ r ≡ min 129 (pinsBefore j nets) ⌝ }
 {
@@ -17,12 +17,12 @@ pub(crate) fn start_of(nets: [Net; 32], j: usize) -> usize
     let mut k: usize = 0;
     while k < j {
         let net = nets[k];
-        if 128 < net.pins {
+        if Pin::COUNT < net.pins {
             return 129;
         }
         from += net.pins;
         k += 1;
-        if 128 < from {
+        if Pin::COUNT < from {
             return 129;
         }
     }
@@ -30,7 +30,14 @@ pub(crate) fn start_of(nets: [Net; 32], j: usize) -> usize
 }
 
 // Whether net b has the weight of net a, and each of its pins with macros i and j exchanged.
-fn turns(nets: [Net; 32], pins: [Pin; 128], i: usize, j: usize, a: usize, b: usize) -> bool
+fn turns(
+    nets: [Net; Net::COUNT],
+    pins: [Pin; Pin::COUNT],
+    i: usize,
+    j: usize,
+    a: usize,
+    b: usize,
+) -> bool
     requires { ⌜ i < 8 ⌝ }
     requires { ⌜ j < 8 ⌝ }
     requires { ⌜ a < 32 ⌝ }
@@ -51,12 +58,12 @@ fn turns(nets: [Net; 32], pins: [Pin; 128], i: usize, j: usize, a: usize, b: usi
 
 // A likely mate of net a, from net a on and without a mate: each is the other one exchanged. 32: none.
 fn mate_of(
-    nets: [Net; 32],
+    nets: [Net; Net::COUNT],
     t: usize,
-    pins: [Pin; 128],
+    pins: [Pin; Pin::COUNT],
     i: usize,
     j: usize,
-    mates: [usize; 32],
+    mates: [usize; Net::COUNT],
     a: usize,
 ) -> usize
     requires { ⌜ t ≤ 32 ⌝ }
@@ -67,7 +74,7 @@ fn mate_of(
 {
     let mut b = a;
     while b < t {
-        if 32 <= mates[b] {
+        if Net::COUNT <= mates[b] {
             if turns(nets, pins, i, j, a, b) {
                 if turns(nets, pins, i, j, b, a) {
                     return b;
@@ -76,28 +83,28 @@ fn mate_of(
         }
         b += 1;
     }
-    32
+    Net::COUNT
 }
 
 // Likely mates of t nets, in pairs; 32 from the first net on that has none.
 pub(crate) fn mates_of(
-    nets: [Net; 32],
+    nets: [Net; Net::COUNT],
     t: usize,
-    pins: [Pin; 128],
+    pins: [Pin; Pin::COUNT],
     i: usize,
     j: usize,
-) -> [usize; 32]
+) -> [usize; Net::COUNT]
     requires { ⌜ t ≤ 32 ⌝ }
     requires { ⌜ pinsBefore t nets ≤ 128 ⌝ }
     requires { ⌜ i < 8 ⌝ }
     requires { ⌜ j < 8 ⌝ }
 {
-    let mut mates = [32usize; 32];
+    let mut mates = [Net::COUNT; Net::COUNT];
     let mut a: usize = 0;
     while a < t {
-        if 32 <= mates[a] {
+        if Net::COUNT <= mates[a] {
             let b = mate_of(nets, t, pins, i, j, mates, a);
-            if 32 <= b {
+            if Net::COUNT <= b {
                 return mates;
             }
             mates[a] = b;
@@ -110,12 +117,12 @@ pub(crate) fn mates_of(
 
 // Whether the mates are those of t nets: each the other's mate, and the other one exchanged.
 pub(crate) fn mated(
-    nets: [Net; 32],
+    nets: [Net; Net::COUNT],
     t: usize,
-    pins: [Pin; 128],
+    pins: [Pin; Pin::COUNT],
     i: usize,
     j: usize,
-    mates: [usize; 32],
+    mates: [usize; Net::COUNT],
 ) -> bool
     requires { ⌜ t ≤ 32 ⌝ }
     requires { ⌜ pinsBefore t nets ≤ 128 ⌝ }

@@ -52,7 +52,7 @@ fn same_pin(p: Pin, q: Pin) -> bool
 }
 
 // Whether p is one of the pins from `from` to before `to`.
-fn has_pin(pins: [Pin; 128], from: usize, to: usize, p: Pin) -> bool
+fn has_pin(pins: [Pin; Pin::COUNT], from: usize, to: usize, p: Pin) -> bool
     requires { ⌜ to ≤ 128 ⌝ }
     ensures { λ r. ⌜ Yes r (Within pins from to p) ⌝ }
 {
@@ -69,7 +69,7 @@ fn has_pin(pins: [Pin; 128], from: usize, to: usize, p: Pin) -> bool
 
 // Whether each pin from `from` to before `to`, macros i and j exchanged, is one of those from `low` to before `high`.
 pub(crate) fn covers(
-    pins: [Pin; 128],
+    pins: [Pin; Pin::COUNT],
     i: usize,
     j: usize,
     from: usize,

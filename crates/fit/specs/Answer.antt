@@ -4,6 +4,7 @@ use mathlib.Core.List.{List, [], _++_}
 use lib.ListN.{length, replicate}
 use Rattle.model.specs.declared.Spot.{Spot}
 use Rattle.model.specs.Meaning.{blankSpot}
+use Rattle.model.specs.Limits.{mostMacs}
 use Rattle.slots.specs.Fit.{Fit, refusedBy, noFit, placed}
 use Rattle.fit.specs.declared.FitOutcome.{FitOutcome}
 use Rattle.fit.specs.declared.FitOutcome.the-variants as outcome
@@ -19,9 +20,9 @@ positionsOf (refusedBy number line) = []
 positionsOf noFit = []
 positionsOf (placed l count ps) = ps
 
--- the positions, then 0,0 up to 8 in all
+-- the positions, then 0,0 up to the most in all
 abbrev pub padded : List Spot → List Spot
-padded ps = ps ++ replicate (8 - length ps) blankSpot
+padded ps = ps ++ replicate (mostMacs - length ps) blankSpot
 
 abbrev pub answerFor : Fit → FitAnswer
 answerFor f = record { outcome = outcomeOf f; spots = padded (positionsOf f) }

@@ -31,12 +31,12 @@ fn pin_up(p: Pin, d: Direction) -> u64
     }
 }
 
-fn mac_sides(macs: [Mac; 8], d: Direction) -> [u64; 8]
+fn mac_sides(macs: [Mac; Mac::COUNT], d: Direction) -> [u64; Mac::COUNT]
     ensures { λ r. ⌜ r ≡ map (macSide d) macs ⌝ }
 {
-    let mut sizes = [0u64; 8];
+    let mut sizes = [0u64; Mac::COUNT];
     let mut i: usize = 0;
-    while i < 8 {
+    while i < Mac::COUNT {
         let m = macs[i];
         sizes[i] = mac_side(m, d);
         i += 1;
@@ -44,12 +44,12 @@ fn mac_sides(macs: [Mac; 8], d: Direction) -> [u64; 8]
     sizes
 }
 
-fn axis_pins(pins: [Pin; 128], d: Direction) -> [AxisPin; 128]
+fn axis_pins(pins: [Pin; Pin::COUNT], d: Direction) -> [AxisPin; Axis::PINS]
     ensures { λ r. ⌜ r ≡ map (heldPin d) pins ⌝ }
 {
-    let mut on = [AxisPin { node: 0, up: 0 }; 128];
+    let mut on = [AxisPin { node: 0, up: 0 }; Axis::PINS];
     let mut i: usize = 0;
-    while i < 128 {
+    while i < Pin::COUNT {
         let p = pins[i];
         on[i] = AxisPin {
             node: p.m,
@@ -60,12 +60,12 @@ fn axis_pins(pins: [Pin; 128], d: Direction) -> [AxisPin; 128]
     on
 }
 
-fn axis_nets(nets: [Net; 32]) -> [AxisNet; 32]
+fn axis_nets(nets: [Net; Net::COUNT]) -> [AxisNet; Axis::NETS]
     ensures { λ r. ⌜ r ≡ map heldNet nets ⌝ }
 {
-    let mut on = [AxisNet { weight: 0, pins: 0 }; 32];
+    let mut on = [AxisNet { weight: 0, pins: 0 }; Axis::NETS];
     let mut j: usize = 0;
-    while j < 32 {
+    while j < Net::COUNT {
         let net = nets[j];
         on[j] = AxisNet {
             weight: net.weight,
@@ -80,12 +80,12 @@ fn axis_nets(nets: [Net; 32]) -> [AxisNet; 32]
 fn axis_parts(
     die: Die,
     k: usize,
-    fixes: [Fix; 8],
+    fixes: [Fix; Fix::COUNT],
     n: usize,
-    macs: [Mac; 8],
+    macs: [Mac; Mac::COUNT],
     t: usize,
-    nets: [Net; 32],
-    pins: [Pin; 128],
+    nets: [Net; Net::COUNT],
+    pins: [Pin; Pin::COUNT],
     letters: &[u8],
     d: Direction,
 ) -> Axis
@@ -98,7 +98,7 @@ fn axis_parts(
         sizes: mac_sides(macs, d),
         p: letters.len(),
         pairs: pair_slots(macs, n, fixes, k, letters, d),
-        base: 4096,
+        base: Pin::UP,
         t,
         nets: axis_nets(nets),
         pins: axis_pins(pins, d),

@@ -7,6 +7,7 @@ use axis::service::Solution;
 use axis::service::Verdict;
 use measure::MeasureAnswer;
 use model::Chip;
+use model::Mac;
 use model::Net;
 use model::Refusal;
 use model::Spot;
@@ -42,7 +43,7 @@ pub enum FitOutcome {
 // What a fit answers; the positions beside it are 0,0 past the macros, and 0,0 everywhere without a placement.
 pub struct FitAnswer {
     pub outcome: FitOutcome,
-    pub spots: [Spot; 8],
+    pub spots: [Spot; Mac::COUNT],
 }
 
 // An answer without positions.
@@ -51,7 +52,7 @@ fn bare(outcome: FitOutcome) -> FitAnswer
 {
     FitAnswer {
         outcome,
-        spots: [Spot { x: 0, y: 0 }; 8],
+        spots: [Spot { x: 0, y: 0 }; Mac::COUNT],
     }
 }
 
@@ -95,7 +96,7 @@ fn are_letters(letters: &[u8]) -> bool
 }
 
 // The pins of the t nets.
-fn pin_total(nets: [Net; 32], t: usize) -> usize
+fn pin_total(nets: [Net; Net::COUNT], t: usize) -> usize
     requires { ⌜ t ≤ 32 ⌝ }
     requires { ⌜ pinsBefore t nets ≤ 128 ⌝ }
     ensures { λ r. ⌜ r ≡ pinsBefore t nets ⌝ }
@@ -137,12 +138,12 @@ fn put_both(flow: &mut [u16], across: [u64; 456], up: [u64; 456], m: usize)
 }
 
 // The corners from their coordinates.
-fn spots_at(xs: [u64; 8], ys: [u64; 8]) -> [Spot; 8]
+fn spots_at(xs: [u64; Mac::COUNT], ys: [u64; Mac::COUNT]) -> [Spot; Mac::COUNT]
     ensures { λ r. ⌜ r ≡ spotsOf xs ys ⌝ }
 {
-    let mut spots = [Spot { x: 0, y: 0 }; 8];
+    let mut spots = [Spot { x: 0, y: 0 }; Mac::COUNT];
     let mut i: usize = 0;
-    while i < 8 {
+    while i < Mac::COUNT {
         spots[i] = Spot { x: xs[i], y: ys[i] };
         i += 1;
     }
@@ -153,8 +154,8 @@ fn spots_at(xs: [u64; 8], ys: [u64; 8]) -> [Spot; 8]
 fn placed(
     c: Chip,
     letters: &[u8],
-    xs: [u64; 8],
-    ys: [u64; 8],
+    xs: [u64; Mac::COUNT],
+    ys: [u64; Mac::COUNT],
     across: [u64; 456],
     up: [u64; 456],
     m: usize,
@@ -224,7 +225,7 @@ fn solve_on(c: Chip, letters: &[u8], d: Direction) -> Solution
 fn fit_up(
     c: Chip,
     letters: &[u8],
-    xs: [u64; 8],
+    xs: [u64; Mac::COUNT],
     across: [u64; 456],
     m: usize,
     flow: &mut [u16],

@@ -1,4 +1,5 @@
 // The slots of the pairs, in the order of their letters.
+use bounds::Axis;
 use bounds::Slot;
 use model::Fix;
 use model::Mac;
@@ -16,13 +17,13 @@ ghost use Rattle.slots.specs.Axes.{heldSlots};
 ghost use Rattle.fit.specs.Pairs.{FineFixes};
 
 pub(crate) fn pair_slots(
-    macs: [Mac; 8],
+    macs: [Mac; Mac::COUNT],
     n: usize,
-    fixes: [Fix; 8],
+    fixes: [Fix; Fix::COUNT],
     k: usize,
     letters: &[u8],
     d: Direction,
-) -> [Slot; 120]
+) -> [Slot; Axis::PAIRS]
     requires { ⌜ (n ≤ 8) × (k ≤ 8) × FineFixes k fixes × (length (now letters) ≡ length (couplesOf (take n macs) (take k fixes))) ⌝ }
     ensures { λ r. ⌜ take (length (now (letters .entry))) r ≡ heldSlots d (lettersOf (now (letters .entry))) (couplesOf (take n macs) (take k fixes)) ⌝ }
 {
@@ -31,7 +32,7 @@ pub(crate) fn pair_slots(
         head: 0,
         plus: 0,
         minus: 0,
-    }; 120];
+    }; Axis::PAIRS];
     let mut at = first_pair(n);
     let mut s: usize = 0;
     while s < letters.len() {

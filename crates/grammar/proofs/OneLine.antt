@@ -24,6 +24,10 @@ module _ {S : Type 0} (k : Kind S) (s : S) (w : Word) (l : ℕ) (f : Fields → 
   step-faulty (got ys) n j e = let c = e ∙ right ys in cc
   step-faulty (faulty m) n j e = let c = e ∙ wrong m in let q : n ≡ m = cc in ap fault q
 
+  pub faulty-line : (x : Fields) (n j : ℕ) → refused n j ≡ f x → j ≡ l
+  faulty-line (got ys) n j e = let c = e ∙ right ys in cc
+  faulty-line (faulty m) n j e = let c = e ∙ wrong m in cc
+
 -- the line from its word on
 module _ (bytes : List ℕ) (b : ℕ) (n : b ≡ length (upTo comma bytes)) where
   pub word-end : b ≤ length bytes

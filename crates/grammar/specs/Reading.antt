@@ -7,6 +7,7 @@ use lib.ListN.{length}
 use lib.IntN.{ℤ}
 use Rattle.model.specs.declared.Word.{Word}
 use Rattle.model.specs.declared.Word.the-variants.{Nothing}
+use Rattle.model.specs.Limits.{mostBytes}
 use Rattle.grammar.specs.Line.{Line, lines, upTo, from, comma, Fields, got, faulty, fields}
 use Rattle.grammar.specs.Words.{isWord, wordIn, rules}
 
@@ -79,6 +80,6 @@ module _ {S : Type 0} (k : Kind S) where
   sized true r = r
   sized false r = refused 1 0
 
-  -- a whole text: at most 16,384 bytes, from what is known at the start
+  -- a whole text, from what is known at the start
   unfoldable pub readText : S → List ℕ → Reading S
-  readText start text = sized (leb (length text) 16384) (readLines start 1 (lines text))
+  readText start text = sized (leb (length text) mostBytes) (readLines start 1 (lines text))

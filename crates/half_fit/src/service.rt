@@ -11,6 +11,7 @@ use crate::state::POOL;
 use crate::state::copy;
 use crate::tables::ARCS;
 use crate::tables::TAB;
+use bounds::Axis;
 use half_test::beyond::shows_beyond;
 use half_test::proposal::Shown;
 use half_test::proposal::test_fit;
@@ -26,7 +27,7 @@ pub enum HalfOutcome {
 // With the macros' coordinates, where it is a fit.
 pub struct HalfFit {
     pub outcome: HalfOutcome,
-    pub at: [u64; 8],
+    pub at: [u64; Axis::MACROS],
 }
 
 // The proposal of a fit in state o, tested.
@@ -36,13 +37,13 @@ fn judge_fit(tab: &[u32; TAB], arcs: &[u32; ARCS], st: &[u32; POOL], o: usize, r
     let Shown::Fit(l) = test_fit(tab, arcs, st, o) else {
         return HalfFit {
             outcome: HalfOutcome::Unshown,
-            at: [0u64; 8],
+            at: [0u64; Axis::MACROS],
         };
     };
     if room < l {
         return HalfFit {
             outcome: HalfOutcome::Beyond,
-            at: [0u64; 8],
+            at: [0u64; Axis::MACROS],
         };
     }
     let at = coordinates_of(st, o);
@@ -89,12 +90,12 @@ fn judge(
     if beyond(tab, arcs, st, o, room, proposal) {
         return HalfFit {
             outcome: HalfOutcome::Beyond,
-            at: [0u64; 8],
+            at: [0u64; Axis::MACROS],
         };
     }
     HalfFit {
         outcome: HalfOutcome::Unshown,
-        at: [0u64; 8],
+        at: [0u64; Axis::MACROS],
     }
 }
 

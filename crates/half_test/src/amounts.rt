@@ -7,6 +7,7 @@ use crate::gather::OfEntries;
 use crate::gather::of_bounds;
 use crate::gather::of_entries;
 use crate::read::weight;
+use bounds::Axis;
 
 // Amounts that pass both tests, or may not; their worth is `more` less `less`.
 pub(crate) struct Worth {
@@ -33,7 +34,7 @@ fn gives_weights(tab: &[u32; 1024], e: OfEntries) -> bool
     ensures { λ r. ⌜ Says r (Given (now (tab .entry)) (e .hi) (e .lo) 32) ⌝ }
 {
     let mut j: usize = 0;
-    while j < 32 {
+    while j < Axis::NETS {
         let w = weight(tab, j);
         if e.hi[j] != w {
             return false;

@@ -11,13 +11,14 @@ use crate::read::least;
 use crate::read::most;
 use crate::read::net;
 use crate::read::node;
+use bounds::Axis;
 
 // What the entries carry to hi and from lo at each node (high, low) and of each net (hi, lo), and that times their greatest and least places.
 pub(crate) struct OfEntries {
     pub high: [u64; 9],
     pub low: [u64; 9],
-    pub hi: [u64; 32],
-    pub lo: [u64; 32],
+    pub hi: [u64; Axis::NETS],
+    pub lo: [u64; Axis::NETS],
     pub up: u64,
     pub down: u64,
 }
@@ -35,8 +36,8 @@ pub(crate) fn of_entries(tab: &[u32; 1024], st: &[u32; 2560], o: usize) -> OfEnt
 {
     let mut high = [0u64; 9];
     let mut low = [0u64; 9];
-    let mut hi = [0u64; 32];
-    let mut lo = [0u64; 32];
+    let mut hi = [0u64; Axis::NETS];
+    let mut lo = [0u64; Axis::NETS];
     let mut up: u64 = 0;
     let mut down: u64 = 0;
     let m = entries(tab);

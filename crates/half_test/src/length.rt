@@ -12,11 +12,12 @@ use crate::read::net;
 use crate::read::node;
 use crate::read::weight;
 use crate::values::values_of;
+use bounds::Axis;
 
 // The greatest and the least place of each net; 0 and 131072 of a net with no entry.
 pub(crate) struct Ends {
-    pub top: [u64; 32],
-    pub bottom: [u64; 32],
+    pub top: [u64; Axis::NETS],
+    pub bottom: [u64; Axis::NETS],
 }
 
 fn larger(a: u64, b: u64) -> u64
@@ -41,8 +42,8 @@ fn ends_of(tab: &[u32; 1024], x: &[u64; 9]) -> Ends
     requires { ⌜ Values (now x) ⌝ }
     ensures { λ r. ⌜ NetEnds (now (tab .entry)) (macros (now (x .entry))) (entryCount (now (tab .entry))) (r .top) (r .bottom) ⌝ }
 {
-    let mut top = [0u64; 32];
-    let mut bottom = [131072u64; 32];
+    let mut top = [0u64; Axis::NETS];
+    let mut bottom = [131072u64; Axis::NETS];
     let m = entries(tab);
     let mut e: usize = 0;
     while e < m {
@@ -65,7 +66,7 @@ pub(crate) fn length_at(tab: &[u32; 1024], x: &[u64; 9]) -> u64
     let n = ends_of(tab, x);
     let mut l: u64 = 0;
     let mut j: usize = 0;
-    while j < 32 {
+    while j < Axis::NETS {
         let w = weight(tab, j);
         let s = n.top[j] - smaller(n.top[j], n.bottom[j]);
         l += w * s;
@@ -75,7 +76,7 @@ pub(crate) fn length_at(tab: &[u32; 1024], x: &[u64; 9]) -> u64
 }
 
 // The length of all nets at the macros' coordinates, each taken modulo the die's side.
-pub fn half_length(tab: &[u32; 1024], at: [u64; 8]) -> u64
+pub fn half_length(tab: &[u32; 1024], at: [u64; Axis::MACROS]) -> u64
     ensures { λ r. ⌜ r ≡ netsLength (limited at) (netsFrom (now (tab .entry)) 0 32) ⌝ }
 {
     let x = values_of(at);

@@ -1,4 +1,5 @@
 // The coordinates of a state, and the values of the nodes.
+use bounds::Axis;
 ghost use mathlib.Core.Path.{_≡_};
 ghost use Rattle.half_test.specs.State.{coordinateAt, coordinates, limited};
 ghost use Rattle.half_test.specs.Tests.{ValuesOf};
@@ -10,7 +11,7 @@ fn coordinate(st: &[u32; 2560], o: usize, k: usize) -> u64
 }
 
 // The macros' coordinates in state o.
-pub fn coordinates_of(st: &[u32; 2560], o: usize) -> [u64; 8]
+pub fn coordinates_of(st: &[u32; 2560], o: usize) -> [u64; Axis::MACROS]
     ensures { λ r. ⌜ r ≡ coordinates (now (st .entry)) o ⌝ }
 {
     let a = coordinate(st, o, 1);
@@ -25,7 +26,7 @@ pub fn coordinates_of(st: &[u32; 2560], o: usize) -> [u64; 8]
 }
 
 // The values of the nodes from the macros' coordinates, each taken modulo the die's side.
-pub(crate) fn values_of(at: [u64; 8]) -> [u64; 9]
+pub(crate) fn values_of(at: [u64; Axis::MACROS]) -> [u64; 9]
     ensures { λ r. ⌜ ValuesOf (limited at) r ⌝ }
 {
     let a = at[0] % 8192;

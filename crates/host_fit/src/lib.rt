@@ -5,6 +5,7 @@ use host_codes::Code;
 use host_codes::fit_code;
 use host_codes::refusal_code;
 use model::Chip;
+use model::Mac;
 use model::Spot;
 ghost use mathlib.Core.Path.{_≡_};
 ghost use Prim.Native.Nat.{_+_, _≤_, _<_};
@@ -17,7 +18,7 @@ ghost use Rattle.host_codes.specs.Lists.{numbersOf};
 ghost use Rattle.host_fit.specs.FitText.{over, FitDone, Refusing};
 
 // The first n corners as numbers x1, y1, x2, y2 ..
-fn put_corners(list: &mut [u64], spots: [Spot; 8], n: usize)
+fn put_corners(list: &mut [u64], spots: [Spot; Mac::COUNT], n: usize)
     requires { ⌜ n ≤ 8 ⌝ }
     requires { ⌜ n + n ≤ length (now list) ⌝ }
     ensures { λ _. ⌜ now (list .exit) ≡ over (numbersOf (take n spots)) (now (list .entry)) ⌝ }

@@ -5,6 +5,7 @@ use host_codes::measure_code;
 use host_codes::refusal_code;
 use measure::MeasureAnswer;
 use model::Chip;
+use model::Mac;
 use model::Refusal;
 use model::Spot;
 ghost use mathlib.Core.Path.{_≡_};
@@ -18,12 +19,12 @@ ghost use Rattle.host_codes.specs.Code.{code, ofMeasure};
 ghost use Rattle.host_measure.specs.MeasureText.{cornersOf, measureRead, measureText};
 
 // The n corners of the numbers x1, y1, x2, y2 ..
-fn corners(list: &[u64], n: usize) -> [Spot; 8]
+fn corners(list: &[u64], n: usize) -> [Spot; Mac::COUNT]
     requires { ⌜ n ≤ 8 ⌝ }
     requires { ⌜ length (now list) ≡ n + n ⌝ }
     ensures { λ r. ⌜ take n r ≡ cornersOf (now (list .entry)) ⌝ }
 {
-    let mut spots = [Spot { x: 0, y: 0 }; 8];
+    let mut spots = [Spot { x: 0, y: 0 }; Mac::COUNT];
     let mut i: usize = 0;
     while i < n {
         spots[i] = Spot {

@@ -5,6 +5,7 @@ use mathlib.Core.Path.{_≡_}
 use lib.IntN.{ℤ, pos, subℕ}
 use Rattle.model.specs.declared.Word.{Word}
 use Rattle.model.specs.declared.Word.the-variants as word
+use Rattle.model.specs.Meaning.{pinUp}
 use Rattle.line.specs.declared.Fields.{Fields as HeldFields}
 use Rattle.line.specs.declared.Fields.the-variants as held
 use Rattle.line.specs.declared.FieldsRead.{FieldsRead}
@@ -24,7 +25,7 @@ ups word.Die = 0 ∷ 0 ∷ []
 ups word.Fix = 0 ∷ 0 ∷ 0 ∷ 0 ∷ []
 ups word.Mac = 0 ∷ 0 ∷ []
 ups word.Net = 0 ∷ []
-ups word.Pin = 0 ∷ 4096 ∷ 4096 ∷ []
+ups word.Pin = 0 ∷ pinUp ∷ pinUp ∷ []
 ups word.End = []
 ups word.Least = 0 ∷ []
 ups word.None = []

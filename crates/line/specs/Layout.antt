@@ -6,6 +6,7 @@ use mathlib.Core.Bool.{Bool, true, _&&_}
 use lib.Dec.{leb, ltb, eqb}
 use lib.ListN.{length, take}
 use Rattle.model.specs.declared.Word.{Word}
+use Rattle.model.specs.Meaning.{pinUp}
 use Rattle.decimal.specs.Held.{cap}
 use Rattle.grammar.specs.Line.{Rule}
 use Rattle.grammar.specs.Words.{rules}
@@ -28,16 +29,16 @@ shortRule name u lo hi = record { mark = 44 ∷ name ∷ 44 ∷ 0 ∷ []; size =
 abbrev pub blankRule : HeldRule
 blankRule = record { mark = []; size = 0; up = 0; least = 0; most = 0 }
 
--- what the readers and writers of a field rely on: its mark is within its four bytes, its value is held at most 4,096 higher, and its range ends below the cap of the number reader
+-- what the readers and writers of a field rely on: its mark is within its four bytes, its value is held at most as much higher as a pin's, and its range ends below the cap of the number reader
 pub record Sane (r : HeldRule) : Type 0 where
   pub name : r .size ≤ 4
   pub long : length (r .mark) ≡ 4
-  pub shift : r .up ≤ 4096
+  pub shift : r .up ≤ pinUp
   pub top : r .most < cap
 
 -- the same, as a test that computes
 abbrev pub saneTest : HeldRule → Bool
-saneTest r = leb (r .size) 4 && (eqb (length (r .mark)) 4 && (leb (r .up) 4096 && ltb (r .most) cap))
+saneTest r = leb (r .size) 4 && (eqb (length (r .mark)) 4 && (leb (r .up) pinUp && ltb (r .most) cap))
 
 -- every one of the fields is sane
 abbrev pub allSane : List HeldRule → Bool

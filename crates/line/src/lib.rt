@@ -44,10 +44,10 @@ pub(crate) enum Field {
     Refused(Refusal),
 }
 
-// The fault of a line: none, or its number.
+// The fault of a line: none, or its refusal.
 pub enum Fault {
     Clear,
-    No(usize),
+    Refused(Refusal),
 }
 
 // What reading the fields of a line answers.
@@ -241,8 +241,8 @@ pub fn layout_of(word: Word) -> Layout
             count: 3,
             rules: [
                 short_rule(b'm', 0, 0, Mac::COUNT as u64),
-                short_rule(b'x', Pin::UP, Pin::PLACE_LEAST_UP, Pin::PLACE_MOST_UP),
-                short_rule(b'y', Pin::UP, Pin::PLACE_LEAST_UP, Pin::PLACE_MOST_UP),
+                short_rule(b'x', Pin::UP, Pin::LEAST_UP, Pin::MOST_UP),
+                short_rule(b'y', Pin::UP, Pin::LEAST_UP, Pin::MOST_UP),
                 none,
             ],
         },

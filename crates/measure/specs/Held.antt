@@ -4,12 +4,14 @@ use mathlib.Core.Bool.{Bool, true, _&&_}
 use mathlib.Core.List.{List, [], _∷_, _++_, map}
 use lib.ListN.{getD}
 use lib.Seq.{slice}
+use lib.IntN.{natAbs}
 use Rattle.model.specs.declared.Die.{Die}
 use Rattle.model.specs.declared.Fix.{Fix}
 use Rattle.model.specs.declared.Spot.{Spot}
 use Rattle.model.specs.declared.Net.{Net as HeldNet}
 use Rattle.model.specs.declared.Pin.{Pin as HeldPin}
-use Rattle.model.specs.Meaning.{blankNet, blankPin}
+use Rattle.model.specs.Meaning.{blankNet, blankPin, pinUp}
+use Rattle.model.specs.Limits.{mostMacs, mostNets, mostPins, mostPlace, placedCorner, recordLength}
 use Rattle.chip.specs.Kind.{fixInDie, clearOf}
 use Rattle.chip.specs.Valid.{pinsBefore}
 use Rattle.numbers.specs.Spread.{spread}
@@ -36,11 +38,11 @@ halfAround ps hs = spread (map (upX ps) hs) + spread (map (upY ps) hs)
 
 -- a pin within its ranges, whose macro's corner is within 0..1,024
 pub record Placed (ps : List Spot) (p : HeldPin) : Type 0 where
-  pub macro : p .m ≤ 8
-  pub x : origin ps (p .m) .x ≤ 1024
-  pub y : origin ps (p .m) .y ≤ 1024
-  pub xup : p .xup ≤ 8192
-  pub yup : p .yup ≤ 8192
+  pub macro : p .m ≤ mostMacs
+  pub x : origin ps (p .m) .x ≤ natAbs (placedCorner .most)
+  pub y : origin ps (p .m) .y ≤ natAbs (placedCorner .most)
+  pub xup : p .xup ≤ pinUp + mostPlace
+  pub yup : p .yup ≤ pinUp + mostPlace
 
 pub record PlacedTo (ps : List Spot) (hs : List HeldPin) (last : ℕ) : Type 0 where
   pub at : (i : ℕ) → i < last → Placed ps (getD hs i blankPin)
@@ -52,8 +54,8 @@ lengthTo ps ts hs (suc j) = lengthTo ps ts hs j + getD ts j blankNet .weight * h
 
 -- what summing the lengths of t nets needs: pins that are placed, and a sum that is not too large
 pub record Summable (ps : List Spot) (ts : List HeldNet) (hs : List HeldPin) (t : ℕ) : Type 0 where
-  pub nets : t ≤ 32
-  pub pins : pinsBefore t ts ≤ 128
+  pub nets : t ≤ mostNets
+  pub pins : pinsBefore t ts ≤ mostPins
   pub some : (j : ℕ) → j < t → 0 < getD ts j blankNet .pins
   pub placed : PlacedTo ps hs (pinsBefore t ts)
-  pub small : lengthTo ps ts hs t ≤ 589824000
+  pub small : lengthTo ps ts hs t ≤ natAbs (recordLength .most)

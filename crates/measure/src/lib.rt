@@ -28,7 +28,7 @@ pub enum MeasureAnswer {
 }
 
 // Whether each of the first count positions is within 0..1,024.
-fn in_range(spots: [Spot; 8], count: usize) -> bool
+fn in_range(spots: [Spot; Mac::COUNT], count: usize) -> bool
     requires { ⌜ count ≤ 8 ⌝ }
     ensures { λ r. ⌜ r ≡ inRange (take count spots) ⌝ }
 {
@@ -47,7 +47,7 @@ fn in_range(spots: [Spot; 8], count: usize) -> bool
 }
 
 // The macros at their positions, as boxes.
-fn boxes_at(macs: [Mac; 8], spots: [Spot; 8]) -> [Fix; 8]
+fn boxes_at(macs: [Mac; Mac::COUNT], spots: [Spot; Mac::COUNT]) -> [Fix; Mac::COUNT]
     ensures { λ r. ⌜ r ≡ boxes macs spots ⌝ }
 {
     let mut bs = [Fix {
@@ -55,9 +55,9 @@ fn boxes_at(macs: [Mac; 8], spots: [Spot; 8]) -> [Fix; 8]
         y: 0,
         w: 0,
         h: 0,
-    }; 8];
+    }; Fix::COUNT];
     let mut i: usize = 0;
-    while i < 8 {
+    while i < Mac::COUNT {
         let m = macs[i];
         let p = spots[i];
         bs[i] = Fix {
@@ -72,7 +72,7 @@ fn boxes_at(macs: [Mac; 8], spots: [Spot; 8]) -> [Fix; 8]
 }
 
 // Whether box i lies in the die, and is apart from the fixes and from the boxes before it.
-fn legal_box(die: Die, fixes: [Fix; 8], k: usize, bs: [Fix; 8], i: usize) -> bool
+fn legal_box(die: Die, fixes: [Fix; Fix::COUNT], k: usize, bs: [Fix; Mac::COUNT], i: usize) -> bool
     requires { ⌜ i < 8 ⌝ }
     ensures { λ r. ⌜ r ≡ legalBox die (take k fixes) (take i bs) (getD bs i blankFix) ⌝ }
 {
@@ -87,7 +87,13 @@ fn legal_box(die: Die, fixes: [Fix; 8], k: usize, bs: [Fix; 8], i: usize) -> boo
 }
 
 // Whether each of n boxes is legal.
-fn legal_boxes(die: Die, fixes: [Fix; 8], k: usize, bs: [Fix; 8], n: usize) -> bool
+fn legal_boxes(
+    die: Die,
+    fixes: [Fix; Fix::COUNT],
+    k: usize,
+    bs: [Fix; Mac::COUNT],
+    n: usize,
+) -> bool
     requires { ⌜ n ≤ 8 ⌝ }
     ensures { λ r. ⌜ r ≡ legalAfter die (take k fixes) [] (take n bs) ⌝ }
 {
@@ -102,7 +108,7 @@ fn legal_boxes(die: Die, fixes: [Fix; 8], k: usize, bs: [Fix; 8], n: usize) -> b
 }
 
 // The corner that a pin's x and y are added to: the macro's, or 0,0 for a pad.
-fn origin_of(spots: [Spot; 8], m: usize) -> Spot
+fn origin_of(spots: [Spot; Mac::COUNT], m: usize) -> Spot
     requires { ⌜ m ≤ 8 ⌝ }
     ensures { λ r. ⌜ r ≡ origin spots m ⌝ }
 {
@@ -113,7 +119,7 @@ fn origin_of(spots: [Spot; 8], m: usize) -> Spot
 }
 
 // Where a pin lies, 4,096 higher.
-fn place_of(spots: [Spot; 8], p: Pin) -> Spot
+fn place_of(spots: [Spot; Mac::COUNT], p: Pin) -> Spot
     requires { ⌜ Placed spots p ⌝ }
     ensures { λ r. ⌜ r ≡ record { x = upX spots p; y = upY spots p } ⌝ }
 {
@@ -166,7 +172,7 @@ fn with_pin(e: Extent, p: Spot) -> Extent
 }
 
 // Greatest x less least x, plus greatest y less least y, over the pins from `from` up to `to`.
-fn half_around(spots: [Spot; 8], pins: [Pin; 128], from: usize, to: usize) -> u64
+fn half_around(spots: [Spot; Mac::COUNT], pins: [Pin; Pin::COUNT], from: usize, to: usize) -> u64
     requires { ⌜ PlacedTo spots pins to × (from < to) × (to ≤ 128) ⌝ }
     ensures { λ r. ⌜ r ≡ halfAround spots (slice from to pins) ⌝ }
 {
@@ -187,7 +193,12 @@ fn half_around(spots: [Spot; 8], pins: [Pin; 128], from: usize, to: usize) -> u6
 }
 
 // The sum of the lengths of t nets: each net's weight times half the way around its pins.
-fn length_of(nets: [Net; 32], t: usize, pins: [Pin; 128], spots: [Spot; 8]) -> u64
+fn length_of(
+    nets: [Net; Net::COUNT],
+    t: usize,
+    pins: [Pin; Pin::COUNT],
+    spots: [Spot; Mac::COUNT],
+) -> u64
     requires { ⌜ Summable spots nets pins t ⌝ }
     ensures { λ r. ⌜ r ≡ lengthTo spots nets pins t ⌝ }
 {
@@ -208,14 +219,14 @@ fn length_of(nets: [Net; 32], t: usize, pins: [Pin; 128], spots: [Spot; 8]) -> u
 fn measure_parts(
     die: Die,
     k: usize,
-    fixes: [Fix; 8],
+    fixes: [Fix; Fix::COUNT],
     n: usize,
-    macs: [Mac; 8],
+    macs: [Mac; Mac::COUNT],
     t: usize,
-    nets: [Net; 32],
-    pins: [Pin; 128],
+    nets: [Net; Net::COUNT],
+    pins: [Pin; Pin::COUNT],
     count: usize,
-    spots: [Spot; 8],
+    spots: [Spot; Mac::COUNT],
 ) -> MeasureAnswer
     requires { ⌜ Accepted (record { die = die; k = k; fixes = fixes; n = n; macs = macs; t = t; nets = nets; pins = pins }) ⌝ }
     ensures { λ r. ⌜ measuredAs r ≡ measurePassed (chipOf (record { die = die; k = k; fixes = fixes; n = n; macs = macs; t = t; nets = nets; pins = pins })) (firstOf blankSpot count spots) ⌝ }
@@ -233,7 +244,7 @@ fn measure_parts(
 }
 
 // A chip whose test is passed, as one value.
-fn measure_passed(c: Chip, count: usize, spots: [Spot; 8]) -> MeasureAnswer
+fn measure_passed(c: Chip, count: usize, spots: [Spot; Mac::COUNT]) -> MeasureAnswer
     requires { ⌜ Accepted c ⌝ }
     ensures { λ r. ⌜ measuredAs r ≡ measurePassed (chipOf c) (firstOf blankSpot count spots) ⌝ }
 {
@@ -246,7 +257,7 @@ fn measure_passed(c: Chip, count: usize, spots: [Spot; 8]) -> MeasureAnswer
 }
 
 // Measures the first count positions; a count above 8 stands for a list that is too long.
-pub fn measure_array(c: Chip, count: usize, spots: [Spot; 8]) -> MeasureAnswer
+pub fn measure_array(c: Chip, count: usize, spots: [Spot; Mac::COUNT]) -> MeasureAnswer
     ensures { λ r. ⌜ measuredAs r ≡ measurePositions (chipOf c) (firstOf blankSpot count spots) ⌝ }
 {
     let tested = chipwriter::test_chip(c);

@@ -57,7 +57,7 @@ pub fn measure_list(c: Chip, spots: &[Spot]) -> MeasureAnswer
 }
 
 // Lends the first count of eight positions as a list.
-fn measure_first(c: Chip, count: usize, spots: [Spot; 8]) -> MeasureAnswer
+fn measure_first(c: Chip, count: usize, spots: [Spot; Mac::COUNT]) -> MeasureAnswer
     requires { ⌜ count ≤ 8 ⌝ }
     ensures { λ r. ⌜ measuredAs r ≡ measurePositions (chipOf c) (take count spots) ⌝ }
 {
@@ -65,7 +65,7 @@ fn measure_first(c: Chip, count: usize, spots: [Spot; 8]) -> MeasureAnswer
 }
 
 // Measures the first count of eight positions, lent as a list; a count above 8 stands for a list that is too long.
-pub fn measure_spots(c: Chip, count: usize, spots: [Spot; 8]) -> MeasureAnswer
+pub fn measure_spots(c: Chip, count: usize, spots: [Spot; Mac::COUNT]) -> MeasureAnswer
     ensures { λ r. ⌜ measuredAs r ≡ measurePositions (chipOf c) (firstOf blankSpot count spots) ⌝ }
 {
     if Mac::COUNT < count {

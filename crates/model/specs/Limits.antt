@@ -1,7 +1,32 @@
--- The ranges of document 01, "The chip file" and "The search and its record", each with the thing that it limits.
+-- The limits of document 01, "The chip file" and "The search and its record", each with the thing that it limits.
+use Prim.Native.Nat.{ℕ}
 use mathlib.Core.Bool.{Bool, _&&_}
-use lib.IntN.{ℤ, pos, negsuc}
+use lib.IntN.{ℤ, pos, negℤ}
 use lib.Signed.{leZ}
+
+-- ---- how many
+
+-- how many bytes a text has at most
+abbrev pub mostBytes : ℕ
+mostBytes = 16384
+
+-- how many fixes a chip has at most
+abbrev pub mostFixes : ℕ
+mostFixes = 8
+
+-- how many macros a chip or a record has at most
+abbrev pub mostMacs : ℕ
+mostMacs = 8
+
+-- how many nets a chip has at most
+abbrev pub mostNets : ℕ
+mostNets = 32
+
+-- how many pins a chip has at most, in all nets
+abbrev pub mostPins : ℕ
+mostPins = 128
+
+-- ---- from where to where
 
 -- a range: its least and its greatest number
 pub record Range : Type 0 where
@@ -34,11 +59,15 @@ netWeight = record { least = pos 1; most = pos 1000 }
 
 -- m of a pin: its macro, or 0 for a pad
 abbrev pub pinMacro : Range
-pinMacro = record { least = pos 0; most = pos 8 }
+pinMacro = record { least = pos 0; most = pos mostMacs }
+
+-- how far x and y of a pin go below 0 and above
+abbrev pub mostPlace : ℕ
+mostPlace = 4096
 
 -- x and y of a pin
 abbrev pub pinPlace : Range
-pinPlace = record { least = negsuc 4095; most = pos 4096 }
+pinPlace = record { least = negℤ (pos mostPlace); most = pos mostPlace }
 
 -- wl of a record: its wirelength
 abbrev pub recordLength : Range
@@ -46,7 +75,7 @@ recordLength = record { least = pos 0; most = pos 589824000 }
 
 -- m of a record: the number of a macro
 abbrev pub placedMacro : Range
-placedMacro = record { least = pos 1; most = pos 8 }
+placedMacro = record { least = pos 1; most = pos mostMacs }
 
 -- x and y of a record: a macro's corner
 abbrev pub placedCorner : Range

@@ -71,7 +71,7 @@ meantNet net.Outside = outOfRange
 abbrev pub makeNet : ℕ → ℕ → Made Net
 makeNet weight pins = ifWithin (isWithin netWeight (pos weight)) (record { weight = weight; pins = pins })
 
--- what each case of the answer for x or y of a pin means; the value is held 4,096 higher
+-- what each case of the answer for x or y of a pin means
 abbrev pub meantPlace : Place → Made ℤ
 meantPlace (place.Up v) = made (pinOf (record { m = 0; xup = v; yup = 0 }) .x)
 meantPlace place.Outside = outOfRange

@@ -61,9 +61,13 @@ blankPin = record { m = 0; xup = 0; yup = 0 }
 abbrev pub blankSpot : Spot
 blankSpot = record { x = 0; y = 0 }
 
--- the pin that a value means: x and y are held 4,096 higher
+-- how much higher than they are x and y of a pin are held
+abbrev pub pinUp : ℕ
+pinUp = 4096
+
+-- the pin that a value means
 abbrev pub pinOf : HeldPin → Pin
-pinOf p = record { m = p .m; x = subℕ (p .xup) 4096; y = subℕ (p .yup) 4096 }
+pinOf p = record { m = p .m; x = subℕ (p .xup) pinUp; y = subℕ (p .yup) pinUp }
 
 -- the pins that a list holds
 unfoldable pub pinsOf : List HeldPin → List Pin

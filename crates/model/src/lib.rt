@@ -4,6 +4,9 @@ ghost use mathlib.Core.Bool.{_&&_};
 ghost use lib.Dec.{leb};
 ghost use Rattle.model.specs.Made.{meantDie, makeDie, meantFix, makeFix, meantMac, makeMac, meantNet, makeNet, meantPlace, makePlace, meantPin, makePin};
 
+// How many bytes a text has at most.
+pub const TEXT_MOST: usize = 16384;
+
 // A refusal: its number in document 01's refusal table, and the line (0 where there is none).
 pub struct Refusal {
     pub no: usize,
@@ -196,7 +199,7 @@ impl Net {
     }
 }
 
-// A pin of macro m, or a pad where m is 0. Its x and y are held 4,096 higher, so that no field is signed.
+// A pin of macro m, or a pad where m is 0. Its x and y are held higher by Pin::UP, so that no field is signed.
 pub struct Pin {
     pub m: usize,
     pub xup: u64,
@@ -209,23 +212,24 @@ pub enum PinMade {
     Outside,
 }
 
-// What holding x or y of a pin answers: the value, held 4,096 higher, or that it is outside its range.
+// What holding x or y of a pin answers: the value as held, or that it is outside its range.
 enum Place {
     Up(u64),
     Outside,
 }
 
-// x or y of a pin, held 4,096 higher, where it is in its range.
+// x or y of a pin as held, where it is in its range.
 fn raised(x: i64) -> Place
     ensures { λ r. ⌜ meantPlace r ≡ makePlace x ⌝ }
 {
+    let most = Pin::PLACE_MOST as i64;
+    if x < -most {
+        return Place::Outside;
+    }
+    if most < x {
+        return Place::Outside;
+    }
     let up = Pin::UP as i64;
-    if x < -up {
-        return Place::Outside;
-    }
-    if up < x {
-        return Place::Outside;
-    }
     Place::Up((x + up) as u64)
 }
 
@@ -233,14 +237,16 @@ impl Pin {
     // How many pins a chip has at most, in all nets.
     pub const COUNT: usize = 128;
 
+    // How far x and y go below 0 and above.
+    pub const PLACE_MOST: u64 = 4096;
+
     // How much higher x and y are held.
     pub const UP: u64 = 4096;
 
-    // The least x and y, as held: -4,096.
-    pub const PLACE_LEAST_UP: u64 = 0;
+    // The least and the greatest x and y, as held.
+    pub const LEAST_UP: u64 = Pin::UP - Pin::PLACE_MOST;
 
-    // The greatest x and y, as held: 4,096.
-    pub const PLACE_MOST_UP: u64 = 8192;
+    pub const MOST_UP: u64 = Pin::UP + Pin::PLACE_MOST;
 
     // A pin or a pad, where m, x and y are in their ranges.
     pub fn new(m: usize, x: i64, y: i64) -> PinMade
@@ -263,12 +269,12 @@ impl Pin {
 pub struct Chip {
     pub die: Die,
     pub k: usize,
-    pub fixes: [Fix; 8],
+    pub fixes: [Fix; Fix::COUNT],
     pub n: usize,
-    pub macs: [Mac; 8],
+    pub macs: [Mac; Mac::COUNT],
     pub t: usize,
-    pub nets: [Net; 32],
-    pub pins: [Pin; 128],
+    pub nets: [Net; Net::COUNT],
+    pub pins: [Pin; Pin::COUNT],
 }
 
 // A macro's lower left corner in a placement.
@@ -291,7 +297,7 @@ pub enum Outcome {
 // A record. Spots past the count do not belong to it; a count above the array stands for one macro too many.
 pub struct Record {
     pub outcome: Outcome,
-    pub spots: [Spot; 8],
+    pub spots: [Spot; Mac::COUNT],
 }
 
 impl Record {

@@ -1,4 +1,6 @@
 // The pairs of a chip, in the order of their letters: how many there are, and a cursor through them.
+use model::Fix;
+use model::Mac;
 ghost use mathlib.Core.Path.{_≡_};
 ghost use Rattle.pairs.specs.Order.{First, isOn, nextOf};
 ghost use Rattle.pairs.specs.Count.{letterTotal};
@@ -90,10 +92,10 @@ pub fn letter_count(n: usize, k: usize) -> usize
     if n == 0 {
         return 0;
     }
-    if 8 < n {
+    if Mac::COUNT < n {
         return 0;
     }
-    if 8 < k {
+    if Fix::COUNT < k {
         return 0;
     }
     n * (n - 1) / 2 + n * k

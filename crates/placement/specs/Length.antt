@@ -7,16 +7,17 @@ use lib.IntN.{ℤ, pos, negℤ, _+ℤ_, natAbs}
 use lib.Signed.{leZ}
 use Rattle.model.specs.declared.Spot.{Spot}
 use Rattle.model.specs.Meaning.{Pin, Net, Chip, blankSpot}
+use Rattle.model.specs.Limits.{placedCorner}
 
 -- the corner that a pin's x and y are added to: the macro's, or 0,0 for a pad
 abbrev pub origin : List Spot → ℕ → Spot
 origin ps zero = blankSpot
 origin ps (suc m) = getD ps m blankSpot
 
--- positions 0..1,024
+-- positions in their range
 pub record Near (ps : List Spot) : Type 0 where
-  pub x : (i : ℕ) → i < length ps → getD ps i blankSpot .x ≤ 1024
-  pub y : (i : ℕ) → i < length ps → getD ps i blankSpot .y ≤ 1024
+  pub x : (i : ℕ) → i < length ps → getD ps i blankSpot .x ≤ natAbs (placedCorner .most)
+  pub y : (i : ℕ) → i < length ps → getD ps i blankSpot .y ≤ natAbs (placedCorner .most)
 
 -- where a pin lies
 abbrev pub pinX : List Spot → Pin → ℤ

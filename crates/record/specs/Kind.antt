@@ -9,6 +9,7 @@ use Rattle.model.specs.declared.Spot.{Spot}
 use Rattle.model.specs.declared.Word.{Word}
 use Rattle.model.specs.declared.Word.the-variants as word
 use Rattle.model.specs.Meaning.{Record, none, least}
+use Rattle.model.specs.Limits.{mostMacs}
 use Rattle.grammar.specs.Words.{isWord, isIn, recordWords, size}
 use Rattle.grammar.specs.Reading.{Kind, Step, next, fault, check}
 
@@ -40,7 +41,7 @@ abbrev pub spotsOf : Record → List Spot
 spotsOf none = []
 spotsOf (least wl ps) = ps
 
--- there is room for one more of the kind: a record has at most 8 macros
+-- there is room for one more of the kind
 abbrev pub room : Record → Word → Bool
 room r word.Nothing = true
 room r word.Die = true
@@ -51,7 +52,7 @@ room r word.Pin = true
 room r word.End = true
 room r word.Least = true
 room r word.None = true
-room r word.At = ltb (length (spotsOf r)) 8
+room r word.At = ltb (length (spotsOf r)) mostMacs
 room r word.Done = true
 
 -- the corner with the values zs of an `at` line

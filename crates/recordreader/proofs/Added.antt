@@ -25,29 +25,31 @@ use Rattle.recordreader.proofs.Entry.{count-meant, at-fits, at-found}
 abbrev taken : State → Taken
 taken s = record { fault = held.Clear; state = s }
 
-module _ (s : State) (v : List ℕ) (sound : Sound s) where
-  pub least-added : TakenOk (taken (record { last = word.Least; found = true; wl = getD v 0 0; count = 0; spots = s .spots })) (add (partOf s) word.Least (valuesOf word.Least v))
+module _ (s : State) (v : List ℕ) (sound : Sound s) (l : ℕ) where
+  pub least-added : TakenOk (taken (record { last = word.Least; found = true; wl = getD v 0 0; count = 0; spots = s .spots })) l (add (partOf s) word.Least (valuesOf word.Least v))
   unfolding firstOf
   least-added =
       record {
         meant = rw (least-values v);
+        at = refl;
         sound = record { few = omega arith; long = sound .long; blank = λ e. refl; opened = λ o. refl };
       }
 
-  pub done-added : TakenOk (taken (record { last = word.Done; found = s .found; wl = s .wl; count = s .count; spots = s .spots })) (add (partOf s) word.Done (valuesOf word.Done v))
-  done-added = record { meant = refl; sound = record { few = sound .few; long = sound .long; blank = sound .blank; opened = λ o. absurd (false≢true o) } }
+  pub done-added : TakenOk (taken (record { last = word.Done; found = s .found; wl = s .wl; count = s .count; spots = s .spots })) l (add (partOf s) word.Done (valuesOf word.Done v))
+  done-added = record { meant = refl; at = refl; sound = record { few = sound .few; long = sound .long; blank = sound .blank; opened = λ o. absurd (false≢true o) } }
 
   -- m against the next number
   turn : eqb (size (valuesOf word.At v) 0) (suc (length (spotsOf (partOf s .result)))) ≡ eqb (getD v 0 0) (s .count + 1)
   turn = rw (at-values v .0, count-meant s sound, add-one)
 
-  pub out-of-turn : (r : Taken) → (getD v 0 0 ≡ s .count + 1 → ⊥) → r ≡ withFault s 8 → TakenOk r (add (partOf s) word.At (valuesOf word.At v))
-  out-of-turn r h e = rw e (record { meant = rw (turn, ne-eqb (getD v 0 0) (s .count + 1) h); sound = sound })
+  pub out-of-turn : (r : Taken) → (getD v 0 0 ≡ s .count + 1 → ⊥) → r ≡ withFault s (record { no = 8; line = l }) → TakenOk r l (add (partOf s) word.At (valuesOf word.At v))
+  out-of-turn r h e = rw e (record { meant = rw (turn, ne-eqb (getD v 0 0) (s .count + 1) h); at = refl; sound = sound })
 
-  pub at-added : Entered recordKind (partOf s) word.At → getD v 0 0 ≡ s .count + 1 → TakenOk (taken (record { last = word.At; found = s .found; wl = s .wl; count = s .count + 1; spots = set (s .spots) (s .count) (heldSpot v) })) (add (partOf s) word.At (valuesOf word.At v))
+  pub at-added : Entered recordKind (partOf s) word.At → getD v 0 0 ≡ s .count + 1 → TakenOk (taken (record { last = word.At; found = s .found; wl = s .wl; count = s .count + 1; spots = set (s .spots) (s .count) (heldSpot v) })) l (add (partOf s) word.At (valuesOf word.At v))
   at-added p h =
       record {
         meant = rw (turn, eq-eqb (getD v 0 0) (s .count + 1) h, at-found s sound p, at-values v .1, first-set blankSpot (s .count) (s .spots) (heldSpot v) (omega (arith, at-fits s sound p, sound .long)));
+        at = refl;
         sound = record {
           few = omega (arith, at-fits s sound p);
           long = length-set (s .spots) (s .count) (heldSpot v) ∙ sound .long;

@@ -1,5 +1,5 @@
 -- What a line adds, by its word.
-use mathlib.Core.Path.{_≡_}
+use mathlib.Core.Path.{_≡_, refl}
 use mathlib.Core.List.{List}
 use Prim.Native.Nat.{ℕ}
 use Rattle.model.specs.declared.Word.{Word}
@@ -10,9 +10,9 @@ use Rattle.recordreader.specs.declared.State.{State}
 use Rattle.recordreader.specs.declared.Taken.{Taken}
 use Rattle.recordreader.specs.State.{Sound, partOf, withFault, TakenOk}
 
-module _ (s : State) (w x : Word) (e : w ≡ x) (v : List ℕ) (r : Taken) where
-  pub taken-as : TakenOk r (add (partOf s) x (valuesOf x v)) → TakenOk r (add (partOf s) w (valuesOf w v))
+module _ (s : State) (w x : Word) (e : w ≡ x) (v : List ℕ) (r : Taken) (l : ℕ) where
+  pub taken-as : TakenOk r l (add (partOf s) x (valuesOf x v)) → TakenOk r l (add (partOf s) w (valuesOf w v))
   taken-as t = rw e t
 
-  pub not-taken : Sound s → r ≡ withFault s 2 → fault 2 ≡ add (partOf s) x (valuesOf x v) → TakenOk r (add (partOf s) w (valuesOf w v))
-  not-taken sound q f = rw (e, q) (record { meant = f; sound = sound })
+  pub not-taken : Sound s → r ≡ withFault s (record { no = 2; line = l }) → fault 2 ≡ add (partOf s) x (valuesOf x v) → TakenOk r l (add (partOf s) w (valuesOf w v))
+  not-taken sound q f = rw (e, q) (record { meant = f; at = refl; sound = sound })

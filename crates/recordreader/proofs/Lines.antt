@@ -10,6 +10,7 @@ use Rattle.model.specs.declared.Spot.{Spot}
 use Rattle.model.specs.declared.Outcome.the-variants as outcome
 use Rattle.model.specs.declared.Record.{Record as HeldRecord}
 use Rattle.model.specs.declared.Word.the-variants as word
+use Rattle.model.specs.declared.Refusal.{Refusal}
 use Rattle.model.specs.Meaning.{Record, recordOf, blankSpot}
 use Rattle.grammar.specs.Words.{rank}
 use Rattle.grammar.specs.Reading.{Reading, refused, stepBytes, stepLine, ending}
@@ -26,8 +27,8 @@ use Rattle.recordreader.specs.declared.RecordRead.{RecordRead}
 use Rattle.recordreader.specs.State.{Sound, resultOf, partOf, withFault, TakenOk}
 use Rattle.recordreader.specs.Answer.{refusedAt, ReadOk}
 
-pub refuses : (r : RecordRead) (n l : ℕ) (read : Reading Record) → refused n l ≡ read → r ≡ refusedAt n l → ReadOk read r
-refuses r n l read q e = rw e (record { meant = q; blank = refl })
+pub refuses : (r : RecordRead) (f : Refusal) (read : Reading Record) → r ≡ refusedAt f → refused (f .no) (f .line) ≡ read → ReadOk read r
+refuses r f read e q = rw e (record { meant = q; blank = refl })
 
 -- ---- before the first line
 
@@ -37,17 +38,19 @@ module _ (ps : List Spot) (e : ps ≡ replicate 8 blankSpot) where
 
 -- ---- a line
 
-module _ (text : List ℕ) (a z : ℕ) (end : z ≡ lineEnd text a) (s : State) (t : Taken) where
-  pub no-feed : Sound s → z ≡ length text → t ≡ withFault s 2 → TakenOk t (stepLine recordKind (partOf s) (lineAt text a z))
-  no-feed sound q e = rw e (record { meant = step-open text a z end recordKind (partOf s) q; sound = sound })
+module _ (text : List ℕ) (a z : ℕ) (end : z ≡ lineEnd text a) (s : State) (t : Taken) (line : ℕ) where
+  pub no-feed : Sound s → z ≡ length text → t ≡ withFault s (record { no = 2; line = line }) → TakenOk t line (stepLine recordKind (partOf s) (lineAt text a z))
+  no-feed sound q e = rw e (record { meant = step-open text a z end recordKind (partOf s) q; at = refl; sound = sound })
 
-  pub has-feed : (z ≡ length text → ⊥) → TakenOk t (stepBytes recordKind (partOf s) (take (z - a) (drop a text))) → TakenOk t (stepLine recordKind (partOf s) (lineAt text a z))
+  pub has-feed : (z ≡ length text → ⊥) → TakenOk t line (stepBytes recordKind (partOf s) (take (z - a) (drop a text))) → TakenOk t line (stepLine recordKind (partOf s) (lineAt text a z))
   has-feed q ok = rw (← step-ended text a z end recordKind (partOf s) q) ok
 
-  module _ (h : a < length text) (line : ℕ) (left : Left recordKind start text (partOf s) a line) (ok : TakenOk t (stepLine recordKind (partOf s) (lineAt text a z))) where
-    pub line-fails : (f : ℕ) → t .fault ≡ held.No f → refused f line ≡ readRecord text
+  module _ (h : a < length text) (left : Left recordKind start text (partOf s) a line) (ok : TakenOk t line (stepLine recordKind (partOf s) (lineAt text a z))) where
+    pub line-fails : (f : Refusal) → t .fault ≡ held.Refused f → refused (f .no) (f .line) ≡ readRecord text
     unfolding readRecord
-    line-fails f g = ap recordRead (text-fails recordKind start text (partOf s) a line left z end h f (rw g at (ok .meant)))
+    line-fails f g =
+        let own : f .line ≡ line = rw g at (ok .at) in
+        rw own (ap recordRead (text-fails recordKind start text (partOf s) a line left z end h (f .no) (rw g at (ok .meant))))
 
     pub line-read : t .fault ≡ held.Clear → Left recordKind start text (partOf (t .state)) (z + 1) (line + 1)
     line-read g = text-goes-on recordKind start text (partOf s) a line left z end h (partOf (t .state)) (rw g at (ok .meant))

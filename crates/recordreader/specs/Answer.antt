@@ -1,10 +1,11 @@
 -- What the record reader's answer means.
-use Prim.Native.Nat.{ℕ}
 use mathlib.Core.Path.{_≡_}
 use lib.ListN.{replicate}
 use Rattle.model.specs.declared.Outcome.the-variants as outcome
+use Rattle.model.specs.declared.Refusal.{Refusal}
 use Rattle.model.specs.declared.Record.{Record as HeldRecord}
 use Rattle.model.specs.Meaning.{Record, recordOf, blankSpot}
+use Rattle.model.specs.Limits.{mostMacs}
 use Rattle.grammar.specs.Reading.{Reading, accepted, refused}
 use Rattle.recordreader.specs.declared.RecordAnswer.{RecordAnswer}
 use Rattle.recordreader.specs.declared.RecordAnswer.the-variants as answer
@@ -12,7 +13,7 @@ use Rattle.recordreader.specs.declared.RecordRead.{RecordRead}
 
 -- a record that holds nothing
 abbrev pub blankRecord : HeldRecord
-blankRecord = record { outcome = outcome.None; spots = replicate 8 blankSpot }
+blankRecord = record { outcome = outcome.None; spots = replicate mostMacs blankSpot }
 
 -- document 01's number and values for each case of the answer
 abbrev pub meant : RecordAnswer → HeldRecord → Reading Record
@@ -28,9 +29,9 @@ abbrev pub afterRefusal : RecordAnswer → HeldRecord → HeldRecord
 afterRefusal answer.Accepted r = blankRecord
 afterRefusal (answer.Refused f) r = r
 
--- refusal n at line l, with a blank record
-abbrev pub refusedAt : ℕ → ℕ → RecordRead
-refusedAt n l = record { answer = answer.Refused (record { no = n; line = l }); «record» = blankRecord }
+-- the refusal f, with a blank record
+abbrev pub refusedAt : Refusal → RecordRead
+refusedAt f = record { answer = answer.Refused f; «record» = blankRecord }
 
 -- r is the answer for a text that is read so
 pub record ReadOk (read : Reading Record) (r : RecordRead) : Type 0 where

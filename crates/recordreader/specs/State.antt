@@ -6,8 +6,10 @@ use mathlib.Core.Bool.{Bool, true, false, _&&_, _||_}
 use lib.ListN.{length, getD}
 use lib.Dec.{leb}
 use Rattle.model.specs.declared.Word.the-variants as word
+use Rattle.model.specs.declared.Refusal.{Refusal}
 use Rattle.model.specs.declared.Spot.{Spot}
 use Rattle.model.specs.Meaning.{Record, none, least, firstOf, blankSpot}
+use Rattle.model.specs.Limits.{mostMacs}
 use Rattle.grammar.specs.Words.{isWord}
 use Rattle.grammar.specs.Reading.{Step, next, fault as faulty}
 use Rattle.line.specs.declared.Fault.{Fault}
@@ -27,8 +29,8 @@ partOf s = record { last = s .last; result = resultOf (s .found) (s .wl) (s .cou
 
 -- the count stays within the array, and is 0 before a `least` line, which stands before an `at` line
 pub record Sound (s : State) : Type 0 where
-  pub few : s .count ≤ 8
-  pub long : length (s .spots) ≡ 8
+  pub few : s .count ≤ mostMacs
+  pub long : length (s .spots) ≡ mostMacs
   pub blank : s .found ≡ false → s .count ≡ 0
   pub opened : (isWord (s .last) word.Least || isWord (s .last) word.At) ≡ true → s .found ≡ true
 
@@ -46,13 +48,19 @@ mayFollow a b = leb (getD leastNext a 0) b && leb b (getD mostNext a 0)
 -- what a line leads to, by its fault
 abbrev pub stepOf : Fault → State → Step Part
 stepOf fault.Clear s = next (partOf s)
-stepOf (fault.No n) s = faulty n
+stepOf (fault.Refused f) s = faulty (f .no)
 
--- fault n, and what was read before
-abbrev pub withFault : State → ℕ → Taken
-withFault s n = record { fault = fault.No n; state = s }
+-- the line of a refusal; where there is none, the line l
+abbrev pub lineOf : Fault → ℕ → ℕ
+lineOf fault.Clear l = l
+lineOf (fault.Refused f) l = f .line
 
--- t means the step, and what has been read is sound
-pub record TakenOk (t : Taken) (step : Step Part) : Type 0 where
+-- the refusal f, and what was read before
+abbrev pub withFault : State → Refusal → Taken
+withFault s f = record { fault = fault.Refused f; state = s }
+
+-- t means the step of line l, and what has been read is sound
+pub record TakenOk (t : Taken) (l : ℕ) (step : Step Part) : Type 0 where
   pub meant : stepOf (t .fault) (t .state) ≡ step
+  pub at : lineOf (t .fault) l ≡ l
   pub sound : Sound (t .state)

@@ -6,6 +6,7 @@ use model::Outcome;
 use model::Record;
 use model::Refusal;
 use model::Spot;
+use model::TEXT_MOST;
 use model::Word;
 ghost use mathlib.Core.Path.{_≡_};
 ghost use Prim.Native.Nat.{_≤_, _<_};
@@ -39,7 +40,7 @@ pub(crate) struct State {
     pub found: bool,
     pub wl: u64,
     pub count: usize,
-    pub spots: [Spot; 8],
+    pub spots: [Spot; Mac::COUNT],
 }
 
 // What a line leads to: its fault, or what has been read with it.
@@ -49,10 +50,10 @@ pub(crate) struct Taken {
 }
 
 // Blank spots: 0,0 each.
-fn blank_spots() -> [Spot; 8]
+fn blank_spots() -> [Spot; Mac::COUNT]
     ensures { λ r. ⌜ r ≡ replicate 8 blankSpot ⌝ }
 {
-    [Spot { x: 0, y: 0 }; 8]
+    [Spot { x: 0, y: 0 }; Mac::COUNT]
 }
 
 // Place: whether a word of rank b may stand after one of rank a: it may where b is from least[a] to most[a].
@@ -88,19 +89,19 @@ fn entry_fault(s: State, w: Word) -> usize
 }
 
 // A faulty line: what was read before it stays.
-fn with_fault(s: State, no: usize) -> Taken
-    ensures { λ r. ⌜ r ≡ withFault s no ⌝ }
+fn with_fault(s: State, f: Refusal) -> Taken
+    ensures { λ r. ⌜ r ≡ withFault s f ⌝ }
 {
     Taken {
-        fault: Fault::No(no),
+        fault: Fault::Refused(f),
         state: s,
     }
 }
 
 // What a `least` line adds: the wirelength, with no spot yet.
-fn add_least(s: State, v: [u64; 4]) -> Taken
+fn add_least(s: State, v: [u64; 4], line: usize) -> Taken
     requires { ⌜ Sound s ⌝ }
-    ensures { λ r. ⌜ TakenOk r (add (partOf s) Word.Least (valuesOf Word.Least v)) ⌝ }
+    ensures { λ r. ⌜ TakenOk r line (add (partOf s) Word.Least (valuesOf Word.Least v)) ⌝ }
 {
     let spots = s.spots;
     Taken {
@@ -116,9 +117,9 @@ fn add_least(s: State, v: [u64; 4]) -> Taken
 }
 
 // What a `none` line adds: that there is no placement.
-fn add_none(s: State, v: [u64; 4]) -> Taken
+fn add_none(s: State, v: [u64; 4], line: usize) -> Taken
     requires { ⌜ Sound s ⌝ }
-    ensures { λ r. ⌜ TakenOk r (add (partOf s) Word.None (valuesOf Word.None v)) ⌝ }
+    ensures { λ r. ⌜ TakenOk r line (add (partOf s) Word.None (valuesOf Word.None v)) ⌝ }
 {
     let spots = s.spots;
     Taken {
@@ -134,15 +135,15 @@ fn add_none(s: State, v: [u64; 4]) -> Taken
 }
 
 // What an `at` line adds: the spot of macro m. m out of turn 8.
-fn add_at(s: State, v: [u64; 4]) -> Taken
+fn add_at(s: State, v: [u64; 4], line: usize) -> Taken
     requires { ⌜ Sound s ⌝ }
     requires { ⌜ Entered recordKind (partOf s) Word.At ⌝ }
-    ensures { λ r. ⌜ TakenOk r (add (partOf s) Word.At (valuesOf Word.At v)) ⌝ }
+    ensures { λ r. ⌜ TakenOk r line (add (partOf s) Word.At (valuesOf Word.At v)) ⌝ }
 {
     let m = v[0] as usize;
     let n = s.count;
     if m != n + 1 {
-        return with_fault(s, 8);
+        return with_fault(s, Refusal { no: 8, line });
     }
     let mut spots = s.spots;
     spots[n] = Spot { x: v[1], y: v[2] };
@@ -159,9 +160,9 @@ fn add_at(s: State, v: [u64; 4]) -> Taken
 }
 
 // What the `done` line adds: nothing.
-fn add_done(s: State, v: [u64; 4]) -> Taken
+fn add_done(s: State, v: [u64; 4], line: usize) -> Taken
     requires { ⌜ Sound s ⌝ }
-    ensures { λ r. ⌜ TakenOk r (add (partOf s) Word.Done (valuesOf Word.Done v)) ⌝ }
+    ensures { λ r. ⌜ TakenOk r line (add (partOf s) Word.Done (valuesOf Word.Done v)) ⌝ }
 {
     let spots = s.spots;
     Taken {
@@ -177,23 +178,23 @@ fn add_done(s: State, v: [u64; 4]) -> Taken
 }
 
 // What a line with the word w and the values v adds, or its fault.
-fn add_item(s: State, w: Word, v: [u64; 4]) -> Taken
+fn add_item(s: State, w: Word, v: [u64; 4], line: usize) -> Taken
     requires { ⌜ Sound s ⌝ }
     requires { ⌜ Entered recordKind (partOf s) w ⌝ }
-    ensures { λ r. ⌜ TakenOk r (add (partOf s) w (valuesOf w v)) ⌝ }
+    ensures { λ r. ⌜ TakenOk r line (add (partOf s) w (valuesOf w v)) ⌝ }
 {
     match w {
-        Word::Least => add_least(s, v),
-        Word::None => add_none(s, v),
-        Word::At => add_at(s, v),
-        Word::Done => add_done(s, v),
-        Word::Nothing => with_fault(s, 2),
-        Word::Die => with_fault(s, 2),
-        Word::Fix => with_fault(s, 2),
-        Word::Mac => with_fault(s, 2),
-        Word::Net => with_fault(s, 2),
-        Word::Pin => with_fault(s, 2),
-        Word::End => with_fault(s, 2),
+        Word::Least => add_least(s, v, line),
+        Word::None => add_none(s, v, line),
+        Word::At => add_at(s, v, line),
+        Word::Done => add_done(s, v, line),
+        Word::Nothing => with_fault(s, Refusal { no: 2, line }),
+        Word::Die => with_fault(s, Refusal { no: 2, line }),
+        Word::Fix => with_fault(s, Refusal { no: 2, line }),
+        Word::Mac => with_fault(s, Refusal { no: 2, line }),
+        Word::Net => with_fault(s, Refusal { no: 2, line }),
+        Word::Pin => with_fault(s, Refusal { no: 2, line }),
+        Word::End => with_fault(s, Refusal { no: 2, line }),
     }
 }
 
@@ -201,27 +202,27 @@ fn add_item(s: State, w: Word, v: [u64; 4]) -> Taken
 fn take_fields(rest: &[u8], s: State, w: Word, line: usize) -> Taken
     requires { ⌜ Sound s ⌝ }
     requires { ⌜ Entered recordKind (partOf s) w ⌝ }
-    ensures { λ r. ⌜ TakenOk r (stepFields recordKind (partOf s) w (fields (rules w) (now (rest .entry)))) ⌝ }
+    ensures { λ r. ⌜ TakenOk r line (stepFields recordKind (partOf s) w (fields (rules w) (now (rest .entry)))) ⌝ }
 {
     let fields = line::read_fields(rest, w, line);
     let answer = fields.answer;
     let values = fields.values;
     match answer {
-        Fields::Got => add_item(s, w, values),
-        Fields::Refused(f) => with_fault(s, f.no),
+        Fields::Got => add_item(s, w, values, line),
+        Fields::Refused(f) => with_fault(s, f),
     }
 }
 
 // What a line with these bytes leads to, where it has its LF.
 fn take_line(bytes: &[u8], s: State, line: usize) -> Taken
     requires { ⌜ Sound s ⌝ }
-    ensures { λ r. ⌜ TakenOk r (stepBytes recordKind (partOf s) (now (bytes .entry))) ⌝ }
+    ensures { λ r. ⌜ TakenOk r line (stepBytes recordKind (partOf s) (now (bytes .entry))) ⌝ }
 {
     let b = line::bytes_before(bytes, 44);
     let w = line::record_word(&bytes[..b]);
     let no = entry_fault(s, w);
     if no != 0 {
-        return with_fault(s, no);
+        return with_fault(s, Refusal { no, line });
     }
     take_fields(&bytes[b..], s, w, line)
 }
@@ -231,21 +232,21 @@ fn next_line(text: &[u8], a: usize, e: usize, s: State, line: usize) -> Taken
     requires { ⌜ Sound s ⌝ }
     requires { ⌜ a ≤ length (now text) ⌝ }
     requires { ⌜ e ≡ lineEnd (now text) a ⌝ }
-    ensures { λ r. ⌜ TakenOk r (stepLine recordKind (partOf s) (lineAt (now (text .entry)) a e)) ⌝ }
+    ensures { λ r. ⌜ TakenOk r line (stepLine recordKind (partOf s) (lineAt (now (text .entry)) a e)) ⌝ }
 {
     if e == text.len() {
-        return with_fault(s, 2);
+        return with_fault(s, Refusal { no: 2, line });
     }
     take_line(&text[a..e], s, line)
 }
 
 // A refusal, with a blank record.
-fn refused(no: usize, line: usize) -> RecordRead
-    ensures { λ r. ⌜ r ≡ refusedAt no line ⌝ }
+fn refused(f: Refusal) -> RecordRead
+    ensures { λ r. ⌜ r ≡ refusedAt f ⌝ }
 {
     let spots = blank_spots();
     RecordRead {
-        answer: RecordAnswer::Refused(Refusal { no, line }),
+        answer: RecordAnswer::Refused(f),
         record: Record {
             outcome: Outcome::None,
             spots,
@@ -276,7 +277,7 @@ fn finish(s: State, line: usize) -> RecordRead
 {
     let last = s.last;
     if grammar::rank_of(last) != 10 {
-        return refused(5, line);
+        return refused(Refusal { no: 5, line });
     }
     RecordRead {
         answer: RecordAnswer::Accepted,
@@ -309,8 +310,8 @@ fn read_lines(text: &[u8]) -> RecordRead
                 a = e + 1;
                 line += 1;
             }
-            Fault::No(no) => {
-                return refused(no, line);
+            Fault::Refused(f) => {
+                return refused(f);
             }
         }
     }
@@ -322,8 +323,8 @@ pub fn read_record(text: &[u8]) -> RecordRead
     ensures { λ r. ⌜ meantRecord r ≡ readRecord (now (text .entry)) ⌝ }
     ensures { λ r. ⌜ afterRefusal (r .answer) (r .record) ≡ blankRecord ⌝ }
 {
-    if 16384 < text.len() {
-        return refused(1, 0);
+    if TEXT_MOST < text.len() {
+        return refused(Refusal { no: 1, line: 0 });
     }
     read_lines(text)
 }

@@ -4,6 +4,7 @@ use model::Outcome;
 use model::Record;
 use model::Refusal;
 use model::Spot;
+use model::TEXT_MOST;
 use model::Tested;
 use model::Word;
 use model::WriteAnswer;
@@ -20,7 +21,7 @@ ghost use Rattle.record.proofs.Body.{body};
 ghost use Rattle.recordwriter.specs.Parts.{spotFault, linesRead};
 
 // The fault of macro i's spot, or 0: count 6, range 4.
-fn spot_fault(spots: [Spot; 8], i: usize) -> usize
+fn spot_fault(spots: [Spot; Mac::COUNT], i: usize) -> usize
     ensures { λ r. ⌜ r ≡ spotFault spots i ⌝ }
 {
     if Mac::COUNT <= i {
@@ -37,7 +38,7 @@ fn spot_fault(spots: [Spot; 8], i: usize) -> usize
 }
 
 // The lines of a record with a placement: its wirelength on line 1, and the spots of n macros from line 2 on.
-fn test_least(wl: u64, n: usize, spots: [Spot; 8]) -> Tested
+fn test_least(wl: u64, n: usize, spots: [Spot; Mac::COUNT]) -> Tested
     ensures { λ t. ⌜ testedAs (least wl (firstOf blankSpot n spots)) t ≡ linesRead (least wl (firstOf blankSpot n spots)) ⌝ }
 {
     if Record::LENGTH_MOST < wl {
@@ -67,17 +68,17 @@ fn test_lines(r: Record) -> Tested
 }
 
 // Spot i of the array, or a blank one past its end.
-fn spot_at(spots: [Spot; 8], i: usize) -> Spot
+fn spot_at(spots: [Spot; Mac::COUNT], i: usize) -> Spot
     ensures { λ r. ⌜ r ≡ getD spots i blankSpot ⌝ }
 {
-    if i < 8 {
+    if i < Mac::COUNT {
         return spots[i];
     }
     Spot { x: 0, y: 0 }
 }
 
 // Writes the lines of the n macros from `at` on, as far as the buffer goes, and answers the place after them.
-fn put_spots(out: &mut [u8], at: usize, spots: [Spot; 8], n: usize) -> usize
+fn put_spots(out: &mut [u8], at: usize, spots: [Spot; Mac::COUNT], n: usize) -> usize
     ensures { λ k. ⌜ Wrote (now (out .entry)) (now (out .exit)) (itemsText (atItems 1 (firstOf blankSpot n spots))) at k ⌝ }
 {
     let last = linewriter::shown(n, Mac::COUNT);
@@ -120,7 +121,7 @@ pub fn test_record(r: Record) -> Tested
     ensures { λ t. ⌜ testedAs (recordOf r) t ≡ readRecord (recordText (recordOf r)) ⌝ }
 {
     let mut none = [0u8; 1];
-    if 16384 < put_record(&mut none, 0, r) {
+    if TEXT_MOST < put_record(&mut none, 0, r) {
         return Tested::Refused(Refusal { no: 1, line: 0 });
     }
     test_lines(r)

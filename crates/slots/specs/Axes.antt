@@ -1,9 +1,9 @@
--- The axis that the solver is given for a direction of a chip: the same bounds as its slots, over natural numbers. Pins are held 4,096 higher.
+-- The axis that the solver is given for a direction of a chip: the same bounds as its slots, over natural numbers. Pins are held higher, as in a chip.
 use Prim.Native.Nat.{ℕ, _+_}
 use mathlib.Core.List.{List, [], _∷_, map}
 use lib.IntN.{ℤ, pos, _+ℤ_, natAbs}
 use Rattle.model.specs.declared.Spot.{Spot}
-use Rattle.model.specs.Meaning.{Pin, Net, Chip}
+use Rattle.model.specs.Meaning.{Pin, Net, Chip, pinUp}
 use Rattle.placement.specs.Letters.{Letter}
 use Rattle.bounds.specs.declared.Slot.{Slot as HeldSlot}
 use Rattle.bounds.specs.declared.AxisPin.{AxisPin}
@@ -16,7 +16,7 @@ use Rattle.slots.specs.declared.Asked.the-variants.{Before as before, Af
 use Rattle.slots.specs.Slots.{dieSide, macSide, fixSide, fixCorner, pinPlace, asked, Couple, twoMacs, macFix, couples}
 
 abbrev pub raised : ℤ → ℕ
-raised z = natAbs (z +ℤ pos 4096)
+raised z = natAbs (z +ℤ pos pinUp)
 
 abbrev pub axisPin : Direction → Pin → AxisPin
 axisPin d p = record { node = p .m; up = raised (pinPlace d p) }
@@ -45,7 +45,7 @@ heldSlots d (l ∷ ls) [] = []
 heldSlots d (l ∷ ls) (q ∷ qs) = heldSlot d (asked d l) q ∷ heldSlots d ls qs
 
 unfoldable pub axisFor : Direction → Chip → List Letter → Axis
-axisFor d c ls = record { side = dieSide d (c .die); sizes = map (macSide d) (c .macs); pairs = heldSlots d ls (couples c); base = 4096; nets = map (axisNet d) (c .nets) }
+axisFor d c ls = record { side = dieSide d (c .die); sizes = map (macSide d) (c .macs); pairs = heldSlots d ls (couples c); base = pinUp; nets = map (axisNet d) (c .nets) }
 
 -- the corners' x or y
 abbrev pub cornerOn : Direction → Spot → ℕ

@@ -1,16 +1,17 @@
 use borrow.Author.Needs.{needs}
 use Prim.Native.Nat.{_-_, _≤_}
-use Rattle.chip_array.specs.Array.{fixRoom, fixIn}
+use Rattle.model.specs.Limits.{mostFixes}
+use Rattle.chip_array.specs.Array.{fixIn}
 use Rattle.chip_array.proofs.Tables.{Filled, filled-none}
 use Rattle.chip_array.proofs.Items.{fixes-filled, fixes-all}
 use Rattle.chip_array.proofs.fixes_in.Statement.{statement}
 use Rattle.chip_array.proofs.fixes_in.Tie as tie
 
 abbrev Inv-loop : tie.InvT-loop
-Inv-loop cs fixes₀ i₀ fixes i = (i ≤ fixRoom) × Filled (fixIn cs) fixRoom fixes i
+Inv-loop cs fixes₀ i₀ fixes i = (i ≤ mostFixes) × Filled (fixIn cs) mostFixes fixes i
 
 abbrev μ-loop : tie.MeasureT-loop
-μ-loop cs fixes₀ i₀ fixes i = fixRoom - i
+μ-loop cs fixes₀ i₀ fixes i = mostFixes - i
 
 loop-holds : tie.Need-loop-holds Inv-loop μ-loop
 loop-holds c = (search needs, search (needs, filled-none))

@@ -1,16 +1,17 @@
 use borrow.Author.Needs.{needs}
 use Prim.Native.Nat.{_-_, _≤_}
-use Rattle.chip_array.specs.Array.{macRoom, macIn}
+use Rattle.model.specs.Limits.{mostMacs}
+use Rattle.chip_array.specs.Array.{macIn}
 use Rattle.chip_array.proofs.Tables.{Filled, filled-none}
 use Rattle.chip_array.proofs.Items.{macs-filled, macs-all}
 use Rattle.chip_array.proofs.macs_in.Statement.{statement}
 use Rattle.chip_array.proofs.macs_in.Tie as tie
 
 abbrev Inv-loop : tie.InvT-loop
-Inv-loop cs macs₀ i₀ macs i = (i ≤ macRoom) × Filled (macIn cs) macRoom macs i
+Inv-loop cs macs₀ i₀ macs i = (i ≤ mostMacs) × Filled (macIn cs) mostMacs macs i
 
 abbrev μ-loop : tie.MeasureT-loop
-μ-loop cs macs₀ i₀ macs i = macRoom - i
+μ-loop cs macs₀ i₀ macs i = mostMacs - i
 
 loop-holds : tie.Need-loop-holds Inv-loop μ-loop
 loop-holds c = (search needs, search (needs, filled-none))

@@ -1,16 +1,17 @@
 use borrow.Author.Needs.{needs}
 use Prim.Native.Nat.{_-_, _≤_}
-use Rattle.chip_array.specs.Array.{netRoom, netIn}
+use Rattle.model.specs.Limits.{mostNets}
+use Rattle.chip_array.specs.Array.{netIn}
 use Rattle.chip_array.proofs.Tables.{Filled, filled-none}
 use Rattle.chip_array.proofs.Items.{nets-filled, nets-all}
 use Rattle.chip_array.proofs.nets_in.Statement.{statement}
 use Rattle.chip_array.proofs.nets_in.Tie as tie
 
 abbrev Inv-loop : tie.InvT-loop
-Inv-loop cs nets₀ i₀ nets i = (i ≤ netRoom) × Filled (netIn cs) netRoom nets i
+Inv-loop cs nets₀ i₀ nets i = (i ≤ mostNets) × Filled (netIn cs) mostNets nets i
 
 abbrev μ-loop : tie.MeasureT-loop
-μ-loop cs nets₀ i₀ nets i = netRoom - i
+μ-loop cs nets₀ i₀ nets i = mostNets - i
 
 loop-holds : tie.Need-loop-holds Inv-loop μ-loop
 loop-holds c = (search needs, search (needs, filled-none))

@@ -1,16 +1,17 @@
 use borrow.Author.Needs.{needs}
 use Prim.Native.Nat.{_-_, _≤_}
-use Rattle.chip_array.specs.Array.{pinRoom, pinIn}
+use Rattle.model.specs.Limits.{mostPins}
+use Rattle.chip_array.specs.Array.{pinIn}
 use Rattle.chip_array.proofs.Tables.{Filled, filled-none}
 use Rattle.chip_array.proofs.Items.{pins-filled, pins-all}
 use Rattle.chip_array.proofs.pins_in.Statement.{statement}
 use Rattle.chip_array.proofs.pins_in.Tie as tie
 
 abbrev Inv-loop : tie.InvT-loop
-Inv-loop cs pins₀ i₀ pins i = (i ≤ pinRoom) × Filled (pinIn cs) pinRoom pins i
+Inv-loop cs pins₀ i₀ pins i = (i ≤ mostPins) × Filled (pinIn cs) mostPins pins i
 
 abbrev μ-loop : tie.MeasureT-loop
-μ-loop cs pins₀ i₀ pins i = pinRoom - i
+μ-loop cs pins₀ i₀ pins i = mostPins - i
 
 loop-holds : tie.Need-loop-holds Inv-loop μ-loop
 loop-holds c = (search needs, search (needs, filled-none))

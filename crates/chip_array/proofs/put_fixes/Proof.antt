@@ -4,17 +4,18 @@ use mathlib.Core.Path.{_≡_}
 use mathlib.Core.List.{flatMap}
 use lib.ListN.{take}
 use lib.Seq.{sets}
-use Rattle.chip_array.specs.Array.{fixRoom, fixesAt, fixNumbers}
+use Rattle.model.specs.Limits.{mostFixes}
+use Rattle.chip_array.specs.Array.{fixesAt, fixNumbers}
 use Rattle.chip_array.proofs.Runs.{items-none, items-all}
 use Rattle.chip_array.proofs.Items.{fixes-more}
 use Rattle.chip_array.proofs.put_fixes.Statement.{statement}
 use Rattle.chip_array.proofs.put_fixes.Tie as tie
 
 abbrev Inv-loop : tie.InvT-loop
-Inv-loop cs₀ fixes i₀ cs i = (i ≤ fixRoom) × (cs ≡ sets cs₀ fixesAt (flatMap fixNumbers (take i fixes)))
+Inv-loop cs₀ fixes i₀ cs i = (i ≤ mostFixes) × (cs ≡ sets cs₀ fixesAt (flatMap fixNumbers (take i fixes)))
 
 abbrev μ-loop : tie.MeasureT-loop
-μ-loop cs₀ fixes i₀ cs i = fixRoom - i
+μ-loop cs₀ fixes i₀ cs i = mostFixes - i
 
 loop-holds : tie.Need-loop-holds Inv-loop μ-loop
 loop-holds c = (search needs, search items-none)

@@ -4,17 +4,18 @@ use mathlib.Core.Path.{_≡_}
 use mathlib.Core.List.{flatMap}
 use lib.ListN.{take}
 use lib.Seq.{sets}
-use Rattle.chip_array.specs.Array.{macRoom, macsAt, macNumbers}
+use Rattle.model.specs.Limits.{mostMacs}
+use Rattle.chip_array.specs.Array.{macsAt, macNumbers}
 use Rattle.chip_array.proofs.Runs.{items-none, items-all}
 use Rattle.chip_array.proofs.Items.{macs-more}
 use Rattle.chip_array.proofs.put_macs.Statement.{statement}
 use Rattle.chip_array.proofs.put_macs.Tie as tie
 
 abbrev Inv-loop : tie.InvT-loop
-Inv-loop cs₀ macs i₀ cs i = (i ≤ macRoom) × (cs ≡ sets cs₀ macsAt (flatMap macNumbers (take i macs)))
+Inv-loop cs₀ macs i₀ cs i = (i ≤ mostMacs) × (cs ≡ sets cs₀ macsAt (flatMap macNumbers (take i macs)))
 
 abbrev μ-loop : tie.MeasureT-loop
-μ-loop cs₀ macs i₀ cs i = macRoom - i
+μ-loop cs₀ macs i₀ cs i = mostMacs - i
 
 loop-holds : tie.Need-loop-holds Inv-loop μ-loop
 loop-holds c = (search needs, search items-none)

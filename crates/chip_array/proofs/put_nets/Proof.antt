@@ -4,17 +4,18 @@ use mathlib.Core.Path.{_≡_}
 use mathlib.Core.List.{flatMap}
 use lib.ListN.{take}
 use lib.Seq.{sets}
-use Rattle.chip_array.specs.Array.{netRoom, netsAt, netNumbers}
+use Rattle.model.specs.Limits.{mostNets}
+use Rattle.chip_array.specs.Array.{netsAt, netNumbers}
 use Rattle.chip_array.proofs.Runs.{items-none, items-all}
 use Rattle.chip_array.proofs.Items.{nets-more}
 use Rattle.chip_array.proofs.put_nets.Statement.{statement}
 use Rattle.chip_array.proofs.put_nets.Tie as tie
 
 abbrev Inv-loop : tie.InvT-loop
-Inv-loop cs₀ nets i₀ cs i = (i ≤ netRoom) × (cs ≡ sets cs₀ netsAt (flatMap netNumbers (take i nets)))
+Inv-loop cs₀ nets i₀ cs i = (i ≤ mostNets) × (cs ≡ sets cs₀ netsAt (flatMap netNumbers (take i nets)))
 
 abbrev μ-loop : tie.MeasureT-loop
-μ-loop cs₀ nets i₀ cs i = netRoom - i
+μ-loop cs₀ nets i₀ cs i = mostNets - i
 
 loop-holds : tie.Need-loop-holds Inv-loop μ-loop
 loop-holds c = (search needs, search items-none)

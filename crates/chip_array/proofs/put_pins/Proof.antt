@@ -4,17 +4,18 @@ use mathlib.Core.Path.{_≡_}
 use mathlib.Core.List.{flatMap}
 use lib.ListN.{take}
 use lib.Seq.{sets}
-use Rattle.chip_array.specs.Array.{pinRoom, pinsAt, pinNumbers}
+use Rattle.model.specs.Limits.{mostPins}
+use Rattle.chip_array.specs.Array.{pinsAt, pinNumbers}
 use Rattle.chip_array.proofs.Runs.{items-none, items-all}
 use Rattle.chip_array.proofs.Items.{pins-more}
 use Rattle.chip_array.proofs.put_pins.Statement.{statement}
 use Rattle.chip_array.proofs.put_pins.Tie as tie
 
 abbrev Inv-loop : tie.InvT-loop
-Inv-loop cs₀ pins i₀ cs i = (i ≤ pinRoom) × (cs ≡ sets cs₀ pinsAt (flatMap pinNumbers (take i pins)))
+Inv-loop cs₀ pins i₀ cs i = (i ≤ mostPins) × (cs ≡ sets cs₀ pinsAt (flatMap pinNumbers (take i pins)))
 
 abbrev μ-loop : tie.MeasureT-loop
-μ-loop cs₀ pins i₀ cs i = pinRoom - i
+μ-loop cs₀ pins i₀ cs i = mostPins - i
 
 loop-holds : tie.Need-loop-holds Inv-loop μ-loop
 loop-holds c = (search needs, search items-none)

@@ -3,11 +3,11 @@ use borrow.Author.Needs.{needs}
 use Rattle.chipreader.proofs.add_die.Statement.{statement}
 use Rattle.chipreader.proofs.add_die.Tie as tie
 
-array-read-t8 : tie.Need-array-read-t8
-array-read-t8 c = search needs
+array-read-t9 : tie.Need-array-read-t9
+array-read-t9 c = search needs
 
-array-read-t11 : tie.Need-array-read-t11
-array-read-t11 c = search needs
+array-read-t12 : tie.Need-array-read-t12
+array-read-t12 c = search needs
 
 with-chip-requires : tie.Need-with-chip-requires
 with-chip-requires c κs = search needs
@@ -16,4 +16,4 @@ returns : tie.Need-returns
 returns c = search (needs, die-added)
 
 pub add-die-spec : {M : Type 1} → statement M
-add-die-spec = tie.close (tie.spec array-read-t8 array-read-t11 with-chip-requires returns)
+add-die-spec = tie.close (tie.spec array-read-t9 array-read-t12 with-chip-requires returns)

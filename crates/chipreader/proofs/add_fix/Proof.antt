@@ -4,17 +4,17 @@ use borrow.Author.Needs.{needs}
 use Rattle.chipreader.proofs.add_fix.Statement.{statement}
 use Rattle.chipreader.proofs.add_fix.Tie as tie
 
-array-read-t10 : tie.Need-array-read-t10
-array-read-t10 c = search needs
+array-read-t11 : tie.Need-array-read-t11
+array-read-t11 c = search needs
 
-array-read-t13 : tie.Need-array-read-t13
-array-read-t13 c = search needs
+array-read-t14 : tie.Need-array-read-t14
+array-read-t14 c = search needs
 
-array-read-t16 : tie.Need-array-read-t16
-array-read-t16 c = search needs
+array-read-t17 : tie.Need-array-read-t17
+array-read-t17 c = search needs
 
-array-read-t19 : tie.Need-array-read-t19
-array-read-t19 c = search needs
+array-read-t20 : tie.Need-array-read-t20
+array-read-t20 c = search needs
 
 fix-in-die-requires : tie.Need-fix-in-die-requires
 fix-in-die-requires c κs = search needs
@@ -53,10 +53,10 @@ pub add-fix-spec : {M : Type 1} → statement M
 add-fix-spec =
     tie.close
     (tie.spec
-    array-read-t10
-    array-read-t13
-    array-read-t16
-    array-read-t19
+    array-read-t11
+    array-read-t14
+    array-read-t17
+    array-read-t20
     fix-in-die-requires
     with-fault-requires
     returns

@@ -4,14 +4,14 @@ use borrow.Author.Needs.{needs}
 use Rattle.chipreader.proofs.add_mac.Statement.{statement}
 use Rattle.chipreader.proofs.add_mac.Tie as tie
 
-array-read-t8 : tie.Need-array-read-t8
-array-read-t8 c = search needs
+array-read-t9 : tie.Need-array-read-t9
+array-read-t9 c = search needs
 
-array-read-t11 : tie.Need-array-read-t11
-array-read-t11 c = search needs
+array-read-t12 : tie.Need-array-read-t12
+array-read-t12 c = search needs
 
-mul-t13 : tie.Need-mul-t13
-mul-t13 c = search needs
+mul-t14 : tie.Need-mul-t14
+mul-t14 c = search needs
 
 element-set-from-chip : tie.Need-element-set-from-chip
 element-set-from-chip c = search mac-fits
@@ -29,9 +29,9 @@ pub add-mac-spec : {M : Type 1} → statement M
 add-mac-spec =
     tie.close
     (tie.spec
-    array-read-t8
-    array-read-t11
-    mul-t13
+    array-read-t9
+    array-read-t12
+    mul-t14
     element-set-from-chip
     add-chip
     with-chip-requires

@@ -4,11 +4,11 @@ use borrow.Author.Needs.{needs}
 use Rattle.chipreader.proofs.add_net.Statement.{statement}
 use Rattle.chipreader.proofs.add_net.Tie as tie
 
-array-read-t8 : tie.Need-array-read-t8
-array-read-t8 c = search needs
+array-read-t9 : tie.Need-array-read-t9
+array-read-t9 c = search needs
 
-mul-t10 : tie.Need-mul-t10
-mul-t10 c = search needs
+mul-t11 : tie.Need-mul-t11
+mul-t11 c = search needs
 
 element-set-from-chip : tie.Need-element-set-from-chip
 element-set-from-chip c = search net-fits
@@ -25,4 +25,4 @@ returns c = search (needs, net-added)
 pub add-net-spec : {M : Type 1} → statement M
 add-net-spec =
     tie.close
-    (tie.spec array-read-t8 mul-t10 element-set-from-chip add-chip with-chip-requires returns)
+    (tie.spec array-read-t9 mul-t11 element-set-from-chip add-chip with-chip-requires returns)

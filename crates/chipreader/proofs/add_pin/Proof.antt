@@ -22,29 +22,29 @@ mul-net c = search needs
 element-copy-out-net : tie.Need-element-copy-out-net
 element-copy-out-net c = search needs
 
-add-t12 : tie.Need-add-t12
-add-t12 c = search net-fits-one
+add-t13 : tie.Need-add-t13
+add-t13 c = search net-fits-one
 
-mul-t17 : tie.Need-mul-t17
-mul-t17 c = search needs
+mul-t19 : tie.Need-mul-t19
+mul-t19 c = search needs
 
 element-set-from-chip : tie.Need-element-set-from-chip
 element-set-from-chip c = search needs
 
-array-read-t11 : tie.Need-array-read-t11
-array-read-t11 c = search needs
+array-read-t12 : tie.Need-array-read-t12
+array-read-t12 c = search needs
 
-array-read-t24 : tie.Need-array-read-t24
-array-read-t24 c = search needs
+array-read-t26 : tie.Need-array-read-t26
+array-read-t26 c = search needs
 
-mul-t17-2 : tie.Need-mul-t17-2
-mul-t17-2 c = search needs
+mul-t19-2 : tie.Need-mul-t19-2
+mul-t19-2 c = search needs
 
 element-set-from-chip-2 : tie.Need-element-set-from-chip-2
 element-set-from-chip-2 c = search pin-fits
 
-add-t12-2 : tie.Need-add-t12-2
-add-t12-2 c = search needs
+add-t13-2 : tie.Need-add-t13-2
+add-t13-2 c = search needs
 
 returns-2 : tie.Need-returns-2
 returns-2 c = search (needs, pin-added)
@@ -59,12 +59,12 @@ add-pin-spec =
     sub-last
     mul-net
     element-copy-out-net
-    add-t12
-    mul-t17
+    add-t13
+    mul-t19
     element-set-from-chip
-    array-read-t11
-    array-read-t24
-    mul-t17-2
+    array-read-t12
+    array-read-t26
+    mul-t19-2
     element-set-from-chip-2
-    add-t12-2
+    add-t13-2
     returns-2)

@@ -16,11 +16,11 @@ with-fault-requires c κs = search needs
 returns : tie.Need-returns
 returns c = search (needs, out-of-turn)
 
-array-read-t9 : tie.Need-array-read-t9
-array-read-t9 c = search needs
+array-read-t10 : tie.Need-array-read-t10
+array-read-t10 c = search needs
 
-array-read-t16 : tie.Need-array-read-t16
-array-read-t16 c = search needs
+array-read-t18 : tie.Need-array-read-t18
+array-read-t18 c = search needs
 
 mul-spots : tie.Need-mul-spots
 mul-spots c = search needs
@@ -28,8 +28,8 @@ mul-spots c = search needs
 array-set-from-spots : tie.Need-array-set-from-spots
 array-set-from-spots c = search at-fits
 
-add-t10 : tie.Need-add-t10
-add-t10 c = search needs
+add-t11 : tie.Need-add-t11
+add-t11 c = search needs
 
 returns-2 : tie.Need-returns-2
 returns-2 c = search (needs, at-added)
@@ -42,9 +42,9 @@ add-at-spec =
     add-if1
     with-fault-requires
     returns
-    array-read-t9
-    array-read-t16
+    array-read-t10
+    array-read-t18
     mul-spots
     array-set-from-spots
-    add-t10
+    add-t11
     returns-2)
