@@ -21,11 +21,13 @@ use Rattle.half_fit.specs.declared.service.HalfFit.{HalfFit}
 use Rattle.half_fit.specs.declared.service.HalfOutcome.{HalfOutcome}
 use Rattle.half_fit.specs.declared.service.HalfOutcome.the-variants as answer
 use Rattle.best.specs.Best.{bestOf, CountIs}
-use Rattle.search.specs.Search.{noRecord, lettersIn, FitHeld, roomOf, HalfSaid, uprightSpots, ChildHeld}
-use Rattle.search.specs.Turns.{Beside}
-use Rattle.search.proofs.Cornering.{take-corners}
-use Rattle.search.proofs.FourChildren.{nothing-none}
-use Rattle.search.proofs.Joining.{least-held}
+use Rattle.search_node.specs.Node.{noRecord, FitHeld, roomOf}
+use Rattle.search_node.specs.Letters.{lettersIn, Lettered}
+use Rattle.search_join.specs.Joined.{HalfSaid, ChildHeld, Beside, FitFor, JoinedFrom}
+use Rattle.search.specs.Search.{uprightSpots}
+use Rattle.search_join.proofs.Cornering.{take-corners}
+use Rattle.search_node.proofs.Records.{nothing-none}
+use Rattle.search_join.proofs.Joining.{least-held}
 
 pub upright-is : (l n m : ℕ) (ps qs : List Spot) → n ≡ m → ps ≡ qs → _≡_ {A = HeldRecord} (record { outcome = outcome.Least l n; spots = ps }) (record { outcome = outcome.Least l m; spots = qs })
 upright-is l n m ps qs e f = rw (e, f)
@@ -37,15 +39,9 @@ module _ (c : HeldChip) (letters : List ℕ) (p : ℕ) (ok : Passed c) where
   abbrev ls : List Letter
   ls = lettersIn letters p
 
-  module _ (f : HalfFit) (l room : ℕ) (said : HalfSaid C ls vertical room (f .outcome) (f .at)) (e : f .outcome ≡ answer.Fit l) (many : length (f .at) ≡ 8) where
-    abbrev at : List ℕ
-    at = f .at
-
-    given : HalfOn (axisFor vertical C ls) l (take (length (C .macs)) at)
-    given = subst (λ (o : HalfOutcome). HalfSaid C ls vertical room o at) e said
-
+  module _ (at : List ℕ) (l : ℕ) (given : HalfOn (axisFor vertical C ls) l (take (length (C .macs)) at)) (many : length at ≡ 8) where
     -- the placement with that y has the half fit beside it
-    pub first-beside : (above : HeldRecord) → length (above .spots) ≡ 8 → above ≡ record { outcome = outcome.Least l (c .n); spots = uprightSpots at } → Beside c letters p above horizontal l
+    first-beside : (above : HeldRecord) → length (above .spots) ≡ 8 → above ≡ record { outcome = outcome.Least l (c .n); spots = uprightSpots at } → Beside c letters p above horizontal l
     first-beside above long is = record {
       counted = record { few = ok .fine .macCount; whole = long; count = subst (λ (r : HeldRecord). CountIs (c .n) (r .outcome)) (sym is) refl };
       length = l;
@@ -73,5 +69,19 @@ module _ (c : HeldChip) (letters : List ℕ) (p : ℕ) (ok : Passed c) where
       no-none z = let q : _≡_ {A = ℕ} 0 1 = cc in absurd (omega arith)
 
 -- without a placement so far the room is that of the first half fits
-pub first-room : (c : Chip) (ls : List Letter) (d : Direction) (r : HeldRecord) (l : ℕ) (f : HalfFit) → r ≡ noRecord → HalfSaid c ls d 4000000000 (f .outcome) (f .at) → HalfSaid c ls d (roomOf (r .outcome) l) (f .outcome) (f .at)
+first-room : (c : Chip) (ls : List Letter) (d : Direction) (r : HeldRecord) (l : ℕ) (f : HalfFit) → r ≡ noRecord → HalfSaid c ls d 4000000000 (f .outcome) (f .at) → HalfSaid c ls d (roomOf (r .outcome) l) (f .outcome) (f .at)
 first-room c ls d r l f e h = rw e h
+
+-- ---- in the form of the needs
+
+pub first-again : (c : HeldChip) (letters : List ℕ) (p : ℕ) → Passed c → Lettered c letters p → (r : HeldRecord) → FitFor c letters p r → FitHeld c letters p r
+first-again c letters p ok e r h = h .held ok e
+
+pub first-said : (c : Chip) (ls : List Letter) (room : ℕ) (f : HalfFit) (l : ℕ) → HalfSaid c ls vertical room (f .outcome) (f .at) → f .outcome ≡ answer.Fit l → HalfSaid c ls vertical room (answer.Fit l) (f .at)
+first-said c ls room f l said e = subst (λ (o : HalfOutcome). HalfSaid c ls vertical room o (f .at)) e said
+
+pub first-joined : (c : HeldChip) (letters : List ℕ) (p : ℕ) → Passed c → Lettered c letters p → (f : HalfFit) → HalfSaid (chipOf c) (lettersIn letters p) horizontal 4000000000 (f .outcome) (f .at)
+    → (at : List ℕ) (l : ℕ) → HalfSaid (chipOf c) (lettersIn letters p) vertical 4000000000 (answer.Fit l) at → length at ≡ 8 → (above : HeldRecord) → length (above .spots) ≡ 8 → above ≡ record { outcome = outcome.Least l (c .n); spots = uprightSpots at }
+    → (best : HeldRecord) → best ≡ noRecord → (r : HeldRecord) → JoinedFrom c letters p above best horizontal f l r → ChildHeld c letters p noRecord r
+first-joined c letters p ok e f x at l y many above long is best z r j =
+    subst (λ (b : HeldRecord). ChildHeld c letters p b r) z (j .held ok e (first-beside c letters p ok at l y many above long is) (first-room (chipOf c) (lettersIn letters p) horizontal best l f z x))

@@ -2,7 +2,7 @@
 use Prim.Native.Nat.{ℕ, zero, suc, _+_, _≤_, _<_}
 use mathlib.Core.Path.{_≡_, refl, sym, ap, subst, _∙_}
 use mathlib.Core.Bool.{Bool, true, false}
-use mathlib.Core.List.{List, [], _∷_}
+use mathlib.Core.List.{List}
 use native.Mathlib.Omega.{arith}
 use lib.Dec.{ltb}
 use lib.ListN.{length, set, length-set}
@@ -26,36 +26,20 @@ use Rattle.slots.specs.Axes.{axisFor, cornersOn}
 use Rattle.slots.proofs.Counting.{letters-count}
 use Rattle.halves.specs.Half.{half}
 use Rattle.halves.proofs.Halving.{half-one, fit-half, fit-sum, other-axis}
-use Rattle.kept.specs.Differences.{limited, contrary}
+use Rattle.kept.specs.Differences.{limited}
 use Rattle.half_tables.specs.Tables.{Arced, withBound}
 use Rattle.half_tables.proofs.LetterBounds.{arced-letter, arced-other}
 use Rattle.best.specs.Best.{resultOf, bestOf}
-use Rattle.search.specs.Search.{noRecord, lengthOf, byteOf, lettersIn, Lettered, letterAt, wayAt, AddsOn, FitHeld, NodeOk, childList, childAt}
-use Rattle.search.specs.Turns.{OppositeKept, SameKept, Open, Asks, Untried, Visited, LeftOk, NextX, NextY, NextOf, NextOk}
-use Rattle.search.specs.declared.node.Node.{Node}
-use Rattle.search.specs.declared.left.Left.{Left}
-use Rattle.search.proofs.Lettering.{letters-set, letters-long, lettered-set}
-use Rattle.search.proofs.Differing.{across-not-up, adds-across, adds-up}
-use Rattle.search.proofs.Asking.{way-across, way-up, way-of}
-
--- ---- what is left
-
-pub untried-is : (node : Node) (k₀ k₁ k₂ k₃ : HeldRecord) → k₀ ≡ noRecord → k₁ ≡ noRecord → k₂ ≡ noRecord → k₃ ≡ noRecord → Untried node (record { l = k₀; r = k₁; b = k₂; a = k₃; kx = node .kx; ky = node .ky })
-untried-is node k₀ k₁ k₂ k₃ e₀ e₁ e₂ e₃ = record { none = by; x = refl; y = refl }
-  where
-    by : (j : ℕ) → childAt (k₀ ∷ k₁ ∷ k₂ ∷ k₃ ∷ []) j ≡ noRecord
-    by zero = e₀
-    by (suc zero) = e₁
-    by (suc (suc zero)) = e₂
-    by (suc (suc (suc zero))) = e₃
-    by (suc (suc (suc (suc j)))) = refl
-
-pub visited-is : (t : Left) (i : ℕ) (u : Slot) (n : HeldRecord) (m r : Left) → n ≡ noRecord → SameKept t m (set (childList t) i n) → OppositeKept m i u r → Visited t i u r
-visited-is t i u n m r e a b = record {
-  children = b .children ∙ (a .children ∙ ap (λ (x : HeldRecord). set (childList t) i x) e);
-  adds = subst (λ (k : List ℕ). AddsOn (wayAt i) k (t .ky) (contrary (limited u)) (r .kx) (r .ky)) (a .x)
-      (subst (λ (k : List ℕ). AddsOn (wayAt i) (m .kx) k (contrary (limited u)) (r .kx) (r .ky)) (a .y) (b .adds));
-}
+use Rattle.search_node.specs.Node.{lengthOf, FitHeld, NodeOk, Open}
+use Rattle.search_node.specs.Letters.{byteOf, lettersIn, Lettered, letterAt, wayAt, Asks}
+use Rattle.search_left.specs.Left.{childList, childAt}
+use Rattle.search_letters.specs.Turns.{LeftOk}
+use Rattle.search.specs.Search.{NextX, NextY, NextOf, NextOk}
+use Rattle.search_node.specs.declared.Node.{Node}
+use Rattle.search_left.specs.declared.Left.{Left}
+use Rattle.search_node.proofs.Lettering.{letters-set, letters-long, lettered-set}
+use Rattle.search_left.proofs.Differing.{across-not-up, adds-across, adds-up}
+use Rattle.search_node.proofs.Asking.{way-across, way-up, way-of}
 
 -- ---- what a child takes
 

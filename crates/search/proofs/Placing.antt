@@ -39,13 +39,14 @@ use Rattle.halves.proofs.Covers.{real-answer}
 use Rattle.halves.proofs.EqualMacros.{equal-macros}
 use Rattle.best.specs.Best.{resultOf, bestOf, Counted}
 use Rattle.half_tables.specs.Made.{Hold, ArraysFor}
-use Rattle.search.specs.Search.{lettersIn, Lettered, noRecord, Arrayed, Searched}
-use Rattle.search.specs.Turns.{RootOk}
-use Rattle.search.specs.declared.node.Node.{Node}
+use Rattle.search_node.specs.Letters.{lettersIn, Lettered}
+use Rattle.search_node.specs.Node.{noRecord, Arrayed}
+use Rattle.search_close.specs.Step.{Searched}
+use Rattle.search.specs.Search.{RootOk}
+use Rattle.search_node.specs.declared.Node.{Node}
 use Rattle.search.specs.Place.{searchChip, placeText, placeRead}
-use Rattle.search.proofs.Lettering.{dots-are, dots-in}
-use Rattle.search.proofs.Holding.{no-best}
-use Rattle.search.proofs.Records.{none-counted}
+use Rattle.search_node.proofs.Lettering.{dots-are, dots-in}
+use Rattle.search_node.proofs.Records.{no-best, none-counted}
 use Rattle.search.proofs.RecordsRead.{chip-record-read}
 
 -- ---- the record of a chip whose test is passed

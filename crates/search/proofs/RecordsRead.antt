@@ -28,10 +28,10 @@ use Rattle.placement.proofs.Demand.{earliest-least-found}
 use Rattle.placement.proofs.LengthBound.{wirelength-bound}
 use Rattle.branches.proofs.Closing.{legal-inside}
 use Rattle.fit.specs.Answer.{padded}
-use Rattle.search.specs.Search.{noRecord}
+use Rattle.search_node.specs.Node.{noRecord}
 use Rattle.fit.proofs.Outcomes.{padded-long}
-use Rattle.search.proofs.FitRecords.{first-padded}
-use Rattle.search.proofs.Nearby.{within-long, within-near}
+use Rattle.search_join.proofs.FitRecords.{first-padded}
+use Rattle.search_join.proofs.Nearby.{within-long, within-near}
 
 -- ---- the lines
 

@@ -36,12 +36,15 @@ use Rattle.half_tables.proofs.Padding.{padded-value, take-nets}
 use Rattle.half_fit.specs.Answer.{Answers}
 use Rattle.half_fit.specs.declared.service.HalfFit.{HalfFit}
 use Rattle.best.specs.Best.{bestOf}
-use Rattle.search.specs.Search.{lettersIn, Lettered, FitHeld, HalfSaid, dots}
-use Rattle.search.specs.Turns.{OrderKept, RootOk}
-use Rattle.search.proofs.Children.{half-said}
-use Rattle.search.proofs.Cornering.{take-corners}
-use Rattle.search.proofs.Joining.{held-spots}
-use Rattle.search.proofs.Lettering.{dots-in}
+use Rattle.search_node.specs.Letters.{lettersIn, Lettered, dots}
+use Rattle.search_node.specs.Node.{FitHeld}
+use Rattle.search_join.specs.Joined.{HalfSaid}
+use Rattle.search_order.specs.Order.{OrderKept}
+use Rattle.search.specs.Search.{RootOk}
+use Rattle.search_letters.proofs.Children.{half-said}
+use Rattle.search_join.proofs.Cornering.{take-corners}
+use Rattle.search_join.proofs.Joining.{held-spots}
+use Rattle.search_node.proofs.Lettering.{dots-in}
 use Rattle.search.proofs.Placing.{dots-lettered, many}
 
 take-limited : (n : ℕ) (z : List ℕ) → take n (limited z) ≡ limited (take n z)

@@ -1,11 +1,4 @@
 // The root of the search: a dot for each pair.
-use crate::child::fit_again;
-use crate::child::joined;
-use crate::child::spots_with;
-use crate::node::LETTERS;
-use crate::node::Node;
-use crate::node::no_record;
-use bounds::Slot;
 use chip_array::macro_count;
 use half_fit::service::HalfFit;
 use half_fit::service::HalfOutcome;
@@ -14,9 +7,15 @@ use model::Chip;
 use model::Outcome;
 use model::Record;
 use model::Spot;
+use search_join::fit_again;
+use search_join::joined;
+use search_join::spots_with;
+use search_node::LETTERS;
+use search_node::Node;
+use search_node::no_record;
+use search_order::ordered;
 use slots::Direction;
 ghost use mathlib.Core.Path.{_≡_};
-ghost use Prim.Native.Nat.{_<_};
 ghost use lib.ListN.{length};
 ghost use Rattle.model.specs.Meaning.{chipOf};
 ghost use Rattle.chip.specs.Passed.{Passed};
@@ -24,8 +23,10 @@ ghost use Rattle.chip_array.specs.Array.{chipIn};
 ghost use Rattle.slots.specs.Axes.{cornerOn, cornersOn};
 ghost use Rattle.half_tables.specs.Made.{Hold};
 ghost use Rattle.pairs.specs.Count.{letterTotal};
-ghost use Rattle.search.specs.Search.{dots, uprightSpots, lettersIn, Lettered, FitHeld, HalfSaid};
-ghost use Rattle.search.specs.Turns.{OrderKept, RootOk};
+ghost use Rattle.search_node.specs.Letters.{dots, lettersIn, Lettered};
+ghost use Rattle.search_node.specs.Node.{noRecord, FitHeld};
+ghost use Rattle.search_join.specs.Joined.{HalfSaid, ChildHeld};
+ghost use Rattle.search.specs.Search.{uprightSpots, RootOk};
 
 // A corner's coordinate in a direction.
 fn coordinate(p: Spot, d: Direction) -> u64
@@ -50,42 +51,6 @@ fn coordinates(spots: [Spot; 8], d: Direction) -> [u64; 8]
     at
 }
 
-// The differences with that of macros i and j, counted from 0, if they are equal and i is the earlier: it does not lie further right.
-fn with_order(c: Chip, e: [u32; 128], i: usize, j: usize) -> [u32; 128]
-    requires { ⌜ (i < 8) × (j < 8) ⌝ }
-    ensures { λ r. ⌜ OrderKept (chipOf c) e r ⌝ }
-{
-    if j <= i {
-        return e;
-    }
-    if !equal::alike(c, i, j) {
-        return e;
-    }
-    kept::keep(
-        e,
-        Slot {
-            tail: i + 1,
-            head: j + 1,
-            plus: 0,
-            minus: 0,
-        },
-    )
-}
-
-// The differences with those of all equal macros.
-fn ordered(c: Chip, e: [u32; 128]) -> [u32; 128]
-    ensures { λ r. ⌜ OrderKept (chipOf c) e r ⌝ }
-{
-    let mut r = e;
-    let mut k: usize = 0;
-    while k < 64 {
-        let next = with_order(c, r, k / 8, k % 8);
-        r = next;
-        k += 1;
-    }
-    r
-}
-
 // A placement with x 0 and the given y, of length l.
 fn upright(cs: &[u64; 640], at: [u64; 8], l: u64) -> Record
     ensures { λ r. ⌜ r ≡ record { outcome = Outcome.Least l (chipIn (now (cs .entry)) .n); spots = uprightSpots at } ⌝ }
@@ -95,6 +60,25 @@ fn upright(cs: &[u64; 640], at: [u64; 8], l: u64) -> Record
         outcome: Outcome::Least(l, macro_count(cs)),
         spots: spots_with(Direction::Vertical, at, [Spot { x: 0, y: 0 }; 8]),
     }
+}
+
+// The fit of dots from its two half fits, of which the vertical one has coordinates at and length l.
+fn from_halves(cs: &[u64; 640], p: usize, fx: HalfFit, at: [u64; 8], l: u64) -> Record
+    requires { ⌜ Passed (chipIn (now cs)) × Lettered (chipIn (now cs)) dots p × HalfSaid (chipOf (chipIn (now cs))) (lettersIn dots p) Direction.Horizontal 4000000000 (fx .outcome) (fx .at) × HalfSaid (chipOf (chipIn (now cs))) (lettersIn dots p) Direction.Vertical 4000000000 (HalfOutcome.Fit l) at ⌝ }
+    ensures { λ r. ⌜ ChildHeld (chipIn (now (cs .entry))) dots p noRecord r ⌝ }
+{
+    let letters = [46u8; LETTERS];
+    let above = upright(cs, at, l);
+    joined(
+        cs,
+        p,
+        letters,
+        above,
+        no_record(),
+        Direction::Horizontal,
+        fx,
+        l,
+    )
 }
 
 // The fit of dots from its two half fits; where one is not shown, the fit that is sold.
@@ -108,17 +92,7 @@ pub(crate) fn first_fit(cs: &[u64; 640], p: usize, fx: HalfFit, fy: HalfFit) -> 
         return fit_again(cs, letters, p);
     };
     let at = fy.at;
-    let above = upright(cs, at, l);
-    let r = joined(
-        cs,
-        p,
-        letters,
-        above,
-        no_record(),
-        Direction::Horizontal,
-        fx,
-        l,
-    );
+    let r = from_halves(cs, p, fx, at, l);
     let found = r.outcome;
     match found {
         Outcome::Least(_, _) => r,

@@ -1,8 +1,5 @@
 // The search as a service: of a chip held as a value, and from chip text to record text.
 use crate::branch::search;
-use crate::choose::all_weights;
-use crate::node::Parts;
-use crate::node::no_record;
 use crate::root::first_fit;
 use crate::root::root;
 use chip_array::array_of;
@@ -13,18 +10,20 @@ use model::Chip;
 use model::Record;
 use model::Tested;
 use model::WriteAnswer;
+use search_choose::weights::all_weights;
+use search_node::Parts;
+use search_node::no_record;
 use slots::Direction;
 ghost use mathlib.Core.Path.{_≡_};
 ghost use Rattle.model.specs.Meaning.{chipOf, recordOf};
 ghost use Rattle.grammar.specs.Writing.{answerOf};
 ghost use Rattle.chip.specs.Passed.{Passed};
 ghost use Rattle.placement.specs.Least.{chipRecord};
-ghost use Rattle.search.specs.Search.{PartsOf};
+ghost use Rattle.search_node.specs.Node.{PartsOf};
 ghost use Rattle.search.specs.Place.{searchChip, placeText};
 
 // The parts of a chip that the search reads.
 fn parts_of(c: Chip) -> Parts
-    requires { ⌜ Passed c ⌝ }
     ensures { λ r. ⌜ PartsOf c r ⌝ }
 {
     let macs = c.macs;

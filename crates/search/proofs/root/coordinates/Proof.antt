@@ -1,7 +1,7 @@
 use Prim.Native.Nat.{_-_, _≤_}
 use Rattle.slots.specs.Axes.{cornerOn}
 use Rattle.fit.proofs.Copies.{Copied, copied-none, copied-all}
-use Rattle.search.proofs.Cornering.{coordinates-more}
+use Rattle.search_join.proofs.Cornering.{coordinates-more}
 use borrow.Author.Needs.{needs}
 use Rattle.search.proofs.root.coordinates.Statement.{statement}
 use Rattle.search.proofs.root.coordinates.Tie as tie

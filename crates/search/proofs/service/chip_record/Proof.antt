@@ -1,6 +1,5 @@
 use Rattle.search.proofs.Placing.{arrays-hold, arrays-stand, start-counted, whole-record}
-use Rattle.search.proofs.Parts.{lent-asked, lent-searched}
-use Rattle.search.proofs.Joining.{read-held}
+use Rattle.search.proofs.Lending.{lent-given, lent-held, lent-searched}
 use Rattle.search.proofs.Rooting.{first-asked}
 use borrow.Author.Needs.{needs}
 use Rattle.search.proofs.service.chip_record.Statement.{statement}
@@ -47,7 +46,7 @@ root-requires c κs =
       counted .letter-count .ensures,
       arrays-hold _ _ _ _ ok (made .before .arrays-of .ensures),
       arrays-hold _ _ _ _ ok (made .arrays-of2 .ensures),
-      read-held _ _ (lent .array-of .ensures) _ _ _ (c .first-fit .ensures),
+      lent-held _ _ (lent .array-of .ensures) _ _ _ (c .first-fit .ensures),
     )
 
 no-record-requires : tie.Need-no-record-requires
@@ -58,7 +57,13 @@ search-requires c κs =
     let made = c .before .before .before .before .before .before .before .before .before .before .before .before .before .before .before .before .before .before .before .before .before .before .before .before .before in
     let lent = made .before .before in
     let ok = lent .before .before .before .pre in
-    lent-asked _ _ (lent .array-of .ensures) _ _ _ _ _ _ ok (lent .before .parts-of .ensures) (arrays-stand _ _ _ _ _ ok (made .before .arrays-of .ensures) (made .arrays-of2 .ensures)) (c .before .before .before .before .before .before .before .before .root .ensures .node) (start-counted _ _ ok (c .no-record .ensures))
+    lent-given _ _ (lent .array-of .ensures) _ _ _ _ _ _ (record {
+      passed = ok;
+      reads = lent .before .parts-of .ensures;
+      arrays = arrays-stand _ _ _ _ _ ok (made .before .arrays-of .ensures) (made .arrays-of2 .ensures);
+      branch = c .before .before .before .before .before .before .before .before .root .ensures .node;
+      counted = start-counted _ _ ok (c .no-record .ensures);
+    })
 
 returns : tie.Need-returns
 returns c =

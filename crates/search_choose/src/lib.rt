@@ -1,0 +1,98 @@
+// The pair to branch on: an overlapping one; while no placement is found, one with at most two open letters first; of those the one with the greatest score. The score is what moving the two apart would cost, in the two cheapest ways, times the weight of their nets; among equal scores the pair of the first macros.
+mod open;
+mod score;
+pub mod weights;
+
+use crate::score::pair_score;
+use model::Fix;
+use model::Mac;
+use model::Spot;
+use pairs::Cursor;
+use pairs::first_pair;
+use pairs::letter_count;
+use pairs::next_pair;
+ghost use lib.ListN.{take};
+ghost use Rattle.search_choose.specs.Choice.{Laid, LaidBy, Chosen, PlaceOf, partsOf, ChosenOf};
+
+// A pair by its place in the order of letters, with the cursor there.
+pub struct Choice {
+    pub s: usize,
+    pub at: Cursor,
+}
+
+// Whether p is the number of pairs of n macros and k fixes.
+fn is_laid(n: usize, k: usize, p: usize) -> bool
+    ensures { λ r. ⌜ LaidBy r n k p ⌝ }
+{
+    if 8 < n {
+        return false;
+    }
+    if 8 < k {
+        return false;
+    }
+    p == letter_count(n, k)
+}
+
+// The place of an overlapping pair of the p pairs of n macros and k fixes, or p where each two are apart.
+fn choose_pair(
+    macs: [Mac; 8],
+    n: usize,
+    fixes: [Fix; 8],
+    k: usize,
+    p: usize,
+    weights: [u64; 8],
+    kx: [u32; 128],
+    ky: [u32; 128],
+    found: bool,
+    spots: [Spot; 8],
+) -> Choice
+    requires { ⌜ Laid n k p ⌝ }
+    ensures { λ r. ⌜ Chosen (partsOf macs n fixes k) (take n spots) p (r .s) ⌝ }
+    ensures { λ r. ⌜ PlaceOf macs n fixes k p (r .s) (r .at) ⌝ }
+{
+    let mut best = p;
+    let mut most: u64 = 0;
+    let mut at = first_pair(n);
+    let mut best_at = at;
+    let mut s: usize = 0;
+    while s < p {
+        let v = pair_score(macs, fixes, spots, weights, kx, ky, found, at);
+        let here = s;
+        let here_at = at;
+        at = next_pair(at, n, k);
+        s += 1;
+        if most < v {
+            best = here;
+            best_at = here_at;
+            most = v;
+        }
+    }
+    Choice {
+        s: best,
+        at: best_at,
+    }
+}
+
+// The same for every number of macros, fixes and pairs; kx, ky are the differences kept, and found says whether a placement is found.
+pub fn choose(
+    macs: [Mac; 8],
+    n: usize,
+    fixes: [Fix; 8],
+    k: usize,
+    p: usize,
+    weights: [u64; 8],
+    kx: [u32; 128],
+    ky: [u32; 128],
+    found: bool,
+    spots: [Spot; 8],
+) -> Choice
+    ensures { λ r. ⌜ ChosenOf macs n fixes k spots p (r .s) (r .at) ⌝ }
+{
+    if !is_laid(n, k, p) {
+        return Choice {
+            s: p,
+            at: first_pair(n),
+        };
+    }
+    choose_pair(macs, n, fixes, k, p, weights, kx, ky, found, spots)
+}

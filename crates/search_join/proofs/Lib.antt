@@ -1,0 +1,4 @@
+pub mod Nearby
+pub mod FitRecords
+pub mod Cornering
+pub mod Joining

@@ -1,0 +1,2 @@
+pub mod FourChildren
+pub mod Differing

@@ -1,0 +1,235 @@
+// The four letters of a pair, tried: each is excluded by the differences, closed by its fit, or left with it.
+use best::replaces_best;
+use bounds::Slot;
+use half_tables::with_bound;
+use model::Record;
+use pairs::Cursor;
+use search_join::joined;
+use search_left::Left;
+use search_left::is_excluded;
+use search_left::keep_opposite;
+use search_left::put_child;
+use search_node::Node;
+use search_node::Parts;
+use search_node::decided;
+use search_node::letter_slot;
+use search_node::no_record;
+use search_node::room;
+use slots::Direction;
+ghost use Rattle.chip_array.specs.Array.{chipIn};
+ghost use Rattle.search_letters.specs.Turns.{Untried, ChildOn, ChildOf, TriedOne, Tried};
+
+// The fit of a branch with letter i for pair s, from the half fit of the letter's direction; its bounds there are `before`, the length of the other half is `other`, the letter's slot is t. The half fit's state goes into the pool.
+fn child_on(
+    cs: &[u64; 640],
+    p: usize,
+    d: Direction,
+    tab: &[u32; 1024],
+    help: &[u32; 4352],
+    node: Node,
+    before: [u32; 128],
+    other: u64,
+    state: &[u32; 2560],
+    k: usize,
+    s: usize,
+    i: usize,
+    t: Slot,
+    best: Record,
+    pool: &mut [u32; 2560],
+) -> Record
+    ensures { λ r. ⌜ ChildOn (chipIn (now (cs .entry))) p d (now (tab .entry)) node before other s i t best r ⌝ }
+{
+    let letters = node.letters;
+    let here = node.here;
+    let arcs = with_bound(before, t);
+    let f = half_fit::service::half_fit(
+        tab,
+        help,
+        &arcs,
+        state,
+        k,
+        pool,
+        i,
+        t.tail,
+        t.head,
+        room(best, other),
+    );
+    joined(cs, p, decided(letters, s, i), here, best, d, f, other)
+}
+
+// Letter i of pair s, whose slot is t. Its state goes into the pool.
+fn child(
+    cs: &[u64; 640],
+    p: usize,
+    tx: &[u32; 1024],
+    hx: &[u32; 4352],
+    ty: &[u32; 1024],
+    hy: &[u32; 4352],
+    node: Node,
+    sx: &[u32; 2560],
+    ix: usize,
+    sy: &[u32; 2560],
+    iy: usize,
+    s: usize,
+    i: usize,
+    t: Slot,
+    best: Record,
+    pool: &mut [u32; 2560],
+) -> Record
+    ensures { λ r. ⌜ ChildOf (chipIn (now (cs .entry))) p (now (tx .entry)) (now (ty .entry)) node s i t best r ⌝ }
+{
+    if i < 2 {
+        let ax = node.ax;
+        return child_on(
+            cs,
+            p,
+            Direction::Horizontal,
+            tx,
+            hx,
+            node,
+            ax,
+            node.ly,
+            sx,
+            ix,
+            s,
+            i,
+            t,
+            best,
+            pool,
+        );
+    }
+    let ay = node.ay;
+    child_on(
+        cs,
+        p,
+        Direction::Vertical,
+        ty,
+        hy,
+        node,
+        ay,
+        node.lx,
+        sy,
+        iy,
+        s,
+        i,
+        t,
+        best,
+        pool,
+    )
+}
+
+// A branch of which no letter of a pair is tried.
+fn untried(node: Node) -> Left
+    ensures { λ r. ⌜ Untried node r ⌝ }
+{
+    let kx = node.kx;
+    let ky = node.ky;
+    Left {
+        l: no_record(),
+        r: no_record(),
+        b: no_record(),
+        a: no_record(),
+        kx,
+        ky,
+    }
+}
+
+// Letter i of pair s is tried: excluded by the differences, closed, or left with its fit.
+fn try_letter(
+    cs: &[u64; 640],
+    parts: Parts,
+    p: usize,
+    tx: &[u32; 1024],
+    hx: &[u32; 4352],
+    ty: &[u32; 1024],
+    hy: &[u32; 4352],
+    node: Node,
+    sx: &[u32; 2560],
+    ix: usize,
+    sy: &[u32; 2560],
+    iy: usize,
+    s: usize,
+    at: Cursor,
+    i: usize,
+    best: Record,
+    left: Left,
+    pool: &mut [u32; 2560],
+) -> Left
+    ensures { λ r. ⌜ TriedOne (chipIn (now (cs .entry))) parts p (now (tx .entry)) (now (ty .entry)) node s at i best left r ⌝ }
+{
+    let t = letter_slot(parts, at, i);
+    if is_excluded(left, i, t) {
+        return left;
+    }
+    let f = child(
+        cs,
+        p,
+        tx,
+        hx,
+        ty,
+        hy,
+        node,
+        sx,
+        ix,
+        sy,
+        iy,
+        s,
+        i,
+        t,
+        best,
+        pool,
+    );
+    if replaces_best(best, f) {
+        return put_child(left, i, f);
+    }
+    keep_opposite(left, i, t)
+}
+
+// The four letters of pair s are tried.
+pub fn try_letters(
+    cs: &[u64; 640],
+    parts: Parts,
+    p: usize,
+    tx: &[u32; 1024],
+    hx: &[u32; 4352],
+    ty: &[u32; 1024],
+    hy: &[u32; 4352],
+    node: Node,
+    sx: &[u32; 2560],
+    ix: usize,
+    sy: &[u32; 2560],
+    iy: usize,
+    s: usize,
+    at: Cursor,
+    best: Record,
+    pool: &mut [u32; 2560],
+) -> Left
+    ensures { λ r. ⌜ Tried (chipIn (now (cs .entry))) parts p (now (tx .entry)) (now (ty .entry)) node s at 4 best r ⌝ }
+{
+    let mut left = untried(node);
+    let mut i: usize = 0;
+    while i < 4 {
+        left = try_letter(
+            cs,
+            parts,
+            p,
+            tx,
+            hx,
+            ty,
+            hy,
+            node,
+            sx,
+            ix,
+            sy,
+            iy,
+            s,
+            at,
+            i,
+            best,
+            left,
+            pool,
+        );
+        i += 1;
+    }
+    left
+}

@@ -1,0 +1,144 @@
+// A branch of the search: its letters, bounds, differences and fit; the four letters of a pair and the slots that they ask.
+use bounds::Slot;
+use model::Fix;
+use model::Mac;
+use model::Outcome;
+use model::Record;
+use model::Spot;
+use pairs::Cursor;
+use pairslots::slot_at;
+use slots::Asked;
+use slots::Direction;
+ghost use mathlib.Core.Path.{_≡_};
+ghost use Prim.Native.Nat.{_-_};
+ghost use lib.ListN.{set};
+ghost use Rattle.search_node.specs.Letters.{byteOf, wayAt, askedAt, slotAsked};
+ghost use Rattle.search_node.specs.Node.{noRecord, lengthOf, roomOf};
+
+// Room for the letters of a chip: at most 92 today, and 120 with 12 more fixes.
+pub const LETTERS: usize = 120;
+
+// What the search reads of a chip: its macros, its fixes, and the weight of each macro's nets.
+pub struct Parts {
+    pub n: usize,
+    pub k: usize,
+    pub macs: [Mac; 8],
+    pub fixes: [Fix; 8],
+    pub weights: [u64; 8],
+}
+
+// The letters; in each direction the greatest bounds between nodes, the differences kept and the length of the half fit; the fit.
+pub struct Node {
+    pub letters: [u8; LETTERS],
+    pub ax: [u32; 128],
+    pub ay: [u32; 128],
+    pub kx: [u32; 128],
+    pub ky: [u32; 128],
+    pub lx: u64,
+    pub ly: u64,
+    pub here: Record,
+}
+
+// The record that holds no placement.
+pub fn no_record() -> Record
+    ensures { λ r. ⌜ r ≡ noRecord ⌝ }
+{
+    Record {
+        outcome: Outcome::None,
+        spots: [Spot { x: 0, y: 0 }; 8],
+    }
+}
+
+// The length of the placement that a record holds.
+pub fn length_of(r: Record) -> u64
+    ensures { λ l. ⌜ l ≡ lengthOf (r .outcome) ⌝ }
+{
+    let outcome = r.outcome;
+    match outcome {
+        Outcome::Least(l, _) => l,
+        Outcome::None => 0,
+    }
+}
+
+// a less b, or 0.
+pub fn less(a: u64, b: u64) -> u64
+    ensures { λ r. ⌜ r ≡ a - b ⌝ }
+{
+    if a < b {
+        return 0;
+    }
+    a - b
+}
+
+// How long a half may be beside the other half's length so that the whole is not longer than the best.
+pub fn room(best: Record, other: u64) -> u64
+    ensures { λ r. ⌜ r ≡ roomOf (best .outcome) other ⌝ }
+{
+    let outcome = best.outcome;
+    match outcome {
+        Outcome::None => 4000000000,
+        Outcome::Least(m, _) => less(m, other),
+    }
+}
+
+// The byte of letter i; 0 past the four.
+fn letter(i: usize) -> u8
+    ensures { λ r. ⌜ r ≡ byteOf i ⌝ }
+{
+    if i == 0 {
+        return 76;
+    }
+    if i == 1 {
+        return 82;
+    }
+    if i == 2 {
+        return 66;
+    }
+    if i == 3 {
+        return 65;
+    }
+    0
+}
+
+// The letters with letter i for pair s.
+pub fn decided(letters: [u8; LETTERS], s: usize, i: usize) -> [u8; LETTERS]
+    ensures { λ r. ⌜ r ≡ set letters s (byteOf i) ⌝ }
+{
+    let mut ls = letters;
+    if s < LETTERS {
+        ls[s] = letter(i);
+    }
+    ls
+}
+
+// The direction of letter i.
+fn way(i: usize) -> Direction
+    ensures { λ r. ⌜ r ≡ wayAt i ⌝ }
+{
+    if i < 2 {
+        return Direction::Horizontal;
+    }
+    Direction::Vertical
+}
+
+// What letter i asks of a pair in its direction.
+fn asked(i: usize) -> Asked
+    ensures { λ r. ⌜ r ≡ askedAt i ⌝ }
+{
+    if i == 1 {
+        return Asked::After;
+    }
+    if i == 3 {
+        return Asked::After;
+    }
+    Asked::Before
+}
+
+// The slot that letter i asks of the pair at hand.
+pub fn letter_slot(parts: Parts, at: Cursor, i: usize) -> Slot
+    ensures { λ r. ⌜ r ≡ slotAsked (parts .macs) (parts .fixes) at i ⌝ }
+{
+    let macs = parts.macs;
+    let fixes = parts.fixes;
+    slot_at(at, asked(i), macs, fixes, way(i))
+}
