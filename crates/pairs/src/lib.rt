@@ -1,6 +1,6 @@
 // The pairs of a chip, in the order of their letters: how many there are, and a cursor through them.
 ghost use mathlib.Core.Path.{_≡_};
-ghost use Rattle.pairs.specs.Order.{First, isOn, nextOf};
+ghost use Rattle.pairs.specs.Order.{First, firstPair, isOn, nextOf};
 ghost use Rattle.pairs.specs.Count.{letterTotal};
 
 // A pair in the order of letters: macros i and j, or macro i and fix j, counted from 0.
@@ -10,7 +10,9 @@ pub struct Cursor {
     pub j: usize,
 }
 
+// The first pair of n macros; no fix is needed to name it.
 pub fn first_pair(n: usize) -> Cursor
+    ensures { λ r. ⌜ r ≡ firstPair n ⌝ }
     ensures { λ r. ⌜ First n r ⌝ }
 {
     if 2 <= n {
