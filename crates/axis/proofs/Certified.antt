@@ -11,13 +11,13 @@ use native.Mathlib.Decide.{ℕ-discrete, decLt}
 use native.Mathlib.Omega.{arith}
 use lib.ListN.{replicate, getD-replicate, length-replicate, List·getD-eq-default}
 use Rattle.bounds.specs.Listed.{tails, heads}
-use Rattle.axis.specs.declared.graph.Graph.{Graph}
-use Rattle.axis.specs.declared.solve.Span.{Span}
-use Rattle.axis.specs.Graph.{at, Fine, Holds, Tights, Closed, Leads}
-use Rattle.axis.specs.Solved.{Nets, Solved}
-use Rattle.axis.specs.Certify.{Shows, Kept, Flow, Rooted, parentOf, rankOf}
-use Rattle.axis.proofs.Optimum.{weak-at, strong-at, tight-at}
-use Rattle.axis.proofs.Tests.{shown-by}
+use Rattle.axis_graph.specs.declared.Graph.{Graph}
+use Rattle.axis_graph.specs.declared.Span.{Span}
+use Rattle.axis_graph.specs.Graph.{at, Fine, Holds, Tights, Closed, Leads}
+use Rattle.axis_graph.specs.Solved.{Solved}
+use Rattle.axis_graph.proofs.Optimum.{weak-at, strong-at, tight-at}
+use Rattle.axis_values.specs.Values.{Rooted, parentOf, rankOf, Rests}
+use Rattle.axis_amounts.specs.Amounts.{Flow}
 
 -- ---- nodes that 0 leads to
 
@@ -60,7 +60,7 @@ module _ (g : Graph) (f x way : List ℕ) (fine : Fine g) (t : Rooted (g .slots)
 
 -- ---- the certificate
 
-module _ (g : Graph) (nets : List Span) (c : ℕ) (x f way : List ℕ) (fine : Fine g) (some : 0 < g .n) (ns : Nets g nets c) (kept : Kept g x) (tight : Tights (g .slots) (g .m) f x) (flow : Flow g nets c f) (tree : Rooted (g .slots) (g .m) f x way (g .n)) where
+module _ (g : Graph) (nets : List Span) (c : ℕ) (x f way : List ℕ) (some : 0 < g .n) (flow : Flow g nets c f) (rest : Rests g f x way) where
   -- a slot from a node to itself that carries is tight, so it asks nothing
   still : (s : ℕ) → tails (g .slots) s ≡ heads (g .slots) s → at f s ≡ 0
   still s e = by (decLt s (g .m)) (ℕ-discrete (at f s) 0)
@@ -69,23 +69,22 @@ module _ (g : Graph) (nets : List Span) (c : ℕ) (x f way : List ℕ) (fine : F
       by d (yes z) = z
       by (no n) (no o) = flow .idle .past s (omega arith)
       by (yes l) (no o) =
-          let q = tight .eq s l (omega arith) in
+          let q = rest .tight .eq s l (omega arith) in
           let a : at x (tails (g .slots) s) ≡ at x (heads (g .slots) s) = ap (at x) e in
           flow .idle .still s e (omega arith)
 
-  solved-by : Solved g nets c x f
-  solved-by =
+  pub certified : Solved g nets c x f
+  certified =
+      let fine = flow .fine in
+      let ends = flow .ends in
       let bal = flow .balance in
-      let e = strong-at g nets c fine ns f bal x tight in
+      let e = strong-at g nets c fine ends f bal x (rest .tight) in
       record {
-        holds = kept .holds;
+        holds = rest .kept .holds;
         most = flow .most .most;
         idle = still;
         balance = bal;
         reaches = e;
-        least = λ z h. let a = weak-at g nets c fine ns f bal z h in omega arith;
-        smallest = λ z h q k l. above g f x way fine tree z h (tight-at g nets c fine ns f bal z h (omega arith)) (suc (rankOf way k)) k (leads-in g fine some k l) (omega arith);
+        least = λ z h. let a = weak-at g nets c fine ends f bal z h in omega arith;
+        smallest = λ z h q k l. above g f x way fine (rest .rooted) z h (tight-at g nets c fine ends f bal z h (omega arith)) (suc (rankOf way k)) k (leads-in g fine some k l) (omega arith);
       }
-
-pub certified-by : (g : Graph) (nets : List Span) (c : ℕ) (x f way : List ℕ) → Fine g → 0 < g .n → Nets g nets c → (a : Bool) → Shows a (Kept g x) → not a ≡ false → (b : Bool) → Shows b (Tights (g .slots) (g .m) f x) → not b ≡ false → (d : Bool) → Shows d (Flow g nets c f) → not d ≡ false → (r : Bool) → Shows r (Rooted (g .slots) (g .m) f x way (g .n)) → Shows r (Solved g nets c x f)
-certified-by g nets c x f way fine some ns a ka ea b tb eb d fd ed r tr = record { shown = λ o. solved-by g nets c x f way fine some ns (shown-by a ka ea) (shown-by b tb eb) (shown-by d fd ed) (tr .shown o) }

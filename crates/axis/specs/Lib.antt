@@ -1,13 +1,1 @@
-pub mod Limits
-pub mod Graph
-pub mod Growth
-pub mod Push
-pub mod Drain
-pub mod Admit
-pub mod Solved
-pub mod Above
-pub mod Accept
-pub mod Build
-pub mod Start
-pub mod Service
-pub mod Certify
+pub mod Shown

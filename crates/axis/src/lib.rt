@@ -1,27 +1,99 @@
-// One axis of a fit: bounds between nodes, nets with weights; the least values under the bounds, and of those the smallest.
+// Solving one axis of a fit: the least values under the bounds, and of those the smallest; a flow, or a closed chain.
 //
-// `service` solves an axis that is held as a value. `accept` tests it against the limits, `build` writes its slots and nets into
-// the arrays of a graph, `start` gives the values that the graph starts from.
-//
-// A graph has nodes with values and slots with bounds. `admit` adds bounds, or shows that no values keep them all; `drain`
-// sends a net's weight from its lower to its upper node along slots that are tight; `solve` does so for every net and makes
-// the values the smallest. All of them grow a set of nodes along tight slots (`growth`) and push amounts along it (`push`).
-//
-// That way is sure but slow. `propose` has an answer from the fast fit of half_fit, over the arrays of `tables`, and writes it slot
-// by slot; nothing is proved of that but that it ends. `certify` tests what was proposed, and what fails the test is done the sure way.
-//
-// `accept`, `certify` and `service` look for an entry above a limit with `above`.
-mod above;
-mod accept;
-mod admit;
-mod build;
-mod certify;
-mod drain;
-mod graph;
-mod growth;
-mod propose;
-mod push;
-pub mod service;
-mod solve;
-mod start;
-mod tables;
+// An axis beyond the limits is malformed. A macro larger than the die has no place. Then an answer is proposed (axis_propose) and tested,
+// as a flow with the smallest values (axis_values, axis_amounts), or as a closed chain. What does not pass its test is done again by the
+// solver that is sure but slow (axis_solve).
+use axis_amounts::is_chain;
+use axis_amounts::is_flow;
+use axis_graph::NODE_ROOM;
+use axis_graph::SLOT_ROOM;
+use axis_graph::Solution;
+use axis_graph::Verdict;
+use axis_graph::WAYS;
+use axis_graph::above::first_above;
+use axis_held::accept::is_held;
+use axis_held::coordinates::coordinates;
+use axis_held::graphs::macro_graph;
+use axis_held::graphs::net_spans;
+use axis_held::graphs::whole_graph;
+use axis_propose::propose::Proposal;
+use axis_propose::propose::propose;
+use axis_solve::solve_by_growth;
+use axis_values::is_rest;
+use bounds::Axis;
+ghost use Rattle.bounds.specs.Held.{Held};
+ghost use Rattle.axis_graph.specs.Graph.{Shows};
+ghost use Rattle.axis_graph.specs.Service.{SolutionOk};
+ghost use Rattle.axis.specs.Shown.{ShownFit};
+
+// Whether the values are the smallest of the least, the amounts prove it, and `way` has parents and ranks.
+fn shows_fit(a: Axis, x: [u64; NODE_ROOM], f: [u64; SLOT_ROOM], way: [usize; WAYS]) -> bool
+    requires { ⌜ Held a ⌝ }
+    ensures { λ r. ⌜ Shows r (ShownFit a x f) ⌝ }
+{
+    let g = whole_graph(a);
+    let e = net_spans(a);
+    if !is_flow(g, e, a.t, f) {
+        return false;
+    }
+    is_rest(g, f, x, way)
+}
+
+// A proposed answer, if it passes the test, or else the sure one.
+fn judge_fit(a: Axis, c: Proposal) -> Solution
+    requires { ⌜ Held a ⌝ }
+    ensures { λ r. ⌜ SolutionOk a (r .verdict) (r .at) (r .amounts) ⌝ }
+{
+    let v = c.x;
+    let f = c.f;
+    let way = c.way;
+    if shows_fit(a, v, f, way) {
+        let at = coordinates(v, a.n);
+        return Solution {
+            verdict: Verdict::Solved,
+            at,
+            amounts: f,
+        };
+    }
+    solve_by_growth(a)
+}
+
+// A proposed chain that refutes the bounds of macros and pairs, if it passes the test, or else the sure answer.
+fn judge_none(a: Axis, c: Proposal) -> Solution
+    requires { ⌜ Held a ⌝ }
+    ensures { λ r. ⌜ SolutionOk a (r .verdict) (r .at) (r .amounts) ⌝ }
+{
+    let f = c.f;
+    let g = macro_graph(a);
+    if is_chain(g, f) {
+        return Solution {
+            verdict: Verdict::Unsolvable,
+            at: [0u64; Axis::MACROS],
+            amounts: f,
+        };
+    }
+    solve_by_growth(a)
+}
+
+// The least length of the axis's nets under its bounds, and of the coordinates with that length the smallest.
+pub fn solve(a: Axis) -> Solution
+    ensures { λ r. ⌜ SolutionOk a (r .verdict) (r .at) (r .amounts) ⌝ }
+{
+    if !is_held(a) {
+        return Solution {
+            verdict: Verdict::Malformed,
+            at: [0u64; Axis::MACROS],
+            amounts: [0u64; SLOT_ROOM],
+        };
+    }
+    let sizes = a.sizes;
+    if first_above(&sizes, a.side, a.n) < a.n {
+        return solve_by_growth(a);
+    }
+    let c = propose(a);
+    let fits = c.fits;
+    if fits {
+        return judge_fit(a, c);
+    }
+    judge_none(a, c)
+}

@@ -8,9 +8,9 @@ use Rattle.model.specs.declared.Chip.{Chip as HeldChip}
 use Rattle.bounds.specs.declared.Axis.{Axis as HeldAxis}
 use Rattle.bounds.specs.Axis.{Axis, axisOf}
 use Rattle.bounds.specs.Answer.{SolvedOn, UnsolvedOn}
-use Rattle.axis.specs.declared.service.Verdict.{Verdict}
-use Rattle.axis.specs.declared.service.Verdict.the-variants as verdict
-use Rattle.axis.specs.Service.{SolutionOk, SolvedOk, UnsolvableOk, MalformedOk}
+use Rattle.axis_graph.specs.declared.Verdict.{Verdict}
+use Rattle.axis_graph.specs.declared.Verdict.the-variants as verdict
+use Rattle.axis_graph.specs.Service.{SolutionOk, SolvedOk, UnsolvableOk, MalformedOk}
 use Rattle.slots.specs.declared.Direction.{Direction}
 use Rattle.slots.specs.declared.Direction.the-variants.{Horizontal as horizontal, Vertical as vertical}
 use Rattle.fit.specs.declared.FitAnswer.{FitAnswer}

@@ -8,8 +8,8 @@ use Rattle.model.specs.Meaning.{chipOf}
 use Rattle.chip.specs.Passed.{Passed}
 use Rattle.placement.specs.Least.{fitOf}
 use Rattle.bounds.specs.Answer.{SolvedOn, UnsolvedOn}
-use Rattle.axis.specs.declared.service.Verdict.{Verdict}
-use Rattle.axis.specs.declared.service.Verdict.the-variants as verdict
+use Rattle.axis_graph.specs.declared.Verdict.{Verdict}
+use Rattle.axis_graph.specs.declared.Verdict.the-variants as verdict
 use Rattle.slots.specs.declared.Direction.{Direction}
 use Rattle.slots.specs.Axes.{axisFor}
 use Rattle.slots.specs.Fit.{lettersOf, letterCount, slotCount, Fit, bestFit, Filled}

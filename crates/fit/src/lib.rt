@@ -3,8 +3,8 @@ mod axes;
 mod pairlist;
 
 use crate::axes::axis_of;
-use axis::service::Solution;
-use axis::service::Verdict;
+use axis_graph::Solution;
+use axis_graph::Verdict;
 use measure::MeasureAnswer;
 use model::Chip;
 use model::Mac;
@@ -218,7 +218,7 @@ fn solve_on(c: Chip, letters: &[u8], d: Direction) -> Solution
     requires { ⌜ Taken c (now letters) ⌝ }
     ensures { λ r. ⌜ Directed c (now (letters .entry)) d (r .verdict) (r .at) (r .amounts) ⌝ }
 {
-    axis::service::solve(axis_of(c, letters, d))
+    axis::solve(axis_of(c, letters, d))
 }
 
 // The horizontal direction is solved; the vertical one decides.

@@ -45,7 +45,7 @@ fn measure_chip(c: Chip, list: &[u64]) -> MeasureAnswer
     if list.len() != n + n {
         return MeasureAnswer::Refused(Refusal { no: 13, line: 0 });
     }
-    measure::measure_array(c, n, corners(list, n))
+    measurelist::measure_spots(c, n, corners(list, n))
 }
 
 pub fn measure_text(text: &[u8], list: &[u64]) -> Code

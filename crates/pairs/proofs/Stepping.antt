@@ -10,8 +10,18 @@ use lib.Dec.{ltb}
 use borrow.Author.Tests.{lt-ltb, le-ltb, ltb-true, not-true, not-false}
 use Rattle.grammar.proofs.Lacks.{and-left, and-right}
 use Rattle.pairs.specs.declared.Cursor.{Cursor}
-use Rattle.pairs.specs.Order.{OnPair, Next, isOn, cursor, stepFrom, nextOf}
+use Rattle.pairs.specs.Order.{OnPair, Next, firstPair, isOn, cursor, stepFrom, nextOf}
 use Rattle.pairs.proofs.Cursors.{fix-next, fix-next-row, mac-next, mac-next-row, mac-rows-over}
+
+-- ---- the first pair
+
+pub macs-first : (n : ℕ) → 2 ≤ n → cursor false 0 1 ≡ firstPair n
+unfolding firstPair
+macs-first n h = rw (lt-ltb 1 n h)
+
+pub fixes-first : (n : ℕ) → n < 2 → cursor true 0 0 ≡ firstPair n
+unfolding firstPair
+fixes-first n h = rw (le-ltb 1 n (let e : n ≤ 1 = omega arith in e))
 
 -- ---- the test of a pair
 

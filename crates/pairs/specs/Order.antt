@@ -56,6 +56,10 @@ isOn n k true i j = ltb i n && ltb j k
 abbrev pub cursor : Bool → ℕ → ℕ → Cursor
 cursor f i j = record { fix = f; i = i; j = j }
 
+-- the first pair: macros 1 and 2; with less than two macros, macro 1 and fix 1
+unfoldable pub firstPair : ℕ → Cursor
+firstPair n = cond (ltb 1 n) (cursor false 0 1) (cursor true 0 0)
+
 -- the next in the row; past the row, the first of the next row; past the macros' rows, the first pair with a fix
 abbrev pub stepFrom : ℕ → ℕ → Bool → ℕ → ℕ → Cursor
 stepFrom n k false i j = cond (ltb (j + 1) n) (cursor false i (j + 1)) (cond (ltb (i + 2) n) (cursor false (i + 1) (i + 2)) (cursor true 0 0))

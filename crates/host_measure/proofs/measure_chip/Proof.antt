@@ -12,12 +12,12 @@ returns c = search (needs, wrong-count)
 corners-requires : tie.Need-corners-requires
 corners-requires c κs = search needs
 
-measure-array-requires : tie.Need-measure-array-requires
-measure-array-requires c κs = search needs
+measure-spots-requires : tie.Need-measure-spots-requires
+measure-spots-requires c κs = search needs
 
 returns-2 : tie.Need-returns-2
 returns-2 c = search (needs, two-each)
 
 pub measure-chip-spec : {M : Type 1} → statement M
 measure-chip-spec =
-    tie.close (tie.spec add-if1 returns corners-requires measure-array-requires returns-2)
+    tie.close (tie.spec add-if1 returns corners-requires measure-spots-requires returns-2)

@@ -1,0 +1,10 @@
+pub mod Answers
+pub mod Zeros
+pub mod FirstAbove
+pub mod Fining
+pub mod SlotEnds
+pub mod Ways
+pub mod Optimum
+pub mod Graphs
+pub mod SolvedNets
+pub mod Refutes

@@ -1,0 +1,29 @@
+-- Amounts and ranks of 0.
+use mathlib.Core.Path.{_≡_, refl}
+use mathlib.Core.List.{List}
+use Prim.Native.Nat.{ℕ, zero, suc}
+use native.Mathlib.Omega.{arith}
+use lib.ListN.{replicate}
+use lib.Dec.{eqb}
+use Rattle.numbers.specs.Sum.{sum, when}
+use Rattle.numbers.proofs.Sums.{when-zero}
+use Rattle.flow.specs.Flow.{atNode}
+use Rattle.axis_graph.specs.Limits.{slotRoom}
+use Rattle.axis_graph.specs.Graph.{at}
+
+pub zero-at : (n k : ℕ) → at (replicate n 0) k ≡ 0
+zero-at zero k = refl
+zero-at (suc n) zero = refl
+zero-at (suc n) (suc k) = zero-at n k
+
+-- no slot carries anything
+abbrev pub none : List ℕ
+none = replicate slotRoom 0
+
+pub none-at : (k : ℕ) → at none k ≡ 0
+none-at k = zero-at slotRoom k
+
+pub zero-node : (end : ℕ → ℕ) (m k : ℕ) → atNode end (at none) m k ≡ 0
+unfolding atNode sum
+zero-node end zero k = refl
+zero-node end (suc m) k = let a = zero-node end m k in let c : when (eqb (end m) k) (at none m) ≡ 0 = rw (none-at m) (when-zero (eqb (end m) k)) in omega arith

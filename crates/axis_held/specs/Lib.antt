@@ -1,0 +1,3 @@
+pub mod Accept
+pub mod Ends
+pub mod Graphs

@@ -1,0 +1,59 @@
+use borrow.Author.Needs.{needs}
+use Rattle.axis_solve.specs.Growth.{outside}
+use Rattle.axis_solve.proofs.Reaches.{Reaching, reaching-starts, reaching-growing, reaching-small, approach-held, approach-joined, reaching-more, reaching-less, approach-never}
+use Rattle.axis_solve.proofs.admit.approach.Statement.{statement}
+use Rattle.axis_solve.proofs.admit.approach.Tie as tie
+
+-- the growth goes on; nodes outside get fewer
+abbrev Inv-loop : tie.InvT-loop
+Inv-loop g f s tail v₀ v = Reaching g f (v₀ .start) v
+
+abbrev μ-loop : tie.MeasureT-loop
+μ-loop g f s tail v₀ v = outside (v .rank) (g .n)
+
+loop-holds : tie.Need-loop-holds Inv-loop μ-loop
+loop-holds c = search reaching-starts
+
+mul-if1 : tie.Need-mul-if1 Inv-loop μ-loop
+mul-if1 c = search needs
+
+element-copy-out-if1 : tie.Need-element-copy-out-if1 Inv-loop μ-loop
+element-copy-out-if1 c = search needs
+
+keeps-requires : tie.Need-keeps-requires Inv-loop μ-loop
+keeps-requires c κs = (search needs, search reaching-small)
+
+returns : tie.Need-returns Inv-loop μ-loop
+returns c = search approach-held
+
+grow-step-requires : tie.Need-grow-step-requires Inv-loop μ-loop
+grow-step-requires c κs = (search needs, search reaching-growing)
+
+returns-2 : tie.Need-returns-2 Inv-loop μ-loop
+returns-2 c = search approach-never
+
+loop-less : tie.Need-loop-less Inv-loop μ-loop
+loop-less c = search reaching-less
+
+loop-again : tie.Need-loop-again Inv-loop μ-loop
+loop-again c = search reaching-more
+
+returns-3 : tie.Need-returns-3 Inv-loop μ-loop
+returns-3 c = search approach-joined
+
+pub approach-spec : {M : Type 1} → statement M
+approach-spec =
+    tie.close
+    (tie.spec
+    Inv-loop
+    μ-loop
+    loop-holds
+    mul-if1
+    element-copy-out-if1
+    keeps-requires
+    returns
+    grow-step-requires
+    returns-2
+    loop-less
+    loop-again
+    returns-3)
