@@ -1,10 +1,13 @@
 -- What the arrays made from a chip hold.
-use Prim.Native.Nat.{ℕ}
+use Prim.Native.Nat.{ℕ, _≤_}
 use mathlib.Core.Path.{_≡_}
+use mathlib.Core.Bool.{Bool, true, false}
 use mathlib.Core.List.{List}
 use lib.ListN.{replicate}
 use Rattle.model.specs.declared.Chip.{Chip as HeldChip}
+use Rattle.model.specs.declared.Net.{Net}
 use Rattle.model.specs.Meaning.{chipOf}
+use Rattle.chip.specs.Valid.{pinsBefore}
 use Rattle.chip.specs.Passed.{Passed}
 use Rattle.placement.specs.Letters.{dot}
 use Rattle.slots.specs.declared.Direction.{Direction}
@@ -16,12 +19,11 @@ pub record Hold (c : HeldChip) (d : Direction) (tab arcs : List ℕ) : Type 0 wh
   pub tabled : Tabled d (chipOf c) tab
   pub arced : Arced d (chipOf c) (replicate (letterCount (chipOf c)) dot) arcs
 
--- nothing but 0
-pub record Blank (tab arcs : List ℕ) : Type 0 where
-  pub nets : tab ≡ replicate 1024 0
-  pub bounds : arcs ≡ replicate 128 0
+-- whether t nets stand within an array of 32, and their pins within one of 128
+pub record NetsFit (b : Bool) (nets : List Net) (t : ℕ) : Type 0 where
+  pub yes : b ≡ true → (t ≤ 32) × (pinsBefore t nets ≤ 128)
+  pub no : b ≡ false → t ≤ 32 → pinsBefore t nets ≤ 128 → ⊥
 
--- an accepted chip has its arrays, a refused one none
+-- a chip whose test is passed has its arrays
 pub record ArraysFor (c : HeldChip) (d : Direction) (tab arcs : List ℕ) : Type 0 where
   pub passed : Passed c → Hold c d tab arcs
-  pub refused : (Passed c → ⊥) → Blank tab arcs

@@ -9,12 +9,13 @@ use crate::limits::bound_of;
 use crate::limits::greater;
 use bounds::Slot;
 use model::Chip;
-use model::Tested;
+use model::Net;
 use slots::Direction;
 ghost use mathlib.Core.Path.{_≡_};
-ghost use Rattle.chip.specs.Passed.{Passed};
+ghost use Prim.Native.Nat.{_≤_};
+ghost use Rattle.chip.specs.Valid.{pinsBefore};
 ghost use Rattle.half_tables.specs.Tables.{withBound};
-ghost use Rattle.half_tables.specs.Made.{Hold, Blank, ArraysFor};
+ghost use Rattle.half_tables.specs.Made.{NetsFit, ArraysFor};
 
 // The nets of a direction as entries, and the bounds between its nodes, held higher by 2^24.
 pub struct Arrays {
@@ -33,10 +34,30 @@ pub fn with_bound(arcs: [u32; 128], s: Slot) -> [u32; 128]
     with
 }
 
-// The arrays of a chip whose test is passed.
+// Whether t nets stand within the arrays, and so do their pins.
+fn nets_fit(nets: [Net; 32], t: usize) -> bool
+    ensures { λ r. ⌜ NetsFit r nets t ⌝ }
+{
+    if 32 < t {
+        return false;
+    }
+    let mut q: usize = 0;
+    let mut j: usize = 0;
+    while j < t {
+        let net = nets[j];
+        if 128 - q < net.pins {
+            return false;
+        }
+        q += net.pins;
+        j += 1;
+    }
+    true
+}
+
+// The arrays of a chip whose macros, nets and pins stand within its own arrays.
 fn held_arrays(c: Chip, d: Direction) -> Arrays
-    requires { ⌜ Passed c ⌝ }
-    ensures { λ r. ⌜ Hold c d (r .tab) (r .arcs) ⌝ }
+    requires { ⌜ (c .n ≤ 8) × (c .t ≤ 32) × (pinsBefore (c .t) (c .nets) ≤ 128) ⌝ }
+    ensures { λ r. ⌜ ArraysFor c d (r .tab) (r .arcs) ⌝ }
 {
     let die = c.die;
     let macs = c.macs;
@@ -48,22 +69,23 @@ fn held_arrays(c: Chip, d: Direction) -> Arrays
     }
 }
 
-fn blank_arrays() -> Arrays
-    ensures { λ r. ⌜ Blank (r .tab) (r .arcs) ⌝ }
-{
+fn blank_arrays() -> Arrays {
     Arrays {
         tab: [0u32; 1024],
         arcs: [0u32; 128],
     }
 }
 
-// The arrays of a direction of a chip without letters; of a refused chip, arrays of 0.
+// The arrays of a direction of a chip without letters; of a chip that leaves its own arrays, arrays of 0.
 pub fn arrays_of(c: Chip, d: Direction) -> Arrays
     ensures { λ r. ⌜ ArraysFor c d (r .tab) (r .arcs) ⌝ }
 {
-    let tested = chipwriter::test_chip(c);
-    match tested {
-        Tested::Refused(f) => blank_arrays(),
-        Tested::Passed => held_arrays(c, d),
+    if 8 < c.n {
+        return blank_arrays();
     }
+    let nets = c.nets;
+    if !nets_fit(nets, c.t) {
+        return blank_arrays();
+    }
+    held_arrays(c, d)
 }

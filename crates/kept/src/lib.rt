@@ -123,17 +123,17 @@ fn add(e: [u32; 128], a: Slot) -> [u32; 128]
 }
 
 // Whether nothing can keep the table and the slot's bound, as the bound the other way shows.
-pub fn excludes(e: [u32; 128], s: Slot) -> bool
-    ensures { λ r. ⌜ r ≡ excluded e (limited s) ⌝ }
+pub fn excludes(e: &[u32; 128], s: Slot) -> bool
+    ensures { λ r. ⌜ r ≡ excluded (now (e .entry)) (limited s) ⌝ }
 {
-    against(&e, limit(s))
+    against(e, limit(s))
 }
 
 // Whether the table is known to contradict itself.
-pub fn is_shut(e: [u32; 128]) -> bool
-    ensures { λ r. ⌜ r ≡ contradicts e ⌝ }
+pub fn is_shut(e: &[u32; 128]) -> bool
+    ensures { λ r. ⌜ r ≡ contradicts (now (e .entry)) ⌝ }
 {
-    RAISED < bound(&e, 0)
+    RAISED < bound(e, 0)
 }
 
 // One difference more.

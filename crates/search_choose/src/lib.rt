@@ -41,8 +41,8 @@ fn choose_pair(
     k: usize,
     p: usize,
     weights: [u64; 8],
-    kx: [u32; 128],
-    ky: [u32; 128],
+    kx: &[u32; 128],
+    ky: &[u32; 128],
     found: bool,
     spots: [Spot; 8],
 ) -> Choice
@@ -81,8 +81,8 @@ pub fn choose(
     k: usize,
     p: usize,
     weights: [u64; 8],
-    kx: [u32; 128],
-    ky: [u32; 128],
+    kx: &[u32; 128],
+    ky: &[u32; 128],
     found: bool,
     spots: [Spot; 8],
 ) -> Choice

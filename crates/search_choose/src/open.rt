@@ -17,8 +17,8 @@ pub(crate) struct Open {
 pub(crate) fn open_letters(
     macs: [Mac; 8],
     fixes: [Fix; 8],
-    kx: [u32; 128],
-    ky: [u32; 128],
+    kx: &[u32; 128],
+    ky: &[u32; 128],
     at: Cursor,
 ) -> Open {
     Open {

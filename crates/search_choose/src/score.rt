@@ -109,8 +109,8 @@ pub(crate) fn pair_score(
     fixes: [Fix; 8],
     spots: [Spot; 8],
     weights: [u64; 8],
-    kx: [u32; 128],
-    ky: [u32; 128],
+    kx: &[u32; 128],
+    ky: &[u32; 128],
     found: bool,
     at: Cursor,
 ) -> u64

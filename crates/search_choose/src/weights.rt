@@ -1,23 +1,23 @@
 // The weight of each macro's nets. It guides the choice of the pair and nothing else, so nothing is promised of it.
 use crate::score::lesser;
 use model::Chip;
-use model::Net;
 use model::Pin;
 ghost use Prim.Native.Nat.{_≤_};
 
-// Whether a pin of macro m stands at the places from q to before end.
-fn on_net(pins: [Pin; 128], q: usize, end: usize, m: usize) -> bool
+// For each macro whether a pin of it stands at the places from q to before end: 1, else 0.
+fn on_net(pins: [Pin; 128], q: usize, end: usize) -> [u64; 8]
     requires { ⌜ end ≤ 128 ⌝ }
 {
+    let mut on = [0u64; 8];
     let mut e = q;
     while e < end {
         let p = pins[e];
-        if p.m == m {
-            return true;
-        }
         e += 1;
+        if 1 <= p.m {
+            on[(p.m - 1) % 8] = 1;
+        }
     }
-    false
+    on
 }
 
 // The place after a net's pins, which begin at q.
@@ -33,36 +33,37 @@ fn net_end(q: usize, count: usize) -> usize
     q + count
 }
 
-// The summed weight of the nets of macro m, counted from 1.
-fn net_weights(nets: [Net; 32], t: usize, pins: [Pin; 128], m: usize) -> u64 {
-    let mut total: u64 = 0;
+// The weights with that of a net for the macros on it.
+fn with_net(weights: [u64; 8], on: [u64; 8], weight: u64) -> [u64; 8] {
+    let mut r = weights;
+    let mut i: usize = 0;
+    while i < 8 {
+        if on[i] == 1 {
+            r[i] = lesser(weights[i], 1000000) + lesser(weight, 1000);
+        }
+        i += 1;
+    }
+    r
+}
+
+// The summed weight of each macro's nets.
+pub fn all_weights(c: Chip) -> [u64; 8] {
+    let nets = c.nets;
+    let pins = c.pins;
+    let t = c.t;
+    let mut weights = [0u64; 8];
     let mut q: usize = 0;
     let mut j: usize = 0;
     while j < 32 {
         if t <= j {
-            return total;
+            return weights;
         }
         let net = nets[j];
         let end = net_end(q, net.pins);
-        let on = on_net(pins, q, end, m);
+        let next = with_net(weights, on_net(pins, q, end), net.weight);
+        weights = next;
         q = end;
         j += 1;
-        if on {
-            total += lesser(net.weight, 1000);
-        }
-    }
-    total
-}
-
-pub fn all_weights(c: Chip) -> [u64; 8] {
-    let nets = c.nets;
-    let t = c.t;
-    let pins = c.pins;
-    let mut weights = [0u64; 8];
-    let mut i: usize = 0;
-    while i < 8 {
-        weights[i] = net_weights(nets, t, pins, i + 1);
-        i += 1;
     }
     weights
 }

@@ -47,8 +47,8 @@ fn chosen(parts: Parts, p: usize, node: Node, best: Record) -> Choice
         parts.k,
         p,
         weights,
-        kx,
-        ky,
+        &kx,
+        &ky,
         is_found(best),
         spots,
     )

@@ -85,11 +85,11 @@ fn is_over(left: Left) -> bool
     ensures { λ r. ⌜ Over r (left .kx) (left .ky) ⌝ }
 {
     let kx = left.kx;
-    if kept::is_shut(kx) {
+    if kept::is_shut(&kx) {
         return true;
     }
     let ky = left.ky;
-    kept::is_shut(ky)
+    kept::is_shut(&ky)
 }
 
 // The child to visit next, or 4 where nothing is left.
@@ -111,10 +111,10 @@ pub fn is_excluded(left: Left, i: usize, s: Slot) -> bool
     }
     if i < 2 {
         let kx = left.kx;
-        return kept::excludes(kx, s);
+        return kept::excludes(&kx, s);
     }
     let ky = left.ky;
-    kept::excludes(ky, s)
+    kept::excludes(&ky, s)
 }
 
 // The opposite of letter i is kept.

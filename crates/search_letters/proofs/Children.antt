@@ -117,21 +117,25 @@ module _ (c : HeldChip) (p : ℕ) (node : Node) (s i : ℕ) where
 
 -- ---- in the form of the needs
 
-module _ (c : HeldChip) (p : ℕ) (node : Node) (s i : ℕ) (t : Slot) (best r : HeldRecord) where
-  pub child-on : (d : Direction) (tab before arcs : List ℕ) (other room : ℕ) (f : HalfFit) → arcs ≡ withBound before t → room ≡ roomOf (best .outcome) other → Answers tab arcs room (f .outcome) (f .at)
-      → (ls : List ℕ) → ls ≡ set (node .letters) s (byteOf i) → JoinedFrom c ls p (node .here) best d f other r → ChildOn c p d tab node before other s i t best r
-  child-on d tab before arcs other room f ea em h ls el j = record {
-    held = λ ok n o a w tabled arced beside.
-        (rw el at j) .held ok (child-lettered c p node s i t ok n o a new refl) beside
-        (subst (λ (k : ℕ). HalfSaid (chipOf c) (lettersIn new p) d k (f .outcome) (f .at)) em (said c p node s i t ok n o a new refl d w tab before arcs tabled arced ea room f h));
+module _ (c : HeldChip) (p s i : ℕ) (t : Slot) (best r : HeldRecord) where
+  pub child-on : (letters : List ℕ) (here : HeldRecord) (d : Direction) (tab before arcs : List ℕ) (other room : ℕ) (f : HalfFit) → arcs ≡ withBound before t → room ≡ roomOf (best .outcome) other → Answers tab arcs room (f .outcome) (f .at)
+      → (ls : List ℕ) → ls ≡ set letters s (byteOf i) → JoinedFrom c ls p here best d f other r → ChildOn c p d tab letters before here other s i t best r
+  child-on letters here d tab before arcs other room f ea em h ls el j = record {
+    held = λ node eq same ok n o a w tabled arced beside.
+        (rw el at j) .held ok (child-lettered c p node s i t ok n o a new (now eq)) beside
+        (subst (λ (k : ℕ). HalfSaid (chipOf c) (lettersIn new p) d k (f .outcome) (f .at)) em
+        (said c p node s i t ok n o a new (now eq) d w tab before arcs tabled (subst (λ (x : List ℕ). Arced d (chipOf c) (lettersIn x p) before) eq arced) ea room f h));
   }
     where
       new : List ℕ
-      new = set (node .letters) s (byteOf i)
+      new = set letters s (byteOf i)
 
-  module _ (tx ty : List ℕ) where
-    pub child-across : i < 2 → ChildOn c p horizontal tx node (node .ax) (node .ly) s i t best r → ChildOf c p tx ty node s i t best r
-    child-across h k = record { held = λ ok v n o a. k .held ok n o a (sym (way-across i h)) (v .x) (n .across) (beside-x c p node s i t ok n o a _ refl (sym (way-across i h))) }
+      now : {x : List ℕ} → letters ≡ x → new ≡ set x s (byteOf i)
+      now q = ap (λ (x : List ℕ). set x s (byteOf i)) q
 
-    pub child-up : 2 ≤ i → ChildOn c p vertical ty node (node .ay) (node .lx) s i t best r → ChildOf c p tx ty node s i t best r
-    child-up h k = record { held = λ ok v n o a. k .held ok n o a (sym (way-up i h)) (v .y) (n .up) (beside-y c p node s i t ok n o a _ refl (sym (way-up i h))) }
+  module _ (node : Node) (tx ty : List ℕ) where
+    pub child-across : i < 2 → ChildOn c p horizontal tx (node .letters) (node .ax) (node .here) (node .ly) s i t best r → ChildOf c p tx ty node s i t best r
+    child-across h k = record { held = λ ok v n o a. k .held node refl refl ok n o a (sym (way-across i h)) (v .x) (n .across) (beside-x c p node s i t ok n o a _ refl (sym (way-across i h))) }
+
+    pub child-up : 2 ≤ i → ChildOn c p vertical ty (node .letters) (node .ay) (node .here) (node .lx) s i t best r → ChildOf c p tx ty node s i t best r
+    child-up h k = record { held = λ ok v n o a. k .held node refl refl ok n o a (sym (way-up i h)) (v .y) (n .up) (beside-y c p node s i t ok n o a _ refl (sym (way-up i h))) }

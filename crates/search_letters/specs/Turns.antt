@@ -50,9 +50,9 @@ pub record LeftOk (c : HeldChip) (p : ℕ) (node : Node) (s i : ℕ) (t : Left) 
 -- ---- what is answered
 
 -- r is the fit of a branch with letter i for pair s, of direction d, or no placement where nothing there replaces the best; the branch's bounds in direction d are `before`, the length of its other half is `other`
-pub record ChildOn (c : HeldChip) (p : ℕ) (d : Direction) (tab : List ℕ) (node : Node) (before : List ℕ) (other s i : ℕ) (t : Slot) (best r : HeldRecord) : Type 0 where
-  pub held : Passed c → NodeOk c p node → Open c p node s → Asks c s i t → wayAt i ≡ d → Tabled d (chipOf c) tab → Arced d (chipOf c) (lettersIn (node .letters) p) before
-      → Beside c (set (node .letters) s (byteOf i)) p (node .here) d other → ChildHeld c (set (node .letters) s (byteOf i)) p best r
+pub record ChildOn (c : HeldChip) (p : ℕ) (d : Direction) (tab letters before : List ℕ) (here : HeldRecord) (other s i : ℕ) (t : Slot) (best r : HeldRecord) : Type 0 where
+  pub held : (node : Node) → letters ≡ node .letters → here ≡ node .here → Passed c → NodeOk c p node → Open c p node s → Asks c s i t → wayAt i ≡ d → Tabled d (chipOf c) tab → Arced d (chipOf c) (lettersIn letters p) before
+      → Beside c (set letters s (byteOf i)) p here d other → ChildHeld c (set letters s (byteOf i)) p best r
 
 -- the same, whatever the letter's direction
 pub record ChildOf (c : HeldChip) (p : ℕ) (tx ty : List ℕ) (node : Node) (s i : ℕ) (t : Slot) (best r : HeldRecord) : Type 0 where

@@ -9,6 +9,7 @@ use search_left::Left;
 use search_left::is_excluded;
 use search_left::keep_opposite;
 use search_left::put_child;
+use search_node::LETTERS;
 use search_node::Node;
 use search_node::Parts;
 use search_node::decided;
@@ -26,8 +27,9 @@ fn child_on(
     d: Direction,
     tab: &[u32; 1024],
     help: &[u32; 4352],
-    node: Node,
+    letters: [u8; LETTERS],
     before: [u32; 128],
+    here: Record,
     other: u64,
     state: &[u32; 2560],
     k: usize,
@@ -37,10 +39,8 @@ fn child_on(
     best: Record,
     pool: &mut [u32; 2560],
 ) -> Record
-    ensures { λ r. ⌜ ChildOn (chipIn (now (cs .entry))) p d (now (tab .entry)) node before other s i t best r ⌝ }
+    ensures { λ r. ⌜ ChildOn (chipIn (now (cs .entry))) p d (now (tab .entry)) letters before here other s i t best r ⌝ }
 {
-    let letters = node.letters;
-    let here = node.here;
     let arcs = with_bound(before, t);
     let f = half_fit::service::half_fit(
         tab,
@@ -78,6 +78,8 @@ fn child(
 ) -> Record
     ensures { λ r. ⌜ ChildOf (chipIn (now (cs .entry))) p (now (tx .entry)) (now (ty .entry)) node s i t best r ⌝ }
 {
+    let letters = node.letters;
+    let here = node.here;
     if i < 2 {
         let ax = node.ax;
         return child_on(
@@ -86,8 +88,9 @@ fn child(
             Direction::Horizontal,
             tx,
             hx,
-            node,
+            letters,
             ax,
+            here,
             node.ly,
             sx,
             ix,
@@ -105,8 +108,9 @@ fn child(
         Direction::Vertical,
         ty,
         hy,
-        node,
+        letters,
         ay,
+        here,
         node.lx,
         sy,
         iy,

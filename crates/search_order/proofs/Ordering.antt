@@ -1,7 +1,7 @@
 -- The differences of equal macros, which the chip's earliest least placement keeps.
 use Prim.Native.Nat.{ℕ, suc, _+_, _%_, _≤_, _<_}
 use mathlib.Core.Path.{_≡_, ap}
-use mathlib.Core.Bool.{Bool, false, not}
+use mathlib.Core.Bool.{Bool, false, not, true, false≢true}
 use mathlib.Core.List.{List}
 use native.Mathlib.Omega.{arith}
 use lib.ListN.{getD}
@@ -23,8 +23,8 @@ order-same c e = record { to = λ ps o k. k }
 pub order-more : (c : Chip) (e₀ e r : List ℕ) → OrderKept c e₀ e → OrderKept c e r → OrderKept c e₀ r
 order-more c e₀ e r f g = record { to = λ ps o k. g .to ps o (f .to ps o k) }
 
-pub order-equal : (c : Chip) (e : List ℕ) (i j : ℕ) → i < 8 → j < 8 → i < j → (b : Bool) → Yes b (Alike c i j) → not b ≡ false → (r : List ℕ) → Adds e (limited (slot (i + 1) (j + 1) 0 0)) r → OrderKept c e r
-order-equal c e i j li lj h b y q r a = record { to = λ ps o k. a .to (valueOn horizontal ps) k (holds ps (o .le i j h (y .then (not-false b q)))) }
+pub order-equal : (c : Chip) (e : List ℕ) (i j : ℕ) → j < 8 → i < j → (b : Bool) → Yes b (Alike c i j) → not b ≡ false → (r : List ℕ) → Adds e (limited (slot (i + 1) (j + 1) 0 0)) r → OrderKept c e r
+order-equal c e i j lj h b y q r a = record { to = λ ps o k. a .to (valueOn horizontal ps) k (holds ps (o .le i j h (y .then (not-false b q)))) }
   where
     holds : (ps : List Spot) → getD ps i blankSpot .x ≤ getD ps j blankSpot .x → Holds (valueOn horizontal ps) (limited (slot (i + 1) (j + 1) 0 0))
     holds ps le =
@@ -34,3 +34,9 @@ order-equal c e i j li lj h b y q r a = record { to = λ ps o k. a .to (valueOn 
         let s : valueOn horizontal ps ((j + 1) % 9) ≡ valueOn horizontal ps (suc j) = ap (λ (k : ℕ). valueOn horizontal ps k) ej in
         let u = value-corner horizontal ps (suc i) in let v = value-corner horizontal ps (suc j) in
         omega arith
+
+pub not-before : (i j : ℕ) → false ≡ true → i < j
+not-before i j q = absurd (false≢true q)
+
+pub is-before : (b : Bool) (i j : ℕ) → (b ≡ true → i < j) → b ≡ true → i < j
+is-before b i j h q = h q

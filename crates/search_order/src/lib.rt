@@ -1,18 +1,17 @@
 // Equal macros: the earlier one does not lie further right, kept as differences.
 use bounds::Slot;
 use model::Chip;
+ghost use mathlib.Core.Path.{_≡_};
+ghost use mathlib.Core.Bool.{true};
 ghost use Prim.Native.Nat.{_<_};
 ghost use Rattle.model.specs.Meaning.{chipOf};
 ghost use Rattle.search_order.specs.Order.{OrderKept};
 
-// The differences with that of macros i and j, counted from 0, if they are equal and i is the earlier: it does not lie further right.
+// The differences with that of macros i and j, counted from 0, if they are equal: the earlier one, i, does not lie further right.
 fn with_order(c: Chip, e: [u32; 128], i: usize, j: usize) -> [u32; 128]
-    requires { ⌜ (i < 8) × (j < 8) ⌝ }
+    requires { ⌜ (i < j) × (j < 8) ⌝ }
     ensures { λ r. ⌜ OrderKept (chipOf c) e r ⌝ }
 {
-    if j <= i {
-        return e;
-    }
     if !equal::alike(c, i, j) {
         return e;
     }
@@ -27,16 +26,31 @@ fn with_order(c: Chip, e: [u32; 128], i: usize, j: usize) -> [u32; 128]
     )
 }
 
+// Whether a chip with n macros has macros i and j, counted from 0, and i is the earlier.
+fn is_pair(n: usize, i: usize, j: usize) -> bool
+    ensures { λ r. ⌜ (r ≡ true → i < j) ⌝ }
+{
+    if i < j {
+        return j < n;
+    }
+    false
+}
+
 // The differences with those of all equal macros.
 pub fn ordered(c: Chip, e: [u32; 128]) -> [u32; 128]
     ensures { λ r. ⌜ OrderKept (chipOf c) e r ⌝ }
 {
+    let n = c.n;
     let mut r = e;
     let mut k: usize = 0;
     while k < 64 {
-        let next = with_order(c, r, k / 8, k % 8);
-        r = next;
+        let i = k / 8;
+        let j = k % 8;
         k += 1;
+        if is_pair(n, i, j) {
+            let next = with_order(c, r, i, j);
+            r = next;
+        }
     }
     r
 }

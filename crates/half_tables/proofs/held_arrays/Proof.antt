@@ -22,7 +22,7 @@ returns : tie.Need-returns
 returns c =
     let n = c .before in
     let b = n .before .before .before .before .before in
-    holds _ _ _ _ (b .pre) (shape b) (n .net-table .ensures) (c .dot-arcs .ensures)
+    holds _ _ _ _ (shape b) (n .net-table .ensures) (c .dot-arcs .ensures)
 
 pub held-arrays-spec : {M : Type 1} → statement M
 held-arrays-spec = tie.close (tie.spec net-table-requires dot-arcs-requires returns)

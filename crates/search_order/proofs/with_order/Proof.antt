@@ -3,14 +3,11 @@ use borrow.Author.Needs.{needs}
 use Rattle.search_order.proofs.with_order.Statement.{statement}
 use Rattle.search_order.proofs.with_order.Tie as tie
 
-returns : tie.Need-returns
-returns c = search needs
-
 alike-requires : tie.Need-alike-requires
 alike-requires c κs = search needs
 
-returns-2 : tie.Need-returns-2
-returns-2 c = search needs
+returns : tie.Need-returns
+returns c = search needs
 
 add-t7 : tie.Need-add-t7
 add-t7 c = search needs
@@ -21,9 +18,8 @@ add-t8 c = search needs
 keep-requires : tie.Need-keep-requires
 keep-requires c κs = search needs
 
-returns-3 : tie.Need-returns-3
-returns-3 c = search order-equal
+returns-2 : tie.Need-returns-2
+returns-2 c = search order-equal
 
 pub with-order-spec : {M : Type 1} → statement M
-with-order-spec =
-    tie.close (tie.spec returns alike-requires returns-2 add-t7 add-t8 keep-requires returns-3)
+with-order-spec = tie.close (tie.spec alike-requires returns add-t7 add-t8 keep-requires returns-2)
