@@ -1,6 +1,6 @@
 -- Bounds tested, slots that leave a set, and the one of least slack.
 use mathlib.Core.Path.{_≡_, refl}
-use mathlib.Core.Bool.{Bool, true, false, true≢false, false≢true}
+use mathlib.Core.Bool.{Bool, true, false}
 use mathlib.Core.List.{List}
 use mathlib.Core.Logic.{inl, inr, ⊎-elim}
 use Prim.Native.Nat.{ℕ, _+_, _-_, _≤_, _<_}
@@ -11,7 +11,8 @@ use borrow.Author.Count.{below-more}
 use Rattle.bounds.specs.declared.Slot.{Slot}
 use Rattle.axis_graph.specs.Limits.{noSlack}
 use Rattle.bounds.specs.Listed.{slotAt, tails, heads, pluses, minuses}
-use Rattle.axis_graph.specs.Graph.{at, Decides, FineSlot, Small, HoldsAt, slackAt, Holds, Leaves, Leaving, LeavesBy}
+use Rattle.axis_graph.specs.Graph.{at, Decides, FineSlot, Small, HoldsAt, slackAt, Holds, Leaving, LeavesBy}
+use Rattle.axis_graph.proofs.Answers.{says-yes, says-no}
 use Rattle.axis_solve.specs.Growth.{Least}
 
 -- ---- whether a bound holds
@@ -24,20 +25,14 @@ module _ (s : Slot) (x : List ℕ) where
   keeps-fits-have f b = let p = b .most (s .head) in let q = f .minus in omega arith
 
   pub keeps-yes : at x (s .tail) + s .plus ≤ at x (s .head) + s .minus → Decides true (HoldsAt s x)
-  keeps-yes h = record { holds = λ e. record { le = h }; fails = λ e p. true≢false e }
+  keeps-yes h = says-yes (record { le = h })
 
   pub keeps-no : at x (s .head) + s .minus < at x (s .tail) + s .plus → Decides false (HoldsAt s x)
-  keeps-no h = record { holds = λ e. absurd (false≢true e); fails = λ e p. let q = p .le in omega arith }
+  keeps-no h = says-no (λ p. let q = p .le in omega arith)
 
 -- ---- whether a slot leaves
 
 module _ (t h a : ℕ) where
-  says-yes : Leaving t h a → Decides true (Leaving t h a)
-  says-yes y = record { holds = λ e. y; fails = λ e p. true≢false e }
-
-  says-no : (Leaves t h a → ⊥) → Decides false (Leaving t h a)
-  says-no n = record { holds = λ e. absurd (false≢true e); fails = λ e p. n (p .way) }
-
   pub yes-forward : 0 < t → h ≡ 0 → Decides true (Leaving t h a)
   yes-forward p q = says-yes (record { way = inl (p, q) })
 
@@ -45,13 +40,13 @@ module _ (t h a : ℕ) where
   yes-back p q r = says-yes (record { way = inr (omega arith, q, r) })
 
   pub no-inside : 0 < t → (h ≡ 0 → ⊥) → Decides false (Leaving t h a)
-  no-inside p n = says-no (⊎-elim (λ w. n (w .1)) (λ w. let q = w .0 in omega arith))
+  no-inside p n = says-no (λ l. ⊎-elim (λ w. n (w .1)) (λ w. let q = w .0 in omega arith) (l .way))
 
   pub no-idle : t ≤ 0 → a ≤ 0 → Decides false (Leaving t h a)
-  no-idle p n = says-no (⊎-elim (λ w. let q = w .0 in omega arith) (λ w. let q = w .2 in omega arith))
+  no-idle p n = says-no (λ l. ⊎-elim (λ w. let q = w .0 in omega arith) (λ w. let q = w .2 in omega arith) (l .way))
 
   pub no-outside : t ≤ 0 → h ≤ 0 → Decides false (Leaving t h a)
-  no-outside p n = says-no (⊎-elim (λ w. let q = w .0 in omega arith) (λ w. let q = w .1 in omega arith))
+  no-outside p n = says-no (λ l. ⊎-elim (λ w. let q = w .0 in omega arith) (λ w. let q = w .1 in omega arith) (l .way))
 
 -- ---- slack
 

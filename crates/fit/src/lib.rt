@@ -201,15 +201,22 @@ fn none_across(c: Chip, letters: &[u8], across: [u64; 456], m: usize, flow: &mut
     bare(FitOutcome::NoFit)
 }
 
-// No coordinates vertically.
-fn none_up(c: Chip, letters: &[u8], up: [u64; 456], m: usize, flow: &mut [u16]) -> FitAnswer
+// No coordinates vertically: the chain, and amounts of 0 for the horizontal direction.
+fn none_up(
+    c: Chip,
+    letters: &[u8],
+    across: [u64; 456],
+    up: [u64; 456],
+    m: usize,
+    flow: &mut [u16],
+) -> FitAnswer
     requires { ⌜ Asking c (now letters) m ⌝ }
     requires { ⌜ m + m ≤ length (now flow) ⌝ }
+    requires { ⌜ Idle across ⌝ }
     requires { ⌜ UnsolvedBy c (now letters) Direction.Vertical up ⌝ }
     ensures { λ r. ⌜ Answered c (now (letters .entry)) (fitting c (now (letters .entry))) r (now (flow .entry)) (now (flow .exit)) ⌝ }
 {
-    let none = no_amounts();
-    put_both(flow, none, up, m);
+    put_both(flow, across, up, m);
     bare(FitOutcome::NoFit)
 }
 
@@ -241,7 +248,10 @@ fn fit_up(
     let found = b.verdict;
     match found {
         Verdict::Solved => placed(c, letters, xs, ys, across, up, m, flow),
-        Verdict::Unsolvable => none_up(c, letters, up, m, flow),
+        Verdict::Unsolvable => {
+            let none = no_amounts();
+            none_up(c, letters, none, up, m, flow)
+        }
         Verdict::Malformed => bare(FitOutcome::NoFit),
     }
 }

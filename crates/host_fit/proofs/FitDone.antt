@@ -107,8 +107,8 @@ module _ (c : HeldChip) (ok : Passed c) (s : List ℕ) where
     places-stay true false l = refl
     places-stay false b l = refl
 
-    pub short-done : (one : ℕ) → one ≡ 1 → (a : FitAnswer) → a ≡ answerFor (fitLetters C s one) → (r : Code) → r ≡ code (ofOutcome (a .outcome)) → Refusing c s room r
-    short-done one m a q r e = record { done = by }
+    short-by : (one : ℕ) → one ≡ 1 → (a : FitAnswer) → a ≡ answerFor (fitLetters C s one) → (r : Code) → r ≡ code (ofOutcome (a .outcome)) → (slots places : List ℕ) → length places ≡ room → FitDone (accepted C) s r slots slots places places
+    short-by one m a q r e = by
       where
         told : a .outcome ≡ outcomeOf (fitLetters C s 1)
         told = ap (λ (t : FitAnswer). t .outcome) q ∙ ap (λ (k : ℕ). outcomeOf (fitLetters C s k)) m
@@ -121,6 +121,9 @@ module _ (c : HeldChip) (ok : Passed c) (s : List ℕ) where
               filled = subst (λ (f : Fit). Filled C s f slots slots) (sym same) (slots-stay (eqb (length s) (letterCount C)) (areLetters s) slots);
               corners = places-stay (eqb (length s) (letterCount C)) (areLetters s) places ∙ ap (λ (f : Fit). placesAfter f places) (sym same);
             }
+
+  pub short-done : (room one : ℕ) → one ≡ 1 → (a : FitAnswer) → a ≡ answerFor (fitLetters C s one) → (r : Code) → r ≡ code (ofOutcome (a .outcome)) → Refusing c s room r
+  short-done room one m a q r e = record { done = λ h. short-by room h one m a q r e }
 
   -- ---- there is room for the positions
 
@@ -164,8 +167,8 @@ module _ (c : HeldChip) (ok : Passed c) (s : List ℕ) where
     pub long-refused : (f : Refusal) → a .outcome ≡ outcome.Refused f → r ≡ code (refusedCode (f .no) (f .line)) → FitDone (accepted C) s r slots slotsAfter places places
     long-refused f k e = done-by places (coded (outcome.Refused f) k e) (ap (λ (g : Fit). placesAfter g places) (sym (is-refused (a .outcome) F outcome-is f k)))
 
-pub refused-done : (c : HeldChip) (s : List ℕ) (room : ℕ) (r : Code) → Refusing c s room r → (slots places : List ℕ) → room ≡ length places → FitDone (accepted (chipOf c)) s r slots slots places places
-refused-done c s room r d slots places e = d .done slots places (sym e)
+pub refused-done : (c : HeldChip) (s : List ℕ) (room : ℕ) (r : Code) → Refusing c s room r → room < c .n + c .n → (slots places : List ℕ) → room ≡ length places → FitDone (accepted (chipOf c)) s r slots slots places places
+refused-done c s room r d l slots places e = d .done l slots places (sym e)
 
 -- ---- the chip of a text
 

@@ -1,5 +1,5 @@
 -- What a fit answers and leaves in the two lent lists, over the bytes and numbers that a host hands over.
-use Prim.Native.Nat.{ℕ, _*_}
+use Prim.Native.Nat.{ℕ, _+_, _*_, _<_}
 use mathlib.Core.Path.{_≡_}
 use mathlib.Core.List.{List, _++_}
 use lib.Dec.{eqb, leb}
@@ -49,4 +49,4 @@ pub record FitDone (read : Reading Chip) (s : List ℕ) (r : Code) (slots slotsA
 
 -- the answer where the list of positions is too short: a refusal, whatever list of slots is lent
 pub record Refusing (c : HeldChip) (s : List ℕ) (room : ℕ) (r : Code) : Type 0 where
-  pub done : (slots places : List ℕ) → length places ≡ room → FitDone (accepted (chipOf c)) s r slots slots places places
+  pub done : room < c .n + c .n → (slots places : List ℕ) → length places ≡ room → FitDone (accepted (chipOf c)) s r slots slots places places

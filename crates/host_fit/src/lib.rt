@@ -8,7 +8,7 @@ use model::Chip;
 use model::Mac;
 use model::Spot;
 ghost use mathlib.Core.Path.{_≡_};
-ghost use Prim.Native.Nat.{_+_, _≤_, _<_};
+ghost use Prim.Native.Nat.{_+_, _≤_};
 ghost use lib.ListN.{length, take};
 ghost use Rattle.model.specs.Meaning.{chipOf};
 ghost use Rattle.grammar.specs.Reading.{accepted};
@@ -35,7 +35,6 @@ fn put_corners(list: &mut [u64], spots: [Spot; Mac::COUNT], n: usize)
 // The refusal where the list of positions is too short: with one slot lent, no fit of a macro is made, so 11, 12 or 15 is answered.
 fn short_code(c: Chip, letters: &[u8], room: usize) -> Code
     requires { ⌜ Passed c ⌝ }
-    requires { ⌜ room < c .n + c .n ⌝ }
     ensures { λ r. ⌜ Refusing c (now (letters .entry)) room r ⌝ }
 {
     let mut one = [0u16; 1];

@@ -26,7 +26,8 @@ use Rattle.placement.specs.Legal.{boxes, legal}
 use Rattle.placement.specs.Length.{Near, wirelength}
 use Rattle.placement.proofs.LengthBound.{wirelength-bound}
 use Rattle.measure.specs.Measuring.{refused, measured, inRange, measurePassed}
-use Rattle.measure.specs.Held.{legalAfter, lengthTo, Summable}
+use Rattle.geometry.specs.Turn.{legalAfter}
+use Rattle.measure.specs.Held.{lengthTo, Summable}
 use Rattle.measure.proofs.Ranges.{in-range-near}
 use Rattle.measure.proofs.IsLegal.{as-many, legal-told}
 use Rattle.measure.proofs.HeldNet.{pins-placed, length-whole}

@@ -12,9 +12,9 @@ use Rattle.model.proofs.FirstOf.{first-take}
 use Rattle.chip.specs.Valid.{Fine}
 use Rattle.chip.proofs.HeldMeaning.{macs-held}
 use Rattle.placement.specs.Legal.{boxes, within, legal}
-use Rattle.measure.specs.Held.{legalAfter}
-use Rattle.measure.proofs.Boxes.{take-boxes}
-use Rattle.measure.proofs.TurnLegal.{turn-legal}
+use Rattle.geometry.specs.Turn.{legalAfter}
+use Rattle.geometry.proofs.Boxes.{take-boxes}
+use Rattle.geometry.proofs.TurnLegal.{turn-legal}
 
 module _ (c : HeldChip) (fine : Fine c) (s : List Spot) (l : length (c .fixes) ≡ 8) (m : length (c .macs) ≡ 8) (n : length s ≡ 8) where
   its-boxes : boxes (chipOf c .macs) (take (c .n) s) ≡ take (c .n) (boxes (c .macs) s)

@@ -1,7 +1,4 @@
 pub mod Ranges
-pub mod Boxes
-pub mod InTurn
-pub mod TurnLegal
 pub mod IsLegal
 pub mod Places
 pub mod Around

@@ -1,32 +1,19 @@
 -- What the helpers of measuring compute and need, over the arrays of a chip.
 use Prim.Native.Nat.{ℕ, zero, suc, _+_, _*_, _≤_, _<_, min, max}
-use mathlib.Core.Bool.{Bool, true, _&&_}
-use mathlib.Core.List.{List, [], _∷_, _++_, map}
+use mathlib.Core.List.{List, [], map}
 use lib.ListN.{getD}
 use lib.Seq.{slice}
 use lib.IntN.{natAbs}
-use Rattle.model.specs.declared.Die.{Die}
-use Rattle.model.specs.declared.Fix.{Fix}
 use Rattle.model.specs.declared.Spot.{Spot}
 use Rattle.model.specs.declared.Net.{Net as HeldNet}
 use Rattle.model.specs.declared.Pin.{Pin as HeldPin}
 use Rattle.model.specs.Meaning.{blankNet, blankPin, pinUp}
 use Rattle.model.specs.Limits.{mostMacs, mostNets, mostPins, mostPlace, placedCorner, recordLength}
-use Rattle.chip.specs.Kind.{fixInDie, clearOf}
 use Rattle.chip.specs.Valid.{pinsBefore}
 use Rattle.numbers.specs.Spread.{spread}
 use Rattle.placement.specs.Length.{origin}
 use Rattle.placement.proofs.Spans.{upX, upY}
 use Rattle.measure.specs.declared.Extent.{Extent}
-
--- a box lies in the die, and is apart from the fixes and from the boxes before it
-abbrev pub legalBox : Die → List Fix → List Fix → Fix → Bool
-legalBox d fs before b = fixInDie d b && (clearOf b fs && clearOf b before)
-
--- so does each box of a list, in turn
-unfoldable pub legalAfter : Die → List Fix → List Fix → List Fix → Bool
-legalAfter d fs before [] = true
-legalAfter d fs before (b ∷ s) = legalBox d fs before b && legalAfter d fs (before ++ (b ∷ [])) s
 
 -- the least and the greatest places with one place more
 abbrev pub withPin : Extent → Spot → Extent

@@ -10,15 +10,13 @@ use model::Spot;
 use model::Tested;
 ghost use mathlib.Core.Path.{_≡_};
 ghost use Prim.Native.Nat.{_+_, _≤_, _<_, min, max};
-ghost use mathlib.Core.List.{[]};
-ghost use lib.ListN.{length, getD, take};
+ghost use lib.ListN.{length, take};
 ghost use lib.Seq.{slice};
-ghost use Rattle.model.specs.Meaning.{firstOf, blankFix, blankSpot, chipOf};
-ghost use Rattle.placement.specs.Legal.{boxes};
+ghost use Rattle.model.specs.Meaning.{firstOf, blankSpot, chipOf};
 ghost use Rattle.placement.specs.Length.{origin};
 ghost use Rattle.placement.proofs.Spans.{upX, upY};
 ghost use Rattle.measure.specs.Measuring.{measuredAs, inRange, measurePassed, measurePositions};
-ghost use Rattle.measure.specs.Held.{legalBox, legalAfter, withPin, halfAround, lengthTo, Placed, PlacedTo, Summable};
+ghost use Rattle.measure.specs.Held.{withPin, halfAround, lengthTo, Placed, PlacedTo, Summable};
 ghost use Rattle.chip.specs.Passed.{Accepted};
 
 // What measuring answers: legal or not and the wirelength, or the refusal.
@@ -39,67 +37,6 @@ fn in_range(spots: [Spot; Mac::COUNT], count: usize) -> bool
             return false;
         }
         if Spot::MOST < p.y {
-            return false;
-        }
-        i += 1;
-    }
-    true
-}
-
-// The macros at their positions, as boxes.
-fn boxes_at(macs: [Mac; Mac::COUNT], spots: [Spot; Mac::COUNT]) -> [Fix; Mac::COUNT]
-    ensures { λ r. ⌜ r ≡ boxes macs spots ⌝ }
-{
-    let mut bs = [Fix {
-        x: 0,
-        y: 0,
-        w: 0,
-        h: 0,
-    }; Fix::COUNT];
-    let mut i: usize = 0;
-    while i < Mac::COUNT {
-        let m = macs[i];
-        let p = spots[i];
-        bs[i] = Fix {
-            x: p.x,
-            y: p.y,
-            w: m.w,
-            h: m.h,
-        };
-        i += 1;
-    }
-    bs
-}
-
-// Whether box i lies in the die, and is apart from the fixes and from the boxes before it.
-fn legal_box(die: Die, fixes: [Fix; Fix::COUNT], k: usize, bs: [Fix; Mac::COUNT], i: usize) -> bool
-    requires { ⌜ i < 8 ⌝ }
-    ensures { λ r. ⌜ r ≡ legalBox die (take k fixes) (take i bs) (getD bs i blankFix) ⌝ }
-{
-    let b = bs[i];
-    if !chip::fix_in_die(die, b) {
-        return false;
-    }
-    if !chip::clear_of_fixes(b, fixes, k) {
-        return false;
-    }
-    chip::clear_of_fixes(b, bs, i)
-}
-
-// Whether each of n boxes is legal.
-fn legal_boxes(
-    die: Die,
-    fixes: [Fix; Fix::COUNT],
-    k: usize,
-    bs: [Fix; Mac::COUNT],
-    n: usize,
-) -> bool
-    requires { ⌜ n ≤ 8 ⌝ }
-    ensures { λ r. ⌜ r ≡ legalAfter die (take k fixes) [] (take n bs) ⌝ }
-{
-    let mut i: usize = 0;
-    while i < n {
-        if !legal_box(die, fixes, k, bs, i) {
             return false;
         }
         i += 1;
@@ -237,8 +174,8 @@ fn measure_parts(
     if !in_range(spots, n) {
         return MeasureAnswer::Refused(Refusal { no: 14, line: 0 });
     }
-    let bs = boxes_at(macs, spots);
-    let legal = legal_boxes(die, fixes, k, bs, n);
+    let bs = geometry::boxes_at(macs, spots);
+    let legal = geometry::legal_boxes(die, fixes, k, bs, n);
     let length = length_of(nets, t, pins, spots);
     MeasureAnswer::Measured(legal, length)
 }

@@ -6,3 +6,4 @@ pub mod Unique
 pub mod Spans
 pub mod LengthBound
 pub mod FitIs
+pub mod Integers

@@ -4,3 +4,4 @@ pub mod Order
 pub mod Letters
 pub mod Least
 pub mod Demand
+pub mod Integers

@@ -4,3 +4,4 @@ pub mod RecordShort
 pub mod PrintedShort
 pub mod Printing
 pub mod Refusals
+pub mod DemandZ

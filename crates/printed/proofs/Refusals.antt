@@ -20,7 +20,7 @@ use Rattle.printed.specs.Printed.{printed, printText}
 use Rattle.printed.proofs.Numbers.{Numbered, chip-number, record-number}
 
 -- a number of reading is one of the table
-wider : (n k : ℕ) → Numbered 10 n → n ≡ k → Numbered 15 k
+pub wider : (n k : ℕ) → Numbered 10 n → n ≡ k → Numbered 15 k
 wider n k h e = let a = h .above in let w = h .within in record { above = omega arith; within = omega arith }
 
 -- ---- what is written
@@ -60,14 +60,14 @@ module _ (out : List ℕ) (n l : ℕ) where
 
 -- ---- measuring
 
-need-told : (b : Bool) (k : ℕ) (x : Measure) (n l : ℕ) → 1 ≤ k → k ≤ 15 → (x ≡ notMeasured n l → Numbered 15 n) → need b k x ≡ notMeasured n l → Numbered 15 n
+pub need-told : (b : Bool) (k : ℕ) (x : Measure) (n l : ℕ) → 1 ≤ k → k ≤ 15 → (x ≡ notMeasured n l → Numbered 15 n) → need b k x ≡ notMeasured n l → Numbered 15 n
 need-told true k x n l a w h e = h e
 need-told false k x n l a w h e = let q : n ≡ k = cc in record { above = omega arith; within = omega arith }
 
 measured-told : (b : Bool) (wl n l : ℕ) → measured b wl ≡ notMeasured n l → Numbered 15 n
 measured-told b wl n l e = let z : _≡_ {A = ℕ} 0 1 = cc in absurd (omega arith)
 
-passed-told : (c : Chip) (ps : List Spot) (n l : ℕ) → measurePassed c ps ≡ notMeasured n l → Numbered 15 n
+pub passed-told : (c : Chip) (ps : List Spot) (n l : ℕ) → measurePassed c ps ≡ notMeasured n l → Numbered 15 n
 unfolding measurePassed
 passed-told c ps n l e =
     need-told (eqb (length ps) (length (c .macs))) 13 _ n l (omega arith) (omega arith)
@@ -82,11 +82,11 @@ measure-number c ps n l e = by (readChip (chipText c)) refl e
 
 -- ---- the fit
 
-demanded-told : (b : Bool) (k : ℕ) (x : Fit) (n l : ℕ) → 1 ≤ k → k ≤ 15 → (x ≡ refusedBy n l → Numbered 15 n) → demanded b k x ≡ refusedBy n l → Numbered 15 n
+pub demanded-told : (b : Bool) (k : ℕ) (x : Fit) (n l : ℕ) → 1 ≤ k → k ≤ 15 → (x ≡ refusedBy n l → Numbered 15 n) → demanded b k x ≡ refusedBy n l → Numbered 15 n
 demanded-told true k x n l a w h e = h e
 demanded-told false k x n l a w h e = let q : n ≡ k = cc in record { above = omega arith; within = omega arith }
 
-best-told : (slots : ℕ) (b : Best) (n l : ℕ) → bestFit slots b ≡ refusedBy n l → Numbered 15 n
+pub best-told : (slots : ℕ) (b : Best) (n l : ℕ) → bestFit slots b ≡ refusedBy n l → Numbered 15 n
 best-told slots nothing n l e = let z : _≡_ {A = ℕ} 0 1 = cc in absurd (omega arith)
 best-told slots (found wl ps) n l e = let z : _≡_ {A = ℕ} 0 1 = cc in absurd (omega arith)
 

@@ -18,11 +18,14 @@ placed-requires c κs =
 enum-told-2 : tie.Need-enum-told-2
 enum-told-2 c = search needs
 
+no-amounts-requires : tie.Need-no-amounts-requires
+no-amounts-requires c κs = search needs
+
 none-up-requires : tie.Need-none-up-requires
 none-up-requires c κs =
-    let h = c .before .before .before .before .before in
+    let h = c .before .before .before .before .before .before in
     let b = h .before .before .before in
-    (b .pre .0, (b .pre .1 .0, search is-unsolved))
+    (b .pre .0, (b .pre .1 .0, (search needs, search is-unsolved)))
 
 enum-told-3 : tie.Need-enum-told-3
 enum-told-3 c = search needs
@@ -56,6 +59,7 @@ fit-up-spec =
     enum-told
     placed-requires
     enum-told-2
+    no-amounts-requires
     none-up-requires
     enum-told-3
     bare-requires

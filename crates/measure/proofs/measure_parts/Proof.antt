@@ -16,7 +16,7 @@ boxes-at-requires : tie.Need-boxes-at-requires
 boxes-at-requires c κs = search needs
 
 legal-boxes-requires : tie.Need-legal-boxes-requires
-legal-boxes-requires c κs = search (needs, few-macros)
+legal-boxes-requires c κs = search needs
 
 length-of-requires : tie.Need-length-of-requires
 length-of-requires c κs = search (needs, summable)

@@ -2,10 +2,10 @@ use mathlib.Core.Path.{_≡_}
 use Prim.Native.Nat.{_-_, _≤_}
 use lib.ListN.{length, take}
 use Rattle.placement.specs.Legal.{boxes}
-use Rattle.measure.proofs.Boxes.{one-stored, all-stored}
+use Rattle.geometry.proofs.Boxes.{one-stored, all-stored}
 use borrow.Author.Needs.{needs}
-use Rattle.measure.proofs.boxes_at.Statement.{statement}
-use Rattle.measure.proofs.boxes_at.Tie as tie
+use Rattle.geometry.proofs.boxes_at.Statement.{statement}
+use Rattle.geometry.proofs.boxes_at.Tie as tie
 
 abbrev Inv-loop : tie.InvT-loop
 Inv-loop macs spots bs₀ i₀ bs i = (i ≤ 8) × (length bs ≡ 8) × (take i bs ≡ take i (boxes macs spots))

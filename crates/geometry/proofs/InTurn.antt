@@ -1,17 +1,17 @@
 -- Each box tested in turn, in the form of the needs of `legal_boxes`.
-use mathlib.Core.Path.{_≡_, _∙_}
+use mathlib.Core.Path.{_≡_, sym, ap, _∙_}
 use mathlib.Core.Bool.{Bool, true, false, not, _&&_}
 use mathlib.Core.List.{List, []}
 use Prim.Native.Nat.{ℕ, _+_, _≤_, _<_}
 use native.Mathlib.Numerals.{add-one}
 use native.Mathlib.Omega.{arith}
 use lib.ListN.{length, getD, take}
-use lib.Seq.{slice, slice-empty, slice-cons, take-suc}
+use lib.Seq.{take-all, slice, slice-empty, slice-cons, take-suc}
 use borrow.Author.Tests.{not-true, not-false}
 use Rattle.model.specs.declared.Die.{Die}
 use Rattle.model.specs.declared.Fix.{Fix}
 use Rattle.model.specs.Meaning.{blankFix}
-use Rattle.measure.specs.Held.{legalBox, legalAfter}
+use Rattle.geometry.specs.Turn.{legalBox, legalAfter}
 
 -- one box
 module _ (p : Bool) (r : Bool) (e : r ≡ p) where
@@ -44,3 +44,7 @@ module _ (d : Die) (fs bs : List Fix) (n : ℕ) where
   pub all-tested : (i : ℕ) → i ≤ n → n ≤ i → Left i → true ≡ legalAfter d fs [] (take n bs)
   unfolding legalAfter
   all-tested i h g left = let e : i ≡ n = omega arith in rw (left, e, slice-empty n bs)
+
+-- more than all of eight boxes are all
+pub tested-all : (d : Die) (fs bs : List Fix) (n : ℕ) → length bs ≡ 8 → 8 < n → (r : Bool) → r ≡ legalAfter d fs [] (take 8 bs) → r ≡ legalAfter d fs [] (take n bs)
+tested-all d fs bs n l h r e = e ∙ ap (legalAfter d fs []) (take-all 8 bs (omega arith) ∙ sym (take-all n bs (omega arith)))

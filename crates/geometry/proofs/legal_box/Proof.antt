@@ -1,7 +1,7 @@
-use Rattle.measure.proofs.InTurn.{test-fails, second-fails, third-left}
+use Rattle.geometry.proofs.InTurn.{test-fails, second-fails, third-left}
 use borrow.Author.Needs.{needs}
-use Rattle.measure.proofs.legal_box.Statement.{statement}
-use Rattle.measure.proofs.legal_box.Tie as tie
+use Rattle.geometry.proofs.legal_box.Statement.{statement}
+use Rattle.geometry.proofs.legal_box.Tie as tie
 
 mul-b : tie.Need-mul-b
 mul-b c = search needs

@@ -8,7 +8,7 @@ use Rattle.model.specs.declared.Fix.{Fix}
 use Rattle.model.specs.Meaning.{Chip}
 use Rattle.chip.specs.Kind.{fixesApart, clearOf}
 use Rattle.placement.specs.Legal.{apart, inDie, allInDie, apartFrom, allApart}
-use Rattle.measure.specs.Held.{legalAfter}
+use Rattle.geometry.specs.Turn.{legalAfter}
 
 -- tests in another order
 swap-or : (p q r s : Bool) → (p || (q || (r || s))) ≡ (q || (p || (s || r)))

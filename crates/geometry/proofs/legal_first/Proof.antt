@@ -1,9 +1,9 @@
 use Prim.Native.Nat.{_-_, _≤_}
 use lib.ListN.{take}
-use Rattle.measure.proofs.InTurn.{Left, one-illegal, one-legal, all-tested}
+use Rattle.geometry.proofs.InTurn.{Left, one-illegal, one-legal, all-tested}
 use borrow.Author.Needs.{needs}
-use Rattle.measure.proofs.legal_boxes.Statement.{statement}
-use Rattle.measure.proofs.legal_boxes.Tie as tie
+use Rattle.geometry.proofs.legal_first.Statement.{statement}
+use Rattle.geometry.proofs.legal_first.Tie as tie
 
 abbrev Inv-loop : tie.InvT-loop
 Inv-loop die fixes k bs n i₀ i = (i ≤ n) × Left die (take k fixes) bs n i
@@ -32,8 +32,8 @@ loop-again c = (search needs, search (needs, one-legal))
 returns-2 : tie.Need-returns-2 Inv-loop μ-loop
 returns-2 c = search all-tested
 
-pub legal-boxes-spec : {M : Type 1} → statement M
-legal-boxes-spec =
+pub legal-first-spec : {M : Type 1} → statement M
+legal-first-spec =
     tie.close
     (tie.spec
     Inv-loop

@@ -1,0 +1,20 @@
+use Rattle.geometry.proofs.InTurn.{tested-all}
+use borrow.Author.Needs.{needs}
+use Rattle.geometry.proofs.legal_boxes.Statement.{statement}
+use Rattle.geometry.proofs.legal_boxes.Tie as tie
+
+legal-first-requires : tie.Need-legal-first-requires
+legal-first-requires c κs = search needs
+
+returns : tie.Need-returns
+returns c = search (needs, tested-all)
+
+legal-first-requires-2 : tie.Need-legal-first-requires-2
+legal-first-requires-2 c κs = search needs
+
+returns-2 : tie.Need-returns-2
+returns-2 c = search needs
+
+pub legal-boxes-spec : {M : Type 1} → statement M
+legal-boxes-spec =
+    tie.close (tie.spec legal-first-requires returns legal-first-requires-2 returns-2)

@@ -1,0 +1,1 @@
+// Laws of the answers that a C host gets; no code.
