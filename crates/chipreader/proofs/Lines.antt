@@ -9,8 +9,7 @@ use borrow.Author.Tests.{ne-eqb}
 use Rattle.model.specs.declared.Chip.{Chip as HeldChip}
 use Rattle.model.specs.declared.Word.the-variants as word
 use Rattle.model.specs.declared.Refusal.{Refusal}
-use Rattle.model.specs.Meaning.{Chip, chipOf, firstOf, netsOf}
-use Rattle.model.proofs.Nets.{taken}
+use Rattle.model.specs.Meaning.{Chip, chipOf, firstOf, netsOf, taken}
 use Rattle.grammar.specs.Words.{rank}
 use Rattle.grammar.specs.Reading.{Reading, refused, stepBytes, stepLine, ending}
 use Rattle.grammar.specs.Steps.{lineEnd, lineAt}

@@ -9,9 +9,9 @@ use Rattle.model.specs.declared.Word.{Word}
 use Rattle.model.specs.declared.Word.the-variants as word
 use Rattle.model.specs.declared.Net.{Net}
 use Rattle.model.specs.declared.Pin.{Pin}
-use Rattle.model.specs.Meaning.{chipOf, netsOf, firstOf, blankFix, blankMac, blankNet, blankPin}
+use Rattle.model.specs.Meaning.{chipOf, netsOf, firstOf, blankFix, blankMac, blankNet, blankPin, taken}
 use Rattle.model.proofs.FirstOf.{length-first}
-use Rattle.model.proofs.Nets.{taken, length-nets, length-pins}
+use Rattle.model.proofs.Nets.{length-nets, length-pins}
 use Rattle.chip.specs.Kind.{room, pinCount}
 use Rattle.chipreader.specs.declared.State.{State}
 use Rattle.chipreader.specs.State.{Holds, Sound}

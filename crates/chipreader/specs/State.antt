@@ -9,8 +9,7 @@ use Rattle.model.specs.declared.Word.{Word}
 use Rattle.model.specs.declared.Word.the-variants as word
 use Rattle.model.specs.declared.Refusal.{Refusal}
 use Rattle.model.specs.declared.Chip.{Chip}
-use Rattle.model.specs.Meaning.{chipOf, firstOf, blankNet}
-use Rattle.model.proofs.Nets.{taken}
+use Rattle.model.specs.Meaning.{chipOf, firstOf, blankNet, taken}
 use Rattle.model.specs.Limits.{mostFixes, mostMacs, mostNets, mostPins}
 use Rattle.grammar.specs.Words.{isWord}
 use Rattle.grammar.specs.Reading.{Step, next, fault as faulty}

@@ -1,17 +1,24 @@
 -- What a line adds: the length, a spot, the end.
-use mathlib.Core.Path.{_≡_, refl, sym, _∙_}
-use mathlib.Core.Bool.{true, false, false≢true}
+use mathlib.Core.Path.{_≡_, refl, sym, ap, _∙_}
+use mathlib.Core.Bool.{true, false, _&&_, false≢true, true≢false}
 use mathlib.Core.List.{List}
 use Prim.Native.Nat.{ℕ, suc, _+_}
 use native.Mathlib.Numerals.{add-one}
 use native.Mathlib.Omega.{arith}
 use lib.Dec.{eqb}
+use lib.IntN.{pos}
 use lib.ListN.{length, getD, set, length-set}
 use borrow.Author.Tests.{eq-eqb, ne-eqb}
+use Rattle.model.specs.declared.Spot.{Spot}
+use Rattle.model.specs.declared.SpotMade.{SpotMade}
+use Rattle.model.specs.declared.SpotMade.the-variants as spot
 use Rattle.model.specs.declared.Word.the-variants as word
 use Rattle.model.specs.Meaning.{firstOf, blankSpot}
+use Rattle.model.specs.Limits.{isWithin, placedCorner}
+use Rattle.model.specs.Made.{meantSpot, makeSpot}
+use Rattle.model.proofs.Tests.{refused, kept}
 use Rattle.model.proofs.FirstOf.{first-set}
-use Rattle.grammar.specs.Steps.{Entered}
+use Rattle.grammar.specs.Steps.{Entered, InRanges}
 use Rattle.grammar.specs.Words.{size}
 use Rattle.line.specs.Held.{valuesOf}
 use Rattle.record.specs.Kind.{recordKind, add, spotsOf}
@@ -19,7 +26,7 @@ use Rattle.recordreader.specs.declared.State.{State}
 use Rattle.line.specs.declared.Fault.the-variants as held
 use Rattle.recordreader.specs.declared.Taken.{Taken}
 use Rattle.recordreader.specs.State.{Sound, partOf, withFault, TakenOk}
-use Rattle.recordreader.proofs.Values.{heldSpot, least-values, at-values}
+use Rattle.recordreader.proofs.Values.{heldSpot, least-values, at-values, corners-in}
 use Rattle.recordreader.proofs.Entry.{count-meant, at-fits, at-found}
 
 abbrev taken : State → Taken
@@ -45,15 +52,22 @@ module _ (s : State) (v : List ℕ) (sound : Sound s) (l : ℕ) where
   pub out-of-turn : (r : Taken) → (getD v 0 0 ≡ s .count + 1 → ⊥) → r ≡ withFault s (record { no = 8; line = l }) → TakenOk r l (add (partOf s) word.At (valuesOf word.At v))
   out-of-turn r h e = rw e (record { meant = rw (turn, ne-eqb (getD v 0 0) (s .count + 1) h); at = refl; sound = sound })
 
-  pub at-added : Entered recordKind (partOf s) word.At → getD v 0 0 ≡ s .count + 1 → TakenOk (taken (record { last = word.At; found = s .found; wl = s .wl; count = s .count + 1; spots = set (s .spots) (s .count) (heldSpot v) })) l (add (partOf s) word.At (valuesOf word.At v))
-  at-added p h =
+  pub spot-never : length v ≡ 4 → InRanges word.At (valuesOf word.At v) → (m : SpotMade) → meantSpot m ≡ makeSpot (getD v 1 0) (getD v 2 0) → m ≡ spot.Outside → (r : Taken) → TakenOk r l (add (partOf s) word.At (valuesOf word.At v))
+  spot-never four i m o q r =
+      absurd (true≢false (sym (corners-in v four i) ∙ refused (isWithin placedCorner (pos (getD v 1 0)) && isWithin placedCorner (pos (getD v 2 0))) (heldSpot v) (ap meantSpot (sym q) ∙ o)))
+
+  the-spot : (m : SpotMade) → meantSpot m ≡ makeSpot (getD v 1 0) (getD v 2 0) → (p : Spot) → m ≡ spot.Made p → p ≡ heldSpot v
+  the-spot m o p q = kept (isWithin placedCorner (pos (getD v 1 0)) && isWithin placedCorner (pos (getD v 2 0))) (heldSpot v) p (ap meantSpot (sym q) ∙ o) .1
+
+  pub at-added : Entered recordKind (partOf s) word.At → getD v 0 0 ≡ s .count + 1 → (m : SpotMade) → meantSpot m ≡ makeSpot (getD v 1 0) (getD v 2 0) → (p : Spot) → m ≡ spot.Made p → TakenOk (taken (record { last = word.At; found = s .found; wl = s .wl; count = s .count + 1; spots = set (s .spots) (s .count) p })) l (add (partOf s) word.At (valuesOf word.At v))
+  at-added e h m o p q =
       record {
-        meant = rw (turn, eq-eqb (getD v 0 0) (s .count + 1) h, at-found s sound p, at-values v .1, first-set blankSpot (s .count) (s .spots) (heldSpot v) (omega (arith, at-fits s sound p, sound .long)));
+        meant = rw (turn, eq-eqb (getD v 0 0) (s .count + 1) h, at-found s sound e, at-values v .1, ← the-spot m o p q, first-set blankSpot (s .count) (s .spots) p (omega (arith, at-fits s sound e, sound .long)));
         at = refl;
         sound = record {
-          few = omega (arith, at-fits s sound p);
-          long = length-set (s .spots) (s .count) (heldSpot v) ∙ sound .long;
-          blank = λ e. absurd (false≢true (sym e ∙ at-found s sound p));
-          opened = λ o. at-found s sound p;
+          few = omega (arith, at-fits s sound e);
+          long = length-set (s .spots) (s .count) p ∙ sound .long;
+          blank = λ f. absurd (false≢true (sym f ∙ at-found s sound e));
+          opened = λ o. at-found s sound e;
         };
       }

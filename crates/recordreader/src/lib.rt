@@ -6,6 +6,7 @@ use model::Outcome;
 use model::Record;
 use model::Refusal;
 use model::Spot;
+use model::SpotMade;
 use model::TEXT_MOST;
 use model::Word;
 ghost use mathlib.Core.Path.{_≡_};
@@ -15,7 +16,7 @@ ghost use Rattle.model.specs.Meaning.{recordOf, blankSpot};
 ghost use Rattle.grammar.specs.Words.{rules};
 ghost use Rattle.grammar.specs.Line.{fields};
 ghost use Rattle.grammar.specs.Reading.{stepBytes, stepFields, stepLine, ending};
-ghost use Rattle.grammar.specs.Steps.{entryFault, Entered, lineEnd, lineAt};
+ghost use Rattle.grammar.specs.Steps.{entryFault, Entered, InRanges, lineEnd, lineAt};
 ghost use Rattle.line.specs.Held.{valuesOf};
 ghost use Rattle.record.specs.Kind.{add, recordKind};
 ghost use Rattle.record.specs.Text.{recordRead, readRecord};
@@ -134,9 +135,10 @@ fn add_none(s: State, v: [u64; 4], line: usize) -> Taken
     }
 }
 
-// What an `at` line adds: the spot of macro m. m out of turn 8.
+// What an `at` line adds: the spot of macro m. m out of turn 8. The values that were read are in their ranges, so the constructor does not refuse them.
 fn add_at(s: State, v: [u64; 4], line: usize) -> Taken
     requires { ⌜ Sound s ⌝ }
+    requires { ⌜ InRanges Word.At (valuesOf Word.At v) ⌝ }
     requires { ⌜ Entered recordKind (partOf s) Word.At ⌝ }
     ensures { λ r. ⌜ TakenOk r line (add (partOf s) Word.At (valuesOf Word.At v)) ⌝ }
 {
@@ -145,8 +147,11 @@ fn add_at(s: State, v: [u64; 4], line: usize) -> Taken
     if m != n + 1 {
         return with_fault(s, Refusal { no: 8, line });
     }
+    let SpotMade::Made(p) = Spot::new(v[1], v[2]) else {
+        return with_fault(s, Refusal { no: 4, line });
+    };
     let mut spots = s.spots;
-    spots[n] = Spot { x: v[1], y: v[2] };
+    spots[n] = p;
     Taken {
         fault: Fault::Clear,
         state: State {
@@ -180,6 +185,7 @@ fn add_done(s: State, v: [u64; 4], line: usize) -> Taken
 // What a line with the word w and the values v adds, or its fault.
 fn add_item(s: State, w: Word, v: [u64; 4], line: usize) -> Taken
     requires { ⌜ Sound s ⌝ }
+    requires { ⌜ InRanges w (valuesOf w v) ⌝ }
     requires { ⌜ Entered recordKind (partOf s) w ⌝ }
     ensures { λ r. ⌜ TakenOk r line (add (partOf s) w (valuesOf w v)) ⌝ }
 {
