@@ -2,9 +2,9 @@
 use mathlib.Core.Path.{_≡_, refl, sym, ap, subst, _∙_}
 use mathlib.Core.Bool.{Bool, true, false, not, _||_, false≢true}
 use mathlib.Core.List.{List, [], _∷_, _++_}
-use Prim.Native.Nat.{ℕ, _+_, _≤_, _<_}
+use Prim.Native.Nat.{ℕ, _+_, _<_}
 use native.Mathlib.Omega.{arith}
-use lib.ListN.{length, getD, take, set, length-set}
+use lib.ListN.{length, getD, take, set}
 use borrow.Author.Tests.{not-true, not-false}
 use Rattle.model.specs.declared.Die.{Die}
 use Rattle.model.specs.declared.DieMade.{DieMade}
@@ -23,6 +23,9 @@ use Rattle.model.specs.declared.Word.{Word}
 use Rattle.model.specs.declared.Word.the-variants as word
 use Rattle.model.specs.Meaning.{Net, chipOf, firstOf, pinsOf, blankFix, blankMac, blankNet, taken}
 use Rattle.model.specs.Made.{meantDie, makeDie, meantFix, makeFix, meantMac, makeMac, meantNet, makeNet}
+use Rattle.model.specs.Held.{Holds}
+use Rattle.model.specs.Limits.{mostFixes, mostMacs}
+use Rattle.model.proofs.Holding.{holds-more, holds-all, fits-in}
 use Rattle.model.proofs.FirstOf.{first-take, first-set}
 use Rattle.model.proofs.Nets.{taken-snoc, nets-snoc}
 use Rattle.grammar.specs.Words.{isWord}
@@ -32,26 +35,13 @@ use Rattle.line.specs.Held.{valuesOf}
 use Rattle.chip.specs.Kind.{chipKind, addFix, add, after, fixInDie, clearOf, withDie, withMac, withNet}
 use Rattle.chipreader.specs.declared.State.{State}
 use Rattle.chipreader.specs.declared.Taken.{Taken}
-use Rattle.chipreader.specs.State.{Holds, Sound, partOf, withFault, withChip, TakenOk}
+use Rattle.chipreader.specs.State.{Sound, partOf, withFault, withChip, TakenOk}
 use Rattle.chipreader.proofs.Values.{heldDie, heldMac, die-values, fix-values, mac-values, net-values}
 use Rattle.chipreader.proofs.Entry.{fix-fits, mac-fits, net-fits}
 
-module _ {A : Type 0} {most n : ℕ} {items : List A} (h : Holds most n items) where
-  pub holds-more : (a : A) → n < most → Holds most (n + 1) (set items n a)
-  holds-more a l = record { few = omega arith; long = length-set items n a ∙ h .long }
-
-  pub holds-set : (i : ℕ) (a : A) → Holds most n (set items i a)
-  holds-set i a = record { few = h .few; long = length-set items i a ∙ h .long }
-
-  holds-all : n ≤ length items
-  holds-all = omega (arith, h .few, h .long)
-
-  fits-in : n < most → n < length items
-  fits-in l = omega (arith, h .long)
-
 -- a line of a word that opens no net keeps the nets
 module _ (s : State) (sound : Sound s) (w : Word) (e : (isWord w word.Net || isWord w word.Pin) ≡ false) (d : Die) where
-  pub kept-sound : {k n : ℕ} {fs : List Fix} {ms : List Mac} → Holds 8 k fs → Holds 8 n ms → Sound (record { last = w; pins = s .pins; chip = record { die = d; k = k; fixes = fs; n = n; macs = ms; t = s .chip .t; nets = s .chip .nets; pins = s .chip .pins } })
+  pub kept-sound : {k n : ℕ} {fs : List Fix} {ms : List Mac} → Holds blankFix mostFixes k fs → Holds blankMac mostMacs n ms → Sound (record { last = w; pins = s .pins; chip = record { die = d; k = k; fixes = fs; n = n; macs = ms; t = s .chip .t; nets = s .chip .nets; pins = s .chip .pins } })
   kept-sound f m = record { fixes = f; macs = m; nets = sound .nets; pins = sound .pins; counted = sound .counted; opened = λ o. absurd (false≢true (sym e ∙ o)) }
 
 -- ---- the chip with one thing more

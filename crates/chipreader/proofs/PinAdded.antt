@@ -17,6 +17,7 @@ use Rattle.model.specs.declared.Chip.{Chip as HeldChip}
 use Rattle.model.specs.declared.Word.the-variants as word
 use Rattle.model.specs.Meaning.{Pin, Net, chipOf, firstOf, netsOf, pinOf, pinsOf, blankNet, blankPin, taken}
 use Rattle.model.specs.Made.{meantPin, remakePin}
+use Rattle.model.proofs.Holding.{holds-more, holds-set}
 use Rattle.model.proofs.FirstOf.{first-suc, first-set}
 use Rattle.model.proofs.Nets.{taken-snoc, nets-snoc, nets-kept, pins-append}
 use Rattle.grammar.specs.Reading.{Step, fault, check}
@@ -31,7 +32,6 @@ use Rattle.chipreader.specs.State.{Sound, partOf, withFault, TakenOk}
 use Rattle.chipreader.proofs.Values.{heldPin, pin-values}
 use Rattle.chipreader.proofs.Room.{mac-count}
 use Rattle.chipreader.proofs.Entry.{pin-fits, net-open}
-use Rattle.chipreader.proofs.Added.{holds-more, holds-set}
 
 abbrev onePin : HeldNet → HeldNet
 onePin u = record { weight = u .weight; pins = u .pins + 1 }
@@ -109,7 +109,7 @@ module _ (s : State) (sound : Sound s) (entered : Entered chipKind (partOf s) wo
           sound = record {
             fixes = sound .fixes;
             macs = sound .macs;
-            nets = holds-set (sound .nets) place (onePin net);
+            nets = holds-set (sound .nets) place (onePin net) (omega (arith, net-open s sound entered));
             pins = holds-more (sound .pins) p (pin-fits s sound entered);
             counted = ap taken last-pinned ∙ taken-snoc before (onePin net) ∙ omega (arith, all-pins);
             opened = λ o. net-open s sound entered;

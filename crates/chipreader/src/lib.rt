@@ -27,7 +27,7 @@ ghost use Rattle.line.specs.Held.{valuesOf};
 ghost use Rattle.chip.specs.Kind.{room, addFix, add, chipKind};
 ghost use Rattle.chip.specs.Text.{chipRead, readChip};
 ghost use Rattle.chipreader.specs.State.{Sound, partOf, mayFollow, withFault, withChip, TakenOk};
-ghost use Rattle.chipreader.specs.Answer.{blankChip, refusedAt, meantChip, afterRefusal, ReadOk};
+ghost use Rattle.chipreader.specs.Answer.{blankChip, refusedAt, meantChip, chipAnswer, ReadOk};
 
 // What reading a chip answers.
 pub enum ChipAnswer {
@@ -35,7 +35,7 @@ pub enum ChipAnswer {
     Refused(Refusal),
 }
 
-// The answer with the chip; after a refusal the chip is blank.
+// The answer with the chip; its entries past the counts are blank, and after a refusal the chip is.
 pub struct ChipRead {
     pub answer: ChipAnswer,
     pub chip: Chip,
@@ -350,6 +350,7 @@ fn refused(f: Refusal) -> ChipRead
 
 // The end of the text, where line `line` would begin: `end` must stand before it.
 fn finish(s: State, line: usize) -> ChipRead
+    requires { ⌜ Sound s ⌝ }
     ensures { λ r. ⌜ ReadOk (chipRead (ending chipKind (chipKind .complete (partOf s)) (partOf s) line)) r ⌝ }
 {
     let last = s.last;
@@ -393,10 +394,10 @@ fn read_lines(text: &[u8]) -> ChipRead
     finish(s, line)
 }
 
-// The chip that a text means, or number and line of its refusal.
+// The chip that a text means, or number and line of its refusal: what the answer means, and the whole answer.
 pub fn read_chip(text: &[u8]) -> ChipRead
     ensures { λ r. ⌜ meantChip r ≡ readChip (now (text .entry)) ⌝ }
-    ensures { λ r. ⌜ afterRefusal (r .answer) (r .chip) ≡ blankChip ⌝ }
+    ensures { λ r. ⌜ r ≡ chipAnswer (readChip (now (text .entry))) ⌝ }
 {
     if TEXT_MOST < text.len() {
         return refused(Refusal { no: 1, line: 0 });

@@ -4,19 +4,19 @@ use mathlib.Core.Bool.{true, false, _&&_, false≢true, true≢false}
 use mathlib.Core.List.{List}
 use Prim.Native.Nat.{ℕ, suc, _+_}
 use native.Mathlib.Numerals.{add-one}
-use native.Mathlib.Omega.{arith}
 use lib.Dec.{eqb}
 use lib.IntN.{pos}
-use lib.ListN.{length, getD, set, length-set}
+use lib.ListN.{length, getD, set, replicate}
 use borrow.Author.Tests.{eq-eqb, ne-eqb}
 use Rattle.model.specs.declared.Spot.{Spot}
 use Rattle.model.specs.declared.SpotMade.{SpotMade}
 use Rattle.model.specs.declared.SpotMade.the-variants as spot
 use Rattle.model.specs.declared.Word.the-variants as word
 use Rattle.model.specs.Meaning.{firstOf, blankSpot}
-use Rattle.model.specs.Limits.{isWithin, placedCorner}
+use Rattle.model.specs.Limits.{isWithin, placedCorner, mostMacs}
 use Rattle.model.specs.Made.{meantSpot, makeSpot}
 use Rattle.model.proofs.Tests.{refused, kept}
+use Rattle.model.proofs.Holding.{holds-more, holds-none, fits-in}
 use Rattle.model.proofs.FirstOf.{first-set}
 use Rattle.grammar.specs.Steps.{Entered, InRanges}
 use Rattle.grammar.specs.Words.{size}
@@ -33,17 +33,20 @@ abbrev taken : State → Taken
 taken s = record { fault = held.Clear; state = s }
 
 module _ (s : State) (v : List ℕ) (sound : Sound s) (l : ℕ) where
-  pub least-added : TakenOk (taken (record { last = word.Least; found = true; wl = getD v 0 0; count = 0; spots = s .spots })) l (add (partOf s) word.Least (valuesOf word.Least v))
+  pub least-added : (ps : List Spot) → ps ≡ replicate mostMacs blankSpot → TakenOk (taken (record { last = word.Least; found = true; wl = getD v 0 0; count = 0; spots = ps })) l (add (partOf s) word.Least (valuesOf word.Least v))
   unfolding firstOf
-  least-added =
+  least-added ps e =
       record {
         meant = rw (least-values v);
         at = refl;
-        sound = record { few = omega arith; long = sound .long; blank = λ e. refl; opened = λ o. refl };
+        sound = record { spots = rw e (holds-none blankSpot mostMacs); blank = λ f. refl; opened = λ o. refl };
       }
 
+  pub none-added : (ps : List Spot) → ps ≡ replicate mostMacs blankSpot → TakenOk (taken (record { last = word.None; found = false; wl = 0; count = 0; spots = ps })) l (add (partOf s) word.None (valuesOf word.None v))
+  none-added ps e = record { meant = refl; at = refl; sound = record { spots = rw e (holds-none blankSpot mostMacs); blank = λ f. refl; opened = λ o. absurd (false≢true o) } }
+
   pub done-added : TakenOk (taken (record { last = word.Done; found = s .found; wl = s .wl; count = s .count; spots = s .spots })) l (add (partOf s) word.Done (valuesOf word.Done v))
-  done-added = record { meant = refl; at = refl; sound = record { few = sound .few; long = sound .long; blank = sound .blank; opened = λ o. absurd (false≢true o) } }
+  done-added = record { meant = refl; at = refl; sound = record { spots = sound .spots; blank = sound .blank; opened = λ o. absurd (false≢true o) } }
 
   -- m against the next number
   turn : eqb (size (valuesOf word.At v) 0) (suc (length (spotsOf (partOf s .result)))) ≡ eqb (getD v 0 0) (s .count + 1)
@@ -62,11 +65,10 @@ module _ (s : State) (v : List ℕ) (sound : Sound s) (l : ℕ) where
   pub at-added : Entered recordKind (partOf s) word.At → getD v 0 0 ≡ s .count + 1 → (m : SpotMade) → meantSpot m ≡ makeSpot (getD v 1 0) (getD v 2 0) → (p : Spot) → m ≡ spot.Made p → TakenOk (taken (record { last = word.At; found = s .found; wl = s .wl; count = s .count + 1; spots = set (s .spots) (s .count) p })) l (add (partOf s) word.At (valuesOf word.At v))
   at-added e h m o p q =
       record {
-        meant = rw (turn, eq-eqb (getD v 0 0) (s .count + 1) h, at-found s sound e, at-values v .1, ← the-spot m o p q, first-set blankSpot (s .count) (s .spots) p (omega (arith, at-fits s sound e, sound .long)));
+        meant = rw (turn, eq-eqb (getD v 0 0) (s .count + 1) h, at-found s sound e, at-values v .1, ← the-spot m o p q, first-set blankSpot (s .count) (s .spots) p (fits-in (sound .spots) (at-fits s sound e)));
         at = refl;
         sound = record {
-          few = omega (arith, at-fits s sound e);
-          long = length-set (s .spots) (s .count) p ∙ sound .long;
+          spots = holds-more (sound .spots) p (at-fits s sound e);
           blank = λ f. absurd (false≢true (sym f ∙ at-found s sound e));
           opened = λ o. at-found s sound e;
         };

@@ -12,7 +12,7 @@ use model::Word;
 ghost use mathlib.Core.Path.{_≡_};
 ghost use Prim.Native.Nat.{_≤_, _<_};
 ghost use lib.ListN.{length, replicate};
-ghost use Rattle.model.specs.Meaning.{recordOf, blankSpot};
+ghost use Rattle.model.specs.Meaning.{blankSpot};
 ghost use Rattle.grammar.specs.Words.{rules};
 ghost use Rattle.grammar.specs.Line.{fields};
 ghost use Rattle.grammar.specs.Reading.{stepBytes, stepFields, stepLine, ending};
@@ -20,8 +20,8 @@ ghost use Rattle.grammar.specs.Steps.{entryFault, Entered, InRanges, lineEnd, l
 ghost use Rattle.line.specs.Held.{valuesOf};
 ghost use Rattle.record.specs.Kind.{add, recordKind};
 ghost use Rattle.record.specs.Text.{recordRead, readRecord};
-ghost use Rattle.recordreader.specs.State.{Sound, resultOf, partOf, mayFollow, withFault, TakenOk};
-ghost use Rattle.recordreader.specs.Answer.{blankRecord, refusedAt, meantRecord, afterRefusal, ReadOk};
+ghost use Rattle.recordreader.specs.State.{Sound, partOf, mayFollow, withFault, TakenOk, RecordIs};
+ghost use Rattle.recordreader.specs.Answer.{refusedAt, meantRecord, recordAnswer, ReadOk};
 
 // What reading a record answers.
 pub enum RecordAnswer {
@@ -29,7 +29,7 @@ pub enum RecordAnswer {
     Refused(Refusal),
 }
 
-// The answer with the record; after a refusal the record is blank.
+// The answer with the record; its spots past the count are blank, and after a refusal the record is.
 pub struct RecordRead {
     pub answer: RecordAnswer,
     pub record: Record,
@@ -104,7 +104,7 @@ fn add_least(s: State, v: [u64; 4], line: usize) -> Taken
     requires { ⌜ Sound s ⌝ }
     ensures { λ r. ⌜ TakenOk r line (add (partOf s) Word.Least (valuesOf Word.Least v)) ⌝ }
 {
-    let spots = s.spots;
+    let spots = blank_spots();
     Taken {
         fault: Fault::Clear,
         state: State {
@@ -122,7 +122,7 @@ fn add_none(s: State, v: [u64; 4], line: usize) -> Taken
     requires { ⌜ Sound s ⌝ }
     ensures { λ r. ⌜ TakenOk r line (add (partOf s) Word.None (valuesOf Word.None v)) ⌝ }
 {
-    let spots = s.spots;
+    let spots = blank_spots();
     Taken {
         fault: Fault::Clear,
         state: State {
@@ -262,7 +262,8 @@ fn refused(f: Refusal) -> RecordRead
 
 // The record that has been read.
 fn record_of(s: State) -> Record
-    ensures { λ r. ⌜ recordOf r ≡ resultOf (s .found) (s .wl) (s .count) (s .spots) ⌝ }
+    requires { ⌜ Sound s ⌝ }
+    ensures { λ r. ⌜ RecordIs r (partOf s .result) ⌝ }
 {
     let spots = s.spots;
     if s.found {
@@ -279,6 +280,7 @@ fn record_of(s: State) -> Record
 
 // The end of the text, where line `line` would begin: `done` must stand before it.
 fn finish(s: State, line: usize) -> RecordRead
+    requires { ⌜ Sound s ⌝ }
     ensures { λ r. ⌜ ReadOk (recordRead (ending recordKind (recordKind .complete (partOf s)) (partOf s) line)) r ⌝ }
 {
     let last = s.last;
@@ -324,10 +326,10 @@ fn read_lines(text: &[u8]) -> RecordRead
     finish(s, line)
 }
 
-// The record that a text means, or number and line of its refusal.
+// The record that a text means, or number and line of its refusal: what the answer means, and the whole answer.
 pub fn read_record(text: &[u8]) -> RecordRead
     ensures { λ r. ⌜ meantRecord r ≡ readRecord (now (text .entry)) ⌝ }
-    ensures { λ r. ⌜ afterRefusal (r .answer) (r .record) ≡ blankRecord ⌝ }
+    ensures { λ r. ⌜ r ≡ recordAnswer (readRecord (now (text .entry))) ⌝ }
 {
     if TEXT_MOST < text.len() {
         return refused(Refusal { no: 1, line: 0 });
