@@ -2,9 +2,9 @@
 use Prim.Native.Nat.{ℕ, _≤_}
 use mathlib.Core.Path.{_≡_}
 use mathlib.Core.List.{List, [], _∷_}
-use mathlib.Core.Bool.{Bool, true, _&&_, _||_}
+use mathlib.Core.Bool.{Bool, true, not, _&&_, _||_}
 use lib.ListN.{getD}
-use lib.Dec.{leb}
+use lib.Dec.{leb, eqb}
 use Rattle.model.specs.declared.Word.{Word}
 use Rattle.model.specs.declared.Word.the-variants as word
 use Rattle.model.specs.declared.Refusal.{Refusal}
@@ -43,6 +43,10 @@ mostLast = 0 ∷ 0 ∷ 2 ∷ 3 ∷ 5 ∷ 5 ∷ 5 ∷ 0 ∷ 0 ∷ 0 ∷ 0 ∷ []
 -- a word of rank b may stand after one of rank a
 abbrev pub mayFollow : ℕ → ℕ → Bool
 mayFollow a b = leb (getD leastLast b 0) a && leb a (getD mostLast b 0)
+
+-- a word of rank b right after `net`, of rank a, that is no `pin`
+abbrev pub leftBare : ℕ → ℕ → Bool
+leftBare a b = eqb a 4 && not (eqb b 5)
 
 -- what a line leads to, by its fault
 abbrev pub stepOf : Fault → State → Step Part

@@ -26,7 +26,7 @@ ghost use Rattle.grammar.specs.Steps.{entryFault, Entered, InRanges, lineEnd, l
 ghost use Rattle.line.specs.Held.{valuesOf};
 ghost use Rattle.chip.specs.Kind.{room, addFix, add, chipKind};
 ghost use Rattle.chip.specs.Text.{chipRead, readChip};
-ghost use Rattle.chipreader.specs.State.{Sound, partOf, mayFollow, withFault, withChip, TakenOk};
+ghost use Rattle.chipreader.specs.State.{Sound, partOf, mayFollow, leftBare, withFault, withChip, TakenOk};
 ghost use Rattle.chipreader.specs.Answer.{blankChip, refusedAt, meantChip, chipAnswer, ReadOk};
 
 // What reading a chip answers.
@@ -109,6 +109,16 @@ fn has_room(s: State, w: Word) -> bool
     }
 }
 
+// Whether a word of rank b leaves the net above, of rank a, without a pin.
+fn pinless(a: usize, b: usize) -> bool
+    ensures { λ r. ⌜ r ≡ leftBare a b ⌝ }
+{
+    if a != 4 {
+        return false;
+    }
+    b != 5
+}
+
 // The first fault of a line before its fields: word 2, place 5, count 6, net without a pin 7; or 0.
 fn entry_fault(s: State, w: Word) -> usize
     requires { ⌜ Sound s ⌝ }
@@ -120,16 +130,17 @@ fn entry_fault(s: State, w: Word) -> usize
     if b == 0 {
         return 2;
     }
-    if !may_follow(a, b) {
+    let placed = may_follow(a, b);
+    let room = has_room(s, w);
+    let bare = pinless(a, b);
+    if !placed {
         return 5;
     }
-    if !has_room(s, w) {
+    if !room {
         return 6;
     }
-    if a == 4 {
-        if b != 5 {
-            return 7;
-        }
+    if bare {
+        return 7;
     }
     0
 }
