@@ -6,27 +6,27 @@ use native.Mathlib.Decide.{decLt}
 use native.Mathlib.Omega.{arith}
 use lib.ListN.{length, take, drop, length-drop}
 use lib.Seq.{take-add}
-use lib.IntN.{pos, _+ℤ_, subℕ, natAbs}
+use lib.IntN.{subℕ}
 use borrow.Author.Tests.{lt-ltb, le-ltb}
 use Rattle.model.specs.declared.Net.{Net as HeldNet}
 use Rattle.model.specs.declared.Pin.{Pin as HeldPin}
 use Rattle.model.specs.declared.Chip.{Chip as HeldChip}
 use Rattle.model.specs.Limits.{mostFixes, mostMacs, mostNets, mostPins}
-use Rattle.model.specs.Meaning.{Net, chipOf, firstOf, pinOf, pinsOf, taken, netsOf, blankFix, blankMac, blankNet, blankPin}
-use Rattle.model.specs.Held.{heldNet, heldPin, heldChip, Holds}
+use Rattle.model.specs.Meaning.{Net, chipOf, firstOf, pinOf, pinsOf, taken, netsOf, blankFix, blankMac, blankNet, blankPin, pinUp}
+use Rattle.model.specs.Held.{raised, heldNet, heldPin, heldChip, Holds}
 use Rattle.model.proofs.FirstOf.{first-take, length-first}
 use Rattle.model.proofs.Nets.{pins-append, length-pins, length-nets}
 use Rattle.model.proofs.Holding.{holds-all, filled-again}
 
-raised-again : (v : ℕ) → natAbs (subℕ v 4096 +ℤ pos 4096) ≡ v
-raised-again v = by (decLt v 4096)
+pub raised-again : (u v : ℕ) → raised u (subℕ v u) ≡ v
+raised-again u v = by (decLt v u)
   where
-    by : Dec (v < 4096) → natAbs (subℕ v 4096 +ℤ pos 4096) ≡ v
-    by (yes h) = rw (lt-ltb v 4096 h, le-ltb 4096 (suc (4096 - suc v)) (omega arith)) (omega arith)
-    by (no h) = rw (le-ltb v 4096 (omega arith)) (omega arith)
+    by : Dec (v < u) → raised u (subℕ v u) ≡ v
+    by (yes h) = rw (lt-ltb v u h, le-ltb u (suc (u - suc v)) (omega arith)) (omega arith)
+    by (no h) = rw (le-ltb v u (omega arith)) (omega arith)
 
 pin-again : (p : HeldPin) → heldPin (pinOf p) ≡ p
-pin-again p = rw (raised-again (p .xup), raised-again (p .yup))
+pin-again p = rw (raised-again pinUp (p .xup), raised-again pinUp (p .yup))
 
 pins-again : (ps : List HeldPin) → map heldPin (pinsOf ps) ≡ ps
 unfolding pinsOf

@@ -3,7 +3,7 @@ use Prim.Native.Nat.{ℕ, _-_, _≤_}
 use mathlib.Core.Path.{_≡_}
 use mathlib.Core.List.{List, _++_, map, flatMap}
 use lib.ListN.{length, replicate, getD}
-use lib.IntN.{pos, _+ℤ_, natAbs}
+use lib.IntN.{ℤ, pos, _+ℤ_, natAbs}
 use Rattle.model.specs.declared.Net.{Net as HeldNet}
 use Rattle.model.specs.declared.Pin.{Pin as HeldPin}
 use Rattle.model.specs.declared.Chip.{Chip as HeldChip}
@@ -16,12 +16,16 @@ use Rattle.model.specs.Limits.{mostFixes, mostMacs, mostNets, mostPins}
 abbrev pub filled : {A : Type 0} → ℕ → A → List A → List A
 filled most blank s = s ++ replicate (most - length s) blank
 
+-- the number z, held u higher
+abbrev pub raised : ℕ → ℤ → ℕ
+raised u z = natAbs (z +ℤ pos u)
+
 -- a net without its pins, and a pin
 abbrev pub heldNet : Net → HeldNet
 heldNet t = record { weight = t .weight; pins = length (t .pins) }
 
 abbrev pub heldPin : Pin → HeldPin
-heldPin p = record { m = p .m; xup = natAbs (p .x +ℤ pos pinUp); yup = natAbs (p .y +ℤ pos pinUp) }
+heldPin p = record { m = p .m; xup = raised pinUp (p .x); yup = raised pinUp (p .y) }
 
 -- a chip
 abbrev pub heldChip : Chip → HeldChip
