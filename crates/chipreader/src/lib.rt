@@ -194,10 +194,12 @@ fn put_fix(s: State, f: Fix, line: usize) -> Taken
     let mut chip = s.chip;
     let k = chip.k;
     let fixes = chip.fixes;
-    if !chip::fix_in_die(chip.die, f) {
+    let inside = chip::fix_in_die(chip.die, f);
+    let clear = chip::clear_of_fixes(f, fixes, k);
+    if !inside {
         return with_fault(s, Refusal { no: 9, line });
     }
-    if !chip::clear_of_fixes(f, fixes, k) {
+    if !clear {
         return with_fault(s, Refusal { no: 10, line });
     }
     chip.fixes[k] = f;

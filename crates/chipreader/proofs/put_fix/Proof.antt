@@ -7,14 +7,14 @@ use Rattle.chipreader.proofs.put_fix.Tie as tie
 fix-in-die-requires : tie.Need-fix-in-die-requires
 fix-in-die-requires c κs = search needs
 
+clear-of-fixes-requires : tie.Need-clear-of-fixes-requires
+clear-of-fixes-requires c κs = search needs
+
 with-fault-requires : tie.Need-with-fault-requires
 with-fault-requires c κs = search needs
 
 returns : tie.Need-returns
 returns c = search (needs, fix-leaves)
-
-clear-of-fixes-requires : tie.Need-clear-of-fixes-requires
-clear-of-fixes-requires c κs = search needs
 
 with-fault-requires-2 : tie.Need-with-fault-requires-2
 with-fault-requires-2 c κs = search needs
@@ -38,4 +38,4 @@ returns-3 : tie.Need-returns-3
 returns-3 c = search (needs, fix-added)
 
 pub put-fix-spec : {M : Type 1} → statement M
-put-fix-spec = tie.close (tie.spec fix-in-die-requires with-fault-requires returns clear-of-fixes-requires with-fault-requires-2 returns-2 mul-f element-set-from-f add-chip with-chip-requires returns-3)
+put-fix-spec = tie.close (tie.spec fix-in-die-requires clear-of-fixes-requires with-fault-requires returns with-fault-requires-2 returns-2 mul-f element-set-from-f add-chip with-chip-requires returns-3)
