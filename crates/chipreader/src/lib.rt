@@ -16,6 +16,7 @@ use model::Refusal;
 use model::TEXT_MOST;
 use model::Word;
 ghost use mathlib.Core.Path.{_≡_};
+ghost use Rattle.model.specs.Limits.{mostBytes};
 ghost use Rattle.model.specs.Meaning.{chipOf};
 ghost use Prim.Native.Nat.{_≤_, _<_};
 ghost use lib.ListN.{length};
@@ -379,7 +380,7 @@ fn finish(s: State, line: usize) -> ChipRead
 
 // The lines of a text that is not too long.
 fn read_lines(text: &[u8]) -> ChipRead
-    requires { ⌜ length (now text) ≤ 16384 ⌝ }
+    requires { ⌜ length (now text) ≤ mostBytes ⌝ }
     ensures { λ r. ⌜ ReadOk (readChip (now (text .entry))) r ⌝ }
 {
     let mut s = State {

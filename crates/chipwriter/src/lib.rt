@@ -16,6 +16,7 @@ use model::Tested;
 use model::WriteAnswer;
 ghost use mathlib.Core.Path.{_≡_};
 ghost use Prim.Native.Nat.{_≤_};
+ghost use Rattle.model.specs.Limits.{mostNets, mostPins};
 ghost use Rattle.model.specs.Meaning.{pinOf, chipOf};
 ghost use Rattle.grammar.specs.Writing.{testedAs, answerOf};
 ghost use Rattle.chip.specs.Text.{dieItem, fixItem, macItem, pinItem, readChip, chipText, writeChip};
@@ -155,7 +156,7 @@ fn pin_fault(pins: [Pin; Pin::COUNT], i: usize, n: usize) -> usize
 
 // The pins of one net, `count` of them from pin q on, from the line given on.
 fn test_pins(pins: [Pin; Pin::COUNT], q: usize, count: usize, n: usize, line: usize) -> Tested
-    requires { ⌜ (q ≤ 128) × (line ≤ 200) ⌝ }
+    requires { ⌜ (q ≤ mostPins) × (line ≤ 200) ⌝ }
     ensures { λ r. ⌜ r ≡ pinsTested pins n q line count ⌝ }
 {
     let mut i: usize = 0;
@@ -171,7 +172,7 @@ fn test_pins(pins: [Pin; Pin::COUNT], q: usize, count: usize, n: usize, line: us
 
 // Whether there is a net before net j and it has no pin.
 fn bare_before(nets: [Net; Net::COUNT], j: usize) -> bool
-    requires { ⌜ j ≤ 32 ⌝ }
+    requires { ⌜ j ≤ mostNets ⌝ }
     ensures { λ r. ⌜ r ≡ bareBefore nets j ⌝ }
 {
     if j == 0 {
@@ -217,7 +218,7 @@ fn test_net(
     n: usize,
     line: usize,
 ) -> Tested
-    requires { ⌜ (q ≤ 128) × (line ≤ 199) ⌝ }
+    requires { ⌜ (q ≤ mostPins) × (line ≤ 199) ⌝ }
     ensures { λ r. ⌜ r ≡ netTested nets pins n line q j ⌝ }
 {
     let no = net_fault(nets, j);

@@ -12,6 +12,7 @@ use model::Word;
 ghost use mathlib.Core.Path.{_≡_};
 ghost use Prim.Native.Nat.{_≤_, _<_};
 ghost use lib.ListN.{length, replicate};
+ghost use Rattle.model.specs.Limits.{mostBytes, mostMacs};
 ghost use Rattle.model.specs.Meaning.{blankSpot};
 ghost use Rattle.grammar.specs.Words.{rules};
 ghost use Rattle.grammar.specs.Line.{fields};
@@ -52,7 +53,7 @@ pub(crate) struct Taken {
 
 // Blank spots: 0,0 each.
 fn blank_spots() -> [Spot; Mac::COUNT]
-    ensures { λ r. ⌜ r ≡ replicate 8 blankSpot ⌝ }
+    ensures { λ r. ⌜ r ≡ replicate mostMacs blankSpot ⌝ }
 {
     [Spot { x: 0, y: 0 }; Mac::COUNT]
 }
@@ -295,7 +296,7 @@ fn finish(s: State, line: usize) -> RecordRead
 
 // The lines of a text that is not too long.
 fn read_lines(text: &[u8]) -> RecordRead
-    requires { ⌜ length (now text) ≤ 16384 ⌝ }
+    requires { ⌜ length (now text) ≤ mostBytes ⌝ }
     ensures { λ r. ⌜ ReadOk (readRecord (now (text .entry))) r ⌝ }
 {
     let spots = blank_spots();

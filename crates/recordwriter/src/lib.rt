@@ -13,6 +13,7 @@ ghost use mathlib.Core.Path.{_≡_};
 ghost use Prim.Native.Nat.{_≤_};
 ghost use lib.Dec.{leb};
 ghost use lib.ListN.{length, getD};
+ghost use Rattle.model.specs.Limits.{mostBytes};
 ghost use Rattle.decimal.specs.Held.{Wrote};
 ghost use Rattle.model.specs.Meaning.{least, firstOf, blankSpot, recordOf};
 ghost use Rattle.grammar.specs.Words.{itemsText};
@@ -136,7 +137,7 @@ pub fn test_record(r: Record) -> Tested
 
 // A record whose test is passed: refused where the buffer is shorter than its text.
 fn write_passed(r: Record, out: &mut [u8]) -> WriteAnswer
-    requires { ⌜ length (recordText (recordOf r)) ≤ 16384 ⌝ }
+    requires { ⌜ length (recordText (recordOf r)) ≤ mostBytes ⌝ }
     ensures { λ a. ⌜ record { answer = answerOf a; buffer = now (out .exit) } ≡ fit (leb (length (recordText (recordOf r))) (length (now (out .entry)))) (recordText (recordOf r)) (now (out .entry)) ⌝ }
 {
     let mut none = [0u8; 1];
