@@ -116,14 +116,18 @@ withPin c p = record { die = c .die; fixes = c .fixes; macs = c .macs; nets = ad
 abbrev pub after : Word → Chip → Step Part
 after w c = next (record { last = w; chip = c })
 
--- what a line with that word and the values zs adds, and its last tests: no such macro 8; fix leaves the die 9; fix overlaps an earlier fix 10
+-- what a fix adds, and its last tests: fix leaves the die 9; fix overlaps an earlier fix 10
+abbrev pub addFix : Part → Fix → Step Part
+addFix s f =
+    check (fixInDie (s .chip .die) f) 9
+    (check (clearOf f (s .chip .fixes)) 10
+    (after word.Fix (withFix (s .chip) f)))
+
+-- what a line with that word and the values zs adds, and its last tests: those of a fix; no such macro 8
 abbrev pub add : Part → Word → List ℤ → Step Part
 add s word.Nothing zs = fault 2
 add s word.Die zs = after word.Die (withDie (s .chip) (dieOf zs))
-add s word.Fix zs =
-    check (fixInDie (s .chip .die) (fixOf zs)) 9
-    (check (clearOf (fixOf zs) (s .chip .fixes)) 10
-    (after word.Fix (withFix (s .chip) (fixOf zs))))
+add s word.Fix zs = addFix s (fixOf zs)
 add s word.Mac zs = after word.Mac (withMac (s .chip) (macOf zs))
 add s word.Net zs = after word.Net (withNet (s .chip) (netOf zs))
 add s word.Pin zs =

@@ -11,8 +11,8 @@ use Rattle.decimal.specs.Held.{Wrote}
 use Rattle.model.specs.declared.Word.the-variants as word
 use Rattle.model.specs.declared.Net.{Net as HeldNet}
 use Rattle.model.specs.declared.Pin.{Pin as HeldPin}
-use Rattle.model.specs.Meaning.{Net, firstOf, blankNet, blankPin, pinsOf, netsOf}
-use Rattle.model.proofs.Nets.{taken, taken-snoc, nets-snoc}
+use Rattle.model.specs.Meaning.{Net, firstOf, blankNet, blankPin, pinsOf, netsOf, taken}
+use Rattle.model.proofs.Nets.{taken-snoc, nets-snoc}
 use Rattle.grammar.specs.Words.{Item, itemText, itemsText}
 use Rattle.chip.specs.Text.{pinItem, netItem, netItems}
 use Rattle.linewriter.specs.Shown.{shownOf}

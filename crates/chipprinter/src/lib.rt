@@ -9,6 +9,7 @@ ghost use mathlib.Core.Path.{_≡_};
 ghost use mathlib.Core.List.{map};
 ghost use Prim.Native.Nat.{_+_, _≤_, min};
 ghost use lib.ListN.{getD, drop};
+ghost use Rattle.model.specs.Limits.{mostPins};
 ghost use Rattle.decimal.specs.Held.{Wrote};
 ghost use Rattle.model.specs.Meaning.{firstOf, blankFix, blankMac, blankNet, blankPin, pinsOf, netsOf, chipOf};
 ghost use Rattle.grammar.specs.Words.{itemsText};
@@ -86,7 +87,7 @@ fn pin_at(pins: [Pin; Pin::COUNT], i: usize) -> Pin
 
 // The same for the lines of the pins of a net, `count` of them from pin q on.
 fn put_pins(out: &mut [u8], at: usize, pins: [Pin; Pin::COUNT], q: usize, count: usize) -> usize
-    requires { ⌜ q ≤ 128 ⌝ }
+    requires { ⌜ q ≤ mostPins ⌝ }
     ensures { λ r. ⌜ Wrote (now (out .entry)) (now (out .exit)) (itemsText (map pinItem (pinsOf (firstOf blankPin count (drop q pins))))) at r ⌝ }
 {
     let n = linewriter::shown(count, Pin::COUNT - q);
@@ -136,10 +137,10 @@ fn put_nets(
     a
 }
 
-// The pin after `count` pins from pin q on, where the next net's pins begin; 128 past the end of the array.
+// The pin after `count` pins from pin q on, where the next net's pins begin; the array's end past it.
 fn past(q: usize, count: usize) -> usize
-    requires { ⌜ q ≤ 128 ⌝ }
-    ensures { λ r. ⌜ r ≡ min (q + count) 128 ⌝ }
+    requires { ⌜ q ≤ mostPins ⌝ }
+    ensures { λ r. ⌜ r ≡ min (q + count) mostPins ⌝ }
 {
     if count <= Pin::COUNT - q {
         q + count

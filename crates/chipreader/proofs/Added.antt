@@ -1,48 +1,47 @@
 -- What a line adds: the die, a fix, a macro, a net.
-use mathlib.Core.Path.{_≡_, refl, sym, ap, _∙_}
+use mathlib.Core.Path.{_≡_, refl, sym, ap, subst, _∙_}
 use mathlib.Core.Bool.{Bool, true, false, not, _||_, false≢true}
 use mathlib.Core.List.{List, [], _∷_, _++_}
-use Prim.Native.Nat.{ℕ, _+_, _≤_, _<_}
+use Prim.Native.Nat.{ℕ, _+_, _<_}
 use native.Mathlib.Omega.{arith}
-use lib.ListN.{length, getD, take, set, length-set}
+use lib.ListN.{length, getD, take, set}
 use borrow.Author.Tests.{not-true, not-false}
 use Rattle.model.specs.declared.Die.{Die}
+use Rattle.model.specs.declared.DieMade.{DieMade}
+use Rattle.model.specs.declared.DieMade.the-variants as die
 use Rattle.model.specs.declared.Fix.{Fix}
+use Rattle.model.specs.declared.FixMade.{FixMade}
+use Rattle.model.specs.declared.FixMade.the-variants as fix
 use Rattle.model.specs.declared.Mac.{Mac}
+use Rattle.model.specs.declared.MacMade.{MacMade}
+use Rattle.model.specs.declared.MacMade.the-variants as mac
 use Rattle.model.specs.declared.Net.{Net as HeldNet}
+use Rattle.model.specs.declared.NetMade.{NetMade}
+use Rattle.model.specs.declared.NetMade.the-variants as made
 use Rattle.model.specs.declared.Chip.{Chip as HeldChip}
 use Rattle.model.specs.declared.Word.{Word}
 use Rattle.model.specs.declared.Word.the-variants as word
-use Rattle.model.specs.Meaning.{Net, chipOf, firstOf, pinsOf, blankFix, blankMac, blankNet}
+use Rattle.model.specs.Meaning.{Net, chipOf, firstOf, pinsOf, blankFix, blankMac, blankNet, taken}
+use Rattle.model.specs.Made.{meantDie, makeDie, meantFix, makeFix, meantMac, makeMac, meantNet, makeNet}
+use Rattle.model.specs.Held.{Holds}
+use Rattle.model.specs.Limits.{mostFixes, mostMacs}
+use Rattle.model.proofs.Holding.{holds-more, holds-all, fits-in}
 use Rattle.model.proofs.FirstOf.{first-take, first-set}
-use Rattle.model.proofs.Nets.{taken, taken-snoc, nets-snoc}
+use Rattle.model.proofs.Nets.{taken-snoc, nets-snoc}
 use Rattle.grammar.specs.Words.{isWord}
-use Rattle.grammar.specs.Reading.{Step, fault, check}
 use Rattle.grammar.specs.Steps.{Entered}
+use Rattle.grammar.proofs.Made.{the-die, the-fix, the-mac, the-net}
 use Rattle.line.specs.Held.{valuesOf}
-use Rattle.chip.specs.Kind.{Part, chipKind, add, after, fixInDie, clearOf, withDie, withFix, withMac, withNet}
+use Rattle.chip.specs.Kind.{chipKind, addFix, add, after, fixInDie, clearOf, withDie, withMac, withNet}
 use Rattle.chipreader.specs.declared.State.{State}
 use Rattle.chipreader.specs.declared.Taken.{Taken}
-use Rattle.chipreader.specs.State.{Holds, Sound, partOf, withFault, withChip, TakenOk}
-use Rattle.chipreader.proofs.Values.{heldDie, heldFix, heldMac, die-values, fix-values, mac-values, net-values}
+use Rattle.chipreader.specs.State.{Sound, partOf, withFault, withChip, TakenOk}
+use Rattle.chipreader.proofs.Values.{heldDie, heldMac, die-values, fix-values, mac-values, net-values}
 use Rattle.chipreader.proofs.Entry.{fix-fits, mac-fits, net-fits}
-
-module _ {A : Type 0} {most n : ℕ} {items : List A} (h : Holds most n items) where
-  pub holds-more : (a : A) → n < most → Holds most (n + 1) (set items n a)
-  holds-more a l = record { few = omega arith; long = length-set items n a ∙ h .long }
-
-  pub holds-set : (i : ℕ) (a : A) → Holds most n (set items i a)
-  holds-set i a = record { few = h .few; long = length-set items i a ∙ h .long }
-
-  holds-all : n ≤ length items
-  holds-all = omega (arith, h .few, h .long)
-
-  fits-in : n < most → n < length items
-  fits-in l = omega (arith, h .long)
 
 -- a line of a word that opens no net keeps the nets
 module _ (s : State) (sound : Sound s) (w : Word) (e : (isWord w word.Net || isWord w word.Pin) ≡ false) (d : Die) where
-  pub kept-sound : {k n : ℕ} {fs : List Fix} {ms : List Mac} → Holds 8 k fs → Holds 8 n ms → Sound (record { last = w; pins = s .pins; chip = record { die = d; k = k; fixes = fs; n = n; macs = ms; t = s .chip .t; nets = s .chip .nets; pins = s .chip .pins } })
+  pub kept-sound : {k n : ℕ} {fs : List Fix} {ms : List Mac} → Holds blankFix mostFixes k fs → Holds blankMac mostMacs n ms → Sound (record { last = w; pins = s .pins; chip = record { die = d; k = k; fixes = fs; n = n; macs = ms; t = s .chip .t; nets = s .chip .nets; pins = s .chip .pins } })
   kept-sound f m = record { fixes = f; macs = m; nets = sound .nets; pins = sound .pins; counted = sound .counted; opened = λ o. absurd (false≢true (sym e ∙ o)) }
 
 -- ---- the chip with one thing more
@@ -57,24 +56,24 @@ module _ (c : HeldChip) where
   abbrev holdMac : Mac → HeldChip
   holdMac m = record { die = c .die; k = c .k; fixes = c .fixes; n = c .n + 1; macs = set (c .macs) (c .n) m; t = c .t; nets = c .nets; pins = c .pins }
 
-  abbrev holdNet : ℕ → HeldChip
-  holdNet w = record { die = c .die; k = c .k; fixes = c .fixes; n = c .n; macs = c .macs; t = c .t + 1; nets = set (c .nets) (c .t) (record { weight = w; pins = 0 }); pins = c .pins }
+  abbrev holdNet : HeldNet → HeldChip
+  holdNet t = record { die = c .die; k = c .k; fixes = c .fixes; n = c .n; macs = c .macs; t = c .t + 1; nets = set (c .nets) (c .t) t; pins = c .pins }
 
 module _ (s : State) (v : List ℕ) (four : length v ≡ 4) (sound : Sound s) (r : Taken) (l : ℕ) where
-  pub die-added : r ≡ withChip s word.Die (holdDie (s .chip) (heldDie v)) → TakenOk r l (add (partOf s) word.Die (valuesOf word.Die v))
+  pub die-added : (m : DieMade) → meantDie m ≡ makeDie (getD v 0 0) (getD v 1 0) → (d : Die) → m ≡ die.Made d → r ≡ withChip s word.Die (holdDie (s .chip) d) → TakenOk r l (add (partOf s) word.Die (valuesOf word.Die v))
   unfolding chipOf
-  die-added e =
-      rw e
+  die-added m o d q e =
+      rw (e, the-die (getD v 0 0) (getD v 1 0) m o d q)
       (record {
         meant = ap (λ (d : Die). after word.Die (withDie (chipOf (s .chip)) d)) (sym (die-values v four));
         at = refl;
         sound = kept-sound s sound word.Die refl (heldDie v) (sound .fixes) (sound .macs);
       })
 
-  pub mac-added : Entered chipKind (partOf s) word.Mac → r ≡ withChip s word.Mac (holdMac (s .chip) (heldMac v)) → TakenOk r l (add (partOf s) word.Mac (valuesOf word.Mac v))
+  pub mac-added : Entered chipKind (partOf s) word.Mac → (m : MacMade) → meantMac m ≡ makeMac (getD v 0 0) (getD v 1 0) → (a : Mac) → m ≡ mac.Made a → r ≡ withChip s word.Mac (holdMac (s .chip) a) → TakenOk r l (add (partOf s) word.Mac (valuesOf word.Mac v))
   unfolding chipOf
-  mac-added p e =
-      rw e
+  mac-added p m o a q e =
+      rw (e, the-mac (getD v 0 0) (getD v 1 0) m o a q)
       (record {
         meant = rw (first-set blankMac (s .chip .n) (s .chip .macs) (heldMac v) (fits-in (sound .macs) fits)) (ap (λ (m : Mac). after word.Mac (withMac (chipOf (s .chip)) m)) (sym (mac-values v four)));
         at = refl;
@@ -84,10 +83,10 @@ module _ (s : State) (v : List ℕ) (four : length v ≡ 4) (sound : Sound s) (r
       fits : s .chip .n < 8
       fits = mac-fits s sound p
 
-  pub net-added : Entered chipKind (partOf s) word.Net → r ≡ withChip s word.Net (holdNet (s .chip) (getD v 0 0)) → TakenOk r l (add (partOf s) word.Net (valuesOf word.Net v))
+  pub net-added : Entered chipKind (partOf s) word.Net → (m : NetMade) → meantNet m ≡ makeNet (getD v 0 0) 0 → (t : HeldNet) → m ≡ made.Made t → r ≡ withChip s word.Net (holdNet (s .chip) t) → TakenOk r l (add (partOf s) word.Net (valuesOf word.Net v))
   unfolding chipOf pinsOf firstOf
-  net-added p e =
-      rw e
+  net-added p m o u q e =
+      rw (e, the-net (getD v 0 0) 0 m o u q)
       (record {
         meant = rw (one-more, nets-snoc nets net (s .chip .pins)) (ap (λ (w : ℕ). after word.Net (withNet (chipOf (s .chip)) (record { weight = w; pins = [] }))) (sym (net-values v four)));
         at = refl;
@@ -106,34 +105,33 @@ module _ (s : State) (v : List ℕ) (four : length v ≡ 4) (sound : Sound s) (r
       one-more : firstOf blankNet (s .chip .t + 1) (set (s .chip .nets) (s .chip .t) net) ≡ nets ++ (net ∷ [])
       one-more = first-set blankNet (s .chip .t) (s .chip .nets) net (fits-in (sound .nets) fits)
 
-  -- a fix passes two tests more
-  abbrev addFix : Fix → Step Part
-  addFix f = check (fixInDie (s .chip .die) f) 9 (check (clearOf f (firstOf blankFix (s .chip .k) (s .chip .fixes))) 10 (after word.Fix (withFix (chipOf (s .chip)) f)))
+  pub fix-made : (m : FixMade) → meantFix m ≡ makeFix (getD v 0 0) (getD v 1 0) (getD v 2 0) (getD v 3 0) → (f : Fix) → m ≡ fix.Made f → TakenOk r l (addFix (partOf s) f) → TakenOk r l (add (partOf s) word.Fix (valuesOf word.Fix v))
+  fix-made m o f q t =
+      subst (λ (g : Fix). TakenOk r l (addFix (partOf s) g)) (the-fix (getD v 0 0) (getD v 1 0) (getD v 2 0) (getD v 3 0) m o f q ∙ sym (fix-values v four)) t
 
-  step-fix : (t : Step Part) → t ≡ addFix (heldFix v) → t ≡ add (partOf s) word.Fix (valuesOf word.Fix v)
+-- a fix passes two tests more
+module _ (s : State) (f : Fix) (sound : Sound s) (r : Taken) (l : ℕ) (inside : Bool) (i : inside ≡ fixInDie (s .chip .die) f) where
+  pub fix-leaves : not inside ≡ true → r ≡ withFault s (record { no = 9; line = l }) → TakenOk r l (addFix (partOf s) f)
   unfolding chipOf
-  step-fix t e = e ∙ ap addFix (sym (fix-values v four))
+  fix-leaves h e = rw e (record { meant = rw (← i, not-true inside h); at = refl; sound = sound })
 
-  module _ (inside : Bool) (i : inside ≡ fixInDie (s .chip .die) (heldFix v)) where
-    pub fix-leaves : not inside ≡ true → r ≡ withFault s (record { no = 9; line = l }) → TakenOk r l (add (partOf s) word.Fix (valuesOf word.Fix v))
-    fix-leaves h e = rw e (record { meant = step-fix (fault 9) (rw (← i, not-true inside h)); at = refl; sound = sound })
+  module _ (stays : not inside ≡ false) (clear : Bool) (c : clear ≡ clearOf f (take (s .chip .k) (s .chip .fixes))) where
+    tested : clear ≡ clearOf f (firstOf blankFix (s .chip .k) (s .chip .fixes))
+    tested = rw (first-take blankFix (s .chip .k) (s .chip .fixes) (holds-all (sound .fixes))) c
 
-    module _ (stays : not inside ≡ false) (clear : Bool) (c : clear ≡ clearOf (heldFix v) (take (s .chip .k) (s .chip .fixes))) where
-      tested : clear ≡ clearOf (heldFix v) (firstOf blankFix (s .chip .k) (s .chip .fixes))
-      tested = rw (first-take blankFix (s .chip .k) (s .chip .fixes) (holds-all (sound .fixes))) c
+    pub fix-overlaps : not clear ≡ true → r ≡ withFault s (record { no = 10; line = l }) → TakenOk r l (addFix (partOf s) f)
+    unfolding chipOf
+    fix-overlaps h e = rw e (record { meant = rw (← i, not-false inside stays, ← tested, not-true clear h); at = refl; sound = sound })
 
-      pub fix-overlaps : not clear ≡ true → r ≡ withFault s (record { no = 10; line = l }) → TakenOk r l (add (partOf s) word.Fix (valuesOf word.Fix v))
-      fix-overlaps h e = rw e (record { meant = step-fix (fault 10) (rw (← i, not-false inside stays, ← tested, not-true clear h)); at = refl; sound = sound })
-
-      pub fix-added : not clear ≡ false → Entered chipKind (partOf s) word.Fix → r ≡ withChip s word.Fix (holdFix (s .chip) (heldFix v)) → TakenOk r l (add (partOf s) word.Fix (valuesOf word.Fix v))
-      unfolding chipOf
-      fix-added h p e =
-          rw e
-          (record {
-            meant = step-fix _ (rw (← i, not-false inside stays, ← tested, not-false clear h, first-set blankFix (s .chip .k) (s .chip .fixes) (heldFix v) (fits-in (sound .fixes) fits)));
-            at = refl;
-            sound = kept-sound s sound word.Fix refl (s .chip .die) (holds-more (sound .fixes) (heldFix v) fits) (sound .macs);
-          })
-        where
-          fits : s .chip .k < 8
-          fits = fix-fits s sound p
+    pub fix-added : not clear ≡ false → Entered chipKind (partOf s) word.Fix → r ≡ withChip s word.Fix (holdFix (s .chip) f) → TakenOk r l (addFix (partOf s) f)
+    unfolding chipOf
+    fix-added h p e =
+        rw e
+        (record {
+          meant = rw (← i, not-false inside stays, ← tested, not-false clear h, first-set blankFix (s .chip .k) (s .chip .fixes) f (fits-in (sound .fixes) fits));
+          at = refl;
+          sound = kept-sound s sound word.Fix refl (s .chip .die) (holds-more (sound .fixes) f fits) (sound .macs);
+        })
+      where
+        fits : s .chip .k < 8
+        fits = fix-fits s sound p

@@ -1,6 +1,6 @@
 -- The tests of a line before its fields: the first fault of them, and what a line that passes them has.
 use mathlib.Core.Path.{_≡_, refl, sym, _∙_}
-use mathlib.Core.Bool.{Bool, true, false, not, _||_}
+use mathlib.Core.Bool.{Bool, true, false, not, _&&_, _||_}
 use Prim.Native.Nat.{ℕ, _≤_, _<_}
 use lib.Dec.{eqb}
 use borrow.Author.Tests.{ne-eqb, ltb-true, not-true, not-false}
@@ -13,7 +13,7 @@ use Rattle.grammar.proofs.ByWord.{rank-below}
 use Rattle.grammar.proofs.Entry.{no-word as faulty-word, no-place as faulty-place, no-room as faulty-room, no-pin as faulty-pin, no-fault, in-place, has-room}
 use Rattle.chip.specs.Kind.{chipKind, followers, room}
 use Rattle.chipreader.specs.declared.State.{State}
-use Rattle.chipreader.specs.State.{partOf, mayFollow, Sound}
+use Rattle.chipreader.specs.State.{partOf, mayFollow, leftBare, Sound}
 use Rattle.chipreader.proofs.Follow.{in-followers, after-net}
 use Rattle.chipreader.proofs.Room.{room-fix, room-mac, room-net, room-pin}
 
@@ -40,21 +40,20 @@ module _ (s : State) (w : Word) (a b : ℕ) (last : a ≡ rank (s .last)) (own :
       pub no-space : not space ≡ true → 6 ≡ entryFault chipKind (partOf s) w
       no-space h = faulty-room chipKind (partOf s) w is-word (by-ranks ∙ not-false place placed) (sym r ∙ not-true space h)
 
-      module _ (spaced : not space ≡ false) where
-        pinned : (not (eqb (rank (s .last)) 4) || eqb (rank w) 5) ≡ (not (eqb a 4) || eqb b 5)
-        pinned = rw (last, own)
+      module _ (spaced : not space ≡ false) (bare : Bool) (n : bare ≡ leftBare a b) where
+        pinned : (not (eqb (rank (s .last)) 4) || eqb (rank w) 5) ≡ not bare
+        pinned = rw (n, last, own) (by (eqb (rank (s .last)) 4) (eqb (rank w) 5))
+          where
+            by : (p q : Bool) → (not p || q) ≡ not (p && not q)
+            by true true = refl
+            by true false = refl
+            by false q = refl
 
-        passes : (not (eqb a 4) || eqb b 5) ≡ true → 0 ≡ entryFault chipKind (partOf s) w
-        passes e = no-fault chipKind (partOf s) w is-word (by-ranks ∙ not-false place placed) (sym r ∙ not-false space spaced) (pinned ∙ e)
+        pub no-pin : bare ≡ true → 7 ≡ entryFault chipKind (partOf s) w
+        no-pin h = faulty-pin chipKind (partOf s) w is-word (by-ranks ∙ not-false place placed) (sym r ∙ not-false space spaced) (pinned ∙ rw h)
 
-        pub no-pin : a ≡ 4 → (b ≡ 5 → ⊥) → 7 ≡ entryFault chipKind (partOf s) w
-        no-pin h n = faulty-pin chipKind (partOf s) w is-word (by-ranks ∙ not-false place placed) (sym r ∙ not-false space spaced) (pinned ∙ rw (h, ne-eqb b 5 n))
-
-        pub own-pin : a ≡ 4 → b ≡ 5 → 0 ≡ entryFault chipKind (partOf s) w
-        own-pin h n = passes (rw (h, n))
-
-        pub no-net : (a ≡ 4 → ⊥) → 0 ≡ entryFault chipKind (partOf s) w
-        no-net n = passes (rw (ne-eqb a 4 n))
+        pub no-net : bare ≡ false → 0 ≡ entryFault chipKind (partOf s) w
+        no-net h = no-fault chipKind (partOf s) w is-word (by-ranks ∙ not-false place placed) (sym r ∙ not-false space spaced) (pinned ∙ rw h)
 
 -- ---- a line that passes
 
@@ -73,3 +72,11 @@ module _ (s : State) (sound : Sound s) where
 
   pub net-open : Entered chipKind (partOf s) word.Pin → 1 ≤ s .chip .t
   net-open e = sound .opened (sym (after-net (s .last)) ∙ in-place chipKind (partOf s) word.Pin e)
+
+-- ---- the net above
+
+pub not-after : (a b : ℕ) → (a ≡ 4 → ⊥) → false ≡ leftBare a b
+not-after a b h = rw (ne-eqb a 4 h)
+
+pub after-bare : (a b : ℕ) → a ≡ 4 → not (eqb b 5) ≡ leftBare a b
+after-bare a b h = rw h

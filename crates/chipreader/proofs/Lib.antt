@@ -8,3 +8,4 @@ pub mod Item
 pub mod OneLine
 pub mod Lines
 pub mod Passing
+pub mod MadeOf

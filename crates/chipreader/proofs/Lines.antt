@@ -1,5 +1,5 @@
 -- Reading line by line: what is left to read, and each end of the reading.
-use mathlib.Core.Path.{_≡_, refl, ap}
+use mathlib.Core.Path.{_≡_, refl, sym, ap}
 use mathlib.Core.Bool.{false≢true}
 use mathlib.Core.List.{List}
 use Prim.Native.Nat.{ℕ, _+_, _-_, _≤_, _<_}
@@ -9,8 +9,10 @@ use borrow.Author.Tests.{ne-eqb}
 use Rattle.model.specs.declared.Chip.{Chip as HeldChip}
 use Rattle.model.specs.declared.Word.the-variants as word
 use Rattle.model.specs.declared.Refusal.{Refusal}
-use Rattle.model.specs.Meaning.{Chip, chipOf, firstOf, netsOf}
-use Rattle.model.proofs.Nets.{taken}
+use Rattle.model.specs.Meaning.{Chip, chipOf, firstOf, netsOf, taken, blankFix, blankMac, blankNet, blankPin}
+use Rattle.model.specs.Limits.{mostFixes, mostMacs, mostNets, mostPins}
+use Rattle.model.proofs.Holding.{holds-none}
+use Rattle.model.proofs.HeldAgain.{held-again}
 use Rattle.grammar.specs.Words.{rank}
 use Rattle.grammar.specs.Reading.{Reading, refused, stepBytes, stepLine, ending}
 use Rattle.grammar.specs.Steps.{lineEnd, lineAt}
@@ -28,7 +30,7 @@ use Rattle.chipreader.specs.State.{Sound, partOf, withFault, TakenOk}
 use Rattle.chipreader.specs.Answer.{blankChip, refusedAt, ReadOk}
 
 pub refuses : (r : ChipRead) (f : Refusal) (read : Reading Chip) → r ≡ refusedAt f → refused (f .no) (f .line) ≡ read → ReadOk read r
-refuses r f read e q = rw e (record { meant = q; blank = refl })
+refuses r f read e q = rw (e, ← q) (record { meant = refl; whole = refl })
 
 -- ---- before the first line
 
@@ -48,10 +50,10 @@ module _ (c : HeldChip) (e : c ≡ blankChip) where
   empty-sound =
       rw e
       (record {
-        fixes = record { few = omega arith; long = refl };
-        macs = record { few = omega arith; long = refl };
-        nets = record { few = omega arith; long = refl };
-        pins = record { few = omega arith; long = refl };
+        fixes = holds-none blankFix mostFixes;
+        macs = holds-none blankMac mostMacs;
+        nets = holds-none blankNet mostNets;
+        pins = holds-none blankPin mostPins;
         counted = refl;
         opened = λ o. absurd (false≢true o);
       })
@@ -82,8 +84,12 @@ unfolding readChip
 all-read text s a line left h r ok = rw (text-ends chipKind start text (partOf s) a line left h) ok
 
 module _ (s : State) (line b : ℕ) (own : b ≡ rank (s .last)) where
-  pub complete : b ≡ 6 → ReadOk (chipRead (ending chipKind (chipKind .complete (partOf s)) (partOf s) line)) (record { answer = answer.Accepted; chip = s .chip })
-  complete e = record { meant = rw (← own, e); blank = refl }
+  pub complete : Sound s → b ≡ 6 → ReadOk (chipRead (ending chipKind (chipKind .complete (partOf s)) (partOf s) line)) (record { answer = answer.Accepted; chip = s .chip })
+  complete sound e =
+      record {
+        meant = rw (← own, e);
+        whole = rw (← own, e) (ap (λ (c : HeldChip). record { answer = answer.Accepted; chip = c }) (sym (held-again (s .chip) (s .pins) (sound .fixes) (sound .macs) (sound .nets) (sound .pins) (sound .counted))));
+      }
 
   pub not-complete : (b ≡ 6 → ⊥) → refused 5 line ≡ chipRead (ending chipKind (chipKind .complete (partOf s)) (partOf s) line)
   not-complete d = rw (← own, ne-eqb b 6 d)

@@ -11,13 +11,18 @@ use mir.Val.{Fits}
 use borrow.Author.Tests.{le-leb, lt-leb}
 use Rattle.model.specs.declared.Net.{Net as HeldNet}
 use Rattle.model.specs.declared.Pin.{Pin as HeldPin}
+use Rattle.model.specs.declared.PinMade.{PinMade}
+use Rattle.model.specs.declared.PinMade.the-variants as pin
 use Rattle.model.specs.declared.Chip.{Chip as HeldChip}
 use Rattle.model.specs.declared.Word.the-variants as word
-use Rattle.model.specs.Meaning.{Pin, Net, chipOf, firstOf, netsOf, pinOf, pinsOf, blankNet, blankPin}
+use Rattle.model.specs.Meaning.{Pin, Net, chipOf, firstOf, netsOf, pinOf, pinsOf, blankNet, blankPin, taken}
+use Rattle.model.specs.Made.{meantPin, remakePin}
+use Rattle.model.proofs.Holding.{holds-more, holds-set}
 use Rattle.model.proofs.FirstOf.{first-suc, first-set}
-use Rattle.model.proofs.Nets.{taken, taken-snoc, nets-snoc, nets-kept, pins-append}
+use Rattle.model.proofs.Nets.{taken-snoc, nets-snoc, nets-kept, pins-append}
 use Rattle.grammar.specs.Reading.{Step, fault, check}
 use Rattle.grammar.specs.Steps.{Entered}
+use Rattle.grammar.proofs.Made.{the-pin}
 use Rattle.line.specs.Held.{valuesOf}
 use Rattle.chip.specs.Kind.{Part, chipKind, add, addPin, after, withPin}
 use Rattle.chipreader.specs.declared.State.{State}
@@ -27,7 +32,6 @@ use Rattle.chipreader.specs.State.{Sound, partOf, withFault, TakenOk}
 use Rattle.chipreader.proofs.Values.{heldPin, pin-values}
 use Rattle.chipreader.proofs.Room.{mac-count}
 use Rattle.chipreader.proofs.Entry.{pin-fits, net-open}
-use Rattle.chipreader.proofs.Added.{holds-more, holds-set}
 
 abbrev onePin : HeldNet → HeldNet
 onePin u = record { weight = u .weight; pins = u .pins + 1 }
@@ -90,23 +94,23 @@ module _ (s : State) (sound : Sound s) (entered : Entered chipKind (partOf s) wo
     pub no-macro : (r : Taken) → s .chip .n < getD v 0 0 → r ≡ withFault s (record { no = 8; line = l }) → TakenOk r l (add (partOf s) word.Pin (valuesOf word.Pin v))
     no-macro r h e = rw e (record { meant = step-pin (fault 8) (rw (mac-count s sound, lt-leb _ _ h)); at = refl; sound = sound })
 
-    abbrev holdPin : HeldChip
-    holdPin = record { die = s .chip .die; k = s .chip .k; fixes = s .chip .fixes; n = s .chip .n; macs = s .chip .macs; t = s .chip .t; nets = set (s .chip .nets) place (onePin net); pins = set (s .chip .pins) (s .pins) (heldPin v) }
+    abbrev holdPin : HeldPin → HeldChip
+    holdPin p = record { die = s .chip .die; k = s .chip .k; fixes = s .chip .fixes; n = s .chip .n; macs = s .chip .macs; t = s .chip .t; nets = set (s .chip .nets) place (onePin net); pins = set (s .chip .pins) (s .pins) p }
 
-    nets-with : netsOf (firstOf blankNet (s .chip .t) (set (s .chip .nets) place (onePin net))) (set (s .chip .pins) (s .pins) (heldPin v)) ≡ addPin (pinOf (heldPin v)) (netsOf (firstOf blankNet (s .chip .t) (s .chip .nets)) (s .chip .pins))
-    nets-with = rw (last-pinned, last-net, ← all-pins) (nets-pin before net (s .chip .pins) (heldPin v) (omega (arith, all-pins, pin-fits s sound entered, sound .pins .long)))
+    nets-with : (p : HeldPin) → netsOf (firstOf blankNet (s .chip .t) (set (s .chip .nets) place (onePin net))) (set (s .chip .pins) (s .pins) p) ≡ addPin (pinOf p) (netsOf (firstOf blankNet (s .chip .t) (s .chip .nets)) (s .chip .pins))
+    nets-with p = rw (last-pinned, last-net, ← all-pins) (nets-pin before net (s .chip .pins) p (omega (arith, all-pins, pin-fits s sound entered, sound .pins .long)))
 
-    pub pin-added : getD v 0 0 ≤ s .chip .n → TakenOk (record { fault = held.Clear; state = record { last = word.Pin; pins = s .pins + 1; chip = holdPin } }) l (add (partOf s) word.Pin (valuesOf word.Pin v))
+    pub pin-added : getD v 0 0 ≤ s .chip .n → (m : PinMade) → meantPin m ≡ remakePin (heldPin v) → (p : HeldPin) → m ≡ pin.Made p → TakenOk (record { fault = held.Clear; state = record { last = word.Pin; pins = s .pins + 1; chip = holdPin p } }) l (add (partOf s) word.Pin (valuesOf word.Pin v))
     unfolding chipOf
-    pin-added h =
+    pin-added h m o p q =
         record {
-          meant = step-pin _ (rw (mac-count s sound, le-leb _ _ h, nets-with));
+          meant = step-pin _ (rw (← the-pin (heldPin v) m o p q, mac-count s sound, le-leb _ _ h, nets-with p));
           at = refl;
           sound = record {
             fixes = sound .fixes;
             macs = sound .macs;
-            nets = holds-set (sound .nets) place (onePin net);
-            pins = holds-more (sound .pins) (heldPin v) (pin-fits s sound entered);
+            nets = holds-set (sound .nets) place (onePin net) (omega (arith, net-open s sound entered));
+            pins = holds-more (sound .pins) p (pin-fits s sound entered);
             counted = ap taken last-pinned ∙ taken-snoc before (onePin net) ∙ omega (arith, all-pins);
             opened = λ o. net-open s sound entered;
           };

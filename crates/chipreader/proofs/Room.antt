@@ -9,12 +9,13 @@ use Rattle.model.specs.declared.Word.{Word}
 use Rattle.model.specs.declared.Word.the-variants as word
 use Rattle.model.specs.declared.Net.{Net}
 use Rattle.model.specs.declared.Pin.{Pin}
-use Rattle.model.specs.Meaning.{chipOf, netsOf, firstOf, blankFix, blankMac, blankNet, blankPin}
+use Rattle.model.specs.Meaning.{chipOf, netsOf, firstOf, blankFix, blankMac, blankNet, blankPin, taken}
+use Rattle.model.specs.Held.{Holds}
 use Rattle.model.proofs.FirstOf.{length-first}
-use Rattle.model.proofs.Nets.{taken, length-nets, length-pins}
+use Rattle.model.proofs.Nets.{length-nets, length-pins}
 use Rattle.chip.specs.Kind.{room, pinCount}
 use Rattle.chipreader.specs.declared.State.{State}
-use Rattle.chipreader.specs.State.{Holds, Sound}
+use Rattle.chipreader.specs.State.{Sound}
 
 pin-count : (ts : List Net) (ps : List Pin) → taken ts ≤ length ps → pinCount (netsOf ts ps) ≡ taken ts
 unfolding taken netsOf pinCount
@@ -22,7 +23,7 @@ pin-count [] ps h = refl
 pin-count (t ∷ ts) ps h =
     rw (length-pins (firstOf blankPin (t .pins) ps), length-first blankPin (t .pins) ps (omega arith), pin-count ts (drop (t .pins) ps) (rw length-drop (omega arith)))
 
-count : {A : Type 0} (z : A) {most n : ℕ} {items : List A} → Holds most n items → length (firstOf z n items) ≡ n
+count : {A : Type 0} (z : A) {most n : ℕ} {items : List A} → Holds z most n items → length (firstOf z n items) ≡ n
 count z {most = most} {n = n} {items = items} h = length-first z n items (omega (arith, h .few, h .long))
 
 module _ (s : State) (sound : Sound s) where

@@ -4,6 +4,7 @@ use lib.ListN.{replicate}
 use Rattle.model.specs.declared.Refusal.{Refusal}
 use Rattle.model.specs.declared.Chip.{Chip as HeldChip}
 use Rattle.model.specs.Meaning.{Chip, chipOf, blankFix, blankMac, blankNet, blankPin}
+use Rattle.model.specs.Held.{heldChip}
 use Rattle.model.specs.Limits.{mostFixes, mostMacs, mostNets, mostPins}
 use Rattle.grammar.specs.Reading.{Reading, accepted, refused}
 use Rattle.chipreader.specs.declared.ChipAnswer.{ChipAnswer}
@@ -32,16 +33,16 @@ meant (answer.Refused f) c = refused (f .no) (f .line)
 abbrev pub meantChip : ChipRead → Reading Chip
 meantChip r = meant (r .answer) (r .chip)
 
--- the chip after a refusal; where there is none, a blank one
-abbrev pub afterRefusal : ChipAnswer → HeldChip → HeldChip
-afterRefusal answer.Accepted c = blankChip
-afterRefusal (answer.Refused f) c = c
-
 -- the refusal f, with a blank chip
 abbrev pub refusedAt : Refusal → ChipRead
 refusedAt f = record { answer = answer.Refused f; chip = blankChip }
 
+-- the whole answer for a text that is read so
+abbrev pub chipAnswer : Reading Chip → ChipRead
+chipAnswer (accepted c) = record { answer = answer.Accepted; chip = heldChip c }
+chipAnswer (refused n l) = refusedAt (record { no = n; line = l })
+
 -- r is the answer for a text that is read so
 pub record ReadOk (read : Reading Chip) (r : ChipRead) : Type 0 where
   pub meant : meantChip r ≡ read
-  pub blank : afterRefusal (r .answer) (r .chip) ≡ blankChip
+  pub whole : r ≡ chipAnswer read

@@ -2,15 +2,15 @@
 use Prim.Native.Nat.{ℕ, _≤_}
 use mathlib.Core.Path.{_≡_}
 use mathlib.Core.List.{List, [], _∷_}
-use mathlib.Core.Bool.{Bool, true, _&&_, _||_}
-use lib.ListN.{length, getD}
-use lib.Dec.{leb}
+use mathlib.Core.Bool.{Bool, true, not, _&&_, _||_}
+use lib.ListN.{getD}
+use lib.Dec.{leb, eqb}
 use Rattle.model.specs.declared.Word.{Word}
 use Rattle.model.specs.declared.Word.the-variants as word
 use Rattle.model.specs.declared.Refusal.{Refusal}
 use Rattle.model.specs.declared.Chip.{Chip}
-use Rattle.model.specs.Meaning.{chipOf, firstOf, blankNet}
-use Rattle.model.proofs.Nets.{taken}
+use Rattle.model.specs.Meaning.{chipOf, firstOf, blankFix, blankMac, blankNet, blankPin, taken}
+use Rattle.model.specs.Held.{Holds}
 use Rattle.model.specs.Limits.{mostFixes, mostMacs, mostNets, mostPins}
 use Rattle.grammar.specs.Words.{isWord}
 use Rattle.grammar.specs.Reading.{Step, next, fault as faulty}
@@ -24,17 +24,12 @@ use Rattle.chipreader.specs.declared.Taken.{Taken}
 abbrev pub partOf : State → Part
 partOf s = record { last = s .last; chip = chipOf (s .chip) }
 
--- at most `most` items, in an array of that length
-pub record Holds {A : Type 0} (most count : ℕ) (items : List A) : Type 0 where
-  pub few : count ≤ most
-  pub long : length items ≡ most
-
--- the counts stay within the arrays, the pins are those that the nets take, and a net stands before a pin
+-- the counts stay within the arrays, whose entries past them are blank, the pins are those that the nets take, and a net stands before a pin
 pub record Sound (s : State) : Type 0 where
-  pub fixes : Holds mostFixes (s .chip .k) (s .chip .fixes)
-  pub macs : Holds mostMacs (s .chip .n) (s .chip .macs)
-  pub nets : Holds mostNets (s .chip .t) (s .chip .nets)
-  pub pins : Holds mostPins (s .pins) (s .chip .pins)
+  pub fixes : Holds blankFix mostFixes (s .chip .k) (s .chip .fixes)
+  pub macs : Holds blankMac mostMacs (s .chip .n) (s .chip .macs)
+  pub nets : Holds blankNet mostNets (s .chip .t) (s .chip .nets)
+  pub pins : Holds blankPin mostPins (s .pins) (s .chip .pins)
   pub counted : taken (firstOf blankNet (s .chip .t) (s .chip .nets)) ≡ s .pins
   pub opened : (isWord (s .last) word.Net || isWord (s .last) word.Pin) ≡ true → 1 ≤ s .chip .t
 
@@ -48,6 +43,10 @@ mostLast = 0 ∷ 0 ∷ 2 ∷ 3 ∷ 5 ∷ 5 ∷ 5 ∷ 0 ∷ 0 ∷ 0 ∷ 0 ∷ []
 -- a word of rank b may stand after one of rank a
 abbrev pub mayFollow : ℕ → ℕ → Bool
 mayFollow a b = leb (getD leastLast b 0) a && leb a (getD mostLast b 0)
+
+-- a word of rank b right after `net`, of rank a, that is no `pin`
+abbrev pub leftBare : ℕ → ℕ → Bool
+leftBare a b = eqb a 4 && not (eqb b 5)
 
 -- what a line leads to, by its fault
 abbrev pub stepOf : Fault → State → Step Part

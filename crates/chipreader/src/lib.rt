@@ -3,26 +3,32 @@ use line::Fault;
 use line::Fields;
 use model::Chip;
 use model::Die;
+use model::DieMade;
 use model::Fix;
+use model::FixMade;
 use model::Mac;
+use model::MacMade;
 use model::Net;
+use model::NetMade;
 use model::Pin;
+use model::PinMade;
 use model::Refusal;
 use model::TEXT_MOST;
 use model::Word;
 ghost use mathlib.Core.Path.{_≡_};
+ghost use Rattle.model.specs.Limits.{mostBytes};
 ghost use Rattle.model.specs.Meaning.{chipOf};
 ghost use Prim.Native.Nat.{_≤_, _<_};
 ghost use lib.ListN.{length};
 ghost use Rattle.grammar.specs.Words.{rules};
 ghost use Rattle.grammar.specs.Line.{fields};
 ghost use Rattle.grammar.specs.Reading.{stepBytes, stepFields, stepLine, ending};
-ghost use Rattle.grammar.specs.Steps.{entryFault, Entered, lineEnd, lineAt};
+ghost use Rattle.grammar.specs.Steps.{entryFault, Entered, InRanges, lineEnd, lineAt};
 ghost use Rattle.line.specs.Held.{valuesOf};
-ghost use Rattle.chip.specs.Kind.{room, add, chipKind};
+ghost use Rattle.chip.specs.Kind.{room, addFix, add, chipKind};
 ghost use Rattle.chip.specs.Text.{chipRead, readChip};
-ghost use Rattle.chipreader.specs.State.{Sound, partOf, mayFollow, withFault, withChip, TakenOk};
-ghost use Rattle.chipreader.specs.Answer.{blankChip, refusedAt, meantChip, afterRefusal, ReadOk};
+ghost use Rattle.chipreader.specs.State.{Sound, partOf, mayFollow, leftBare, withFault, withChip, TakenOk};
+ghost use Rattle.chipreader.specs.Answer.{blankChip, refusedAt, meantChip, chipAnswer, ReadOk};
 
 // What reading a chip answers.
 pub enum ChipAnswer {
@@ -30,7 +36,7 @@ pub enum ChipAnswer {
     Refused(Refusal),
 }
 
-// The answer with the chip; after a refusal the chip is blank.
+// The answer with the chip; its entries past the counts are blank, and after a refusal the chip is.
 pub struct ChipRead {
     pub answer: ChipAnswer,
     pub chip: Chip,
@@ -104,6 +110,16 @@ fn has_room(s: State, w: Word) -> bool
     }
 }
 
+// Whether a word of rank b leaves the net above, of rank a, without a pin.
+fn pinless(a: usize, b: usize) -> bool
+    ensures { λ r. ⌜ r ≡ leftBare a b ⌝ }
+{
+    if a != 4 {
+        return false;
+    }
+    b != 5
+}
+
 // The first fault of a line before its fields: word 2, place 5, count 6, net without a pin 7; or 0.
 fn entry_fault(s: State, w: Word) -> usize
     requires { ⌜ Sound s ⌝ }
@@ -115,16 +131,17 @@ fn entry_fault(s: State, w: Word) -> usize
     if b == 0 {
         return 2;
     }
-    if !may_follow(a, b) {
+    let placed = may_follow(a, b);
+    let room = has_room(s, w);
+    let bare = pinless(a, b);
+    if !placed {
         return 5;
     }
-    if !has_room(s, w) {
+    if !room {
         return 6;
     }
-    if a == 4 {
-        if b != 5 {
-            return 7;
-        }
+    if bare {
+        return 7;
     }
     0
 }
@@ -153,36 +170,37 @@ fn with_chip(s: State, w: Word, chip: Chip) -> Taken
     }
 }
 
+// What a line adds is made by the constructors. The values that were read are in their ranges, so none refuses them.
+
 // What a `die` line adds: the die.
 fn add_die(s: State, v: [u64; 4], line: usize) -> Taken
     requires { ⌜ Sound s ⌝ }
+    requires { ⌜ InRanges Word.Die (valuesOf Word.Die v) ⌝ }
     ensures { λ r. ⌜ TakenOk r line (add (partOf s) Word.Die (valuesOf Word.Die v)) ⌝ }
 {
+    let DieMade::Made(die) = Die::new(v[0], v[1]) else {
+        return with_fault(s, Refusal { no: 4, line });
+    };
     let mut chip = s.chip;
-    let die = Die { w: v[0], h: v[1] };
     chip.die = die;
     with_chip(s, Word::Die, chip)
 }
 
-// What a `fix` line adds: a last fix. Fix leaves the die 9; fix overlaps an earlier fix 10.
-fn add_fix(s: State, v: [u64; 4], line: usize) -> Taken
+// What a fix adds: a last fix. Fix leaves the die 9; fix overlaps an earlier fix 10.
+fn put_fix(s: State, f: Fix, line: usize) -> Taken
     requires { ⌜ Sound s ⌝ }
     requires { ⌜ Entered chipKind (partOf s) Word.Fix ⌝ }
-    ensures { λ r. ⌜ TakenOk r line (add (partOf s) Word.Fix (valuesOf Word.Fix v)) ⌝ }
+    ensures { λ r. ⌜ TakenOk r line (addFix (partOf s) f) ⌝ }
 {
-    let f = Fix {
-        x: v[0],
-        y: v[1],
-        w: v[2],
-        h: v[3],
-    };
     let mut chip = s.chip;
     let k = chip.k;
     let fixes = chip.fixes;
-    if !chip::fix_in_die(chip.die, f) {
+    let inside = chip::fix_in_die(chip.die, f);
+    let clear = chip::clear_of_fixes(f, fixes, k);
+    if !inside {
         return with_fault(s, Refusal { no: 9, line });
     }
-    if !chip::clear_of_fixes(f, fixes, k) {
+    if !clear {
         return with_fault(s, Refusal { no: 10, line });
     }
     chip.fixes[k] = f;
@@ -190,15 +208,32 @@ fn add_fix(s: State, v: [u64; 4], line: usize) -> Taken
     with_chip(s, Word::Fix, chip)
 }
 
+// What a `fix` line adds.
+fn add_fix(s: State, v: [u64; 4], line: usize) -> Taken
+    requires { ⌜ Sound s ⌝ }
+    requires { ⌜ InRanges Word.Fix (valuesOf Word.Fix v) ⌝ }
+    requires { ⌜ Entered chipKind (partOf s) Word.Fix ⌝ }
+    ensures { λ r. ⌜ TakenOk r line (add (partOf s) Word.Fix (valuesOf Word.Fix v)) ⌝ }
+{
+    let FixMade::Made(f) = Fix::new(v[0], v[1], v[2], v[3]) else {
+        return with_fault(s, Refusal { no: 4, line });
+    };
+    put_fix(s, f, line)
+}
+
 // What a `mac` line adds: a last macro.
 fn add_mac(s: State, v: [u64; 4], line: usize) -> Taken
     requires { ⌜ Sound s ⌝ }
+    requires { ⌜ InRanges Word.Mac (valuesOf Word.Mac v) ⌝ }
     requires { ⌜ Entered chipKind (partOf s) Word.Mac ⌝ }
     ensures { λ r. ⌜ TakenOk r line (add (partOf s) Word.Mac (valuesOf Word.Mac v)) ⌝ }
 {
+    let MacMade::Made(mac) = Mac::new(v[0], v[1]) else {
+        return with_fault(s, Refusal { no: 4, line });
+    };
     let mut chip = s.chip;
     let n = chip.n;
-    chip.macs[n] = Mac { w: v[0], h: v[1] };
+    chip.macs[n] = mac;
     chip.n = n + 1;
     with_chip(s, Word::Mac, chip)
 }
@@ -206,15 +241,16 @@ fn add_mac(s: State, v: [u64; 4], line: usize) -> Taken
 // What a `net` line adds: a last net, without pins.
 fn add_net(s: State, v: [u64; 4], line: usize) -> Taken
     requires { ⌜ Sound s ⌝ }
+    requires { ⌜ InRanges Word.Net (valuesOf Word.Net v) ⌝ }
     requires { ⌜ Entered chipKind (partOf s) Word.Net ⌝ }
     ensures { λ r. ⌜ TakenOk r line (add (partOf s) Word.Net (valuesOf Word.Net v)) ⌝ }
 {
+    let NetMade::Made(net) = Net::new(v[0], 0) else {
+        return with_fault(s, Refusal { no: 4, line });
+    };
     let mut chip = s.chip;
     let t = chip.t;
-    chip.nets[t] = Net {
-        weight: v[0],
-        pins: 0,
-    };
+    chip.nets[t] = net;
     chip.t = t + 1;
     with_chip(s, Word::Net, chip)
 }
@@ -222,10 +258,14 @@ fn add_net(s: State, v: [u64; 4], line: usize) -> Taken
 // What a `pin` line adds: a last pin of the last net. No such macro 8.
 fn add_pin(s: State, v: [u64; 4], line: usize) -> Taken
     requires { ⌜ Sound s ⌝ }
+    requires { ⌜ InRanges Word.Pin (valuesOf Word.Pin v) ⌝ }
     requires { ⌜ Entered chipKind (partOf s) Word.Pin ⌝ }
     ensures { λ r. ⌜ TakenOk r line (add (partOf s) Word.Pin (valuesOf Word.Pin v)) ⌝ }
 {
     let m = v[0] as usize;
+    let PinMade::Made(pin) = Pin::held(m, v[1], v[2]) else {
+        return with_fault(s, Refusal { no: 4, line });
+    };
     let mut chip = s.chip;
     if chip.n < m {
         return with_fault(s, Refusal { no: 8, line });
@@ -237,11 +277,7 @@ fn add_pin(s: State, v: [u64; 4], line: usize) -> Taken
         weight: net.weight,
         pins: net.pins + 1,
     };
-    chip.pins[q] = Pin {
-        m,
-        xup: v[1],
-        yup: v[2],
-    };
+    chip.pins[q] = pin;
     Taken {
         fault: Fault::Clear,
         state: State {
@@ -255,6 +291,7 @@ fn add_pin(s: State, v: [u64; 4], line: usize) -> Taken
 // What a line with the word w and the values v adds, or its fault.
 fn add_item(s: State, w: Word, v: [u64; 4], line: usize) -> Taken
     requires { ⌜ Sound s ⌝ }
+    requires { ⌜ InRanges w (valuesOf w v) ⌝ }
     requires { ⌜ Entered chipKind (partOf s) w ⌝ }
     ensures { λ r. ⌜ TakenOk r line (add (partOf s) w (valuesOf w v)) ⌝ }
 {
@@ -327,6 +364,7 @@ fn refused(f: Refusal) -> ChipRead
 
 // The end of the text, where line `line` would begin: `end` must stand before it.
 fn finish(s: State, line: usize) -> ChipRead
+    requires { ⌜ Sound s ⌝ }
     ensures { λ r. ⌜ ReadOk (chipRead (ending chipKind (chipKind .complete (partOf s)) (partOf s) line)) r ⌝ }
 {
     let last = s.last;
@@ -342,7 +380,7 @@ fn finish(s: State, line: usize) -> ChipRead
 
 // The lines of a text that is not too long.
 fn read_lines(text: &[u8]) -> ChipRead
-    requires { ⌜ length (now text) ≤ 16384 ⌝ }
+    requires { ⌜ length (now text) ≤ mostBytes ⌝ }
     ensures { λ r. ⌜ ReadOk (readChip (now (text .entry))) r ⌝ }
 {
     let mut s = State {
@@ -370,10 +408,10 @@ fn read_lines(text: &[u8]) -> ChipRead
     finish(s, line)
 }
 
-// The chip that a text means, or number and line of its refusal.
+// The chip that a text means, or number and line of its refusal: what the answer means, and the whole answer.
 pub fn read_chip(text: &[u8]) -> ChipRead
     ensures { λ r. ⌜ meantChip r ≡ readChip (now (text .entry)) ⌝ }
-    ensures { λ r. ⌜ afterRefusal (r .answer) (r .chip) ≡ blankChip ⌝ }
+    ensures { λ r. ⌜ r ≡ chipAnswer (readChip (now (text .entry))) ⌝ }
 {
     if TEXT_MOST < text.len() {
         return refused(Refusal { no: 1, line: 0 });

@@ -1,39 +1,69 @@
 -- Tests one after the other, in the form of the needs of the functions that make them.
-use mathlib.Core.Path.{_≡_, refl, sym, _∙_}
-use mathlib.Core.Bool.{Bool, true, false, not, _&&_, and-true}
+use mathlib.Core.Path.{_≡_, refl, sym}
+use mathlib.Core.Bool.{Bool, true, false, not}
 use mathlib.Core.List.{List}
 use Prim.Native.Nat.{ℕ, zero, suc, _-_, _≤_, _<_}
-use native.Mathlib.Decide.{decLe, decLt}
 use native.Mathlib.Omega.{arith}
 use lib.Dec.{leb, ltb, eqb}
-use lib.IntN.{subℕ, pos, negsuc}
 use lib.ListN.{getD}
 use borrow.Author.Tests.{le-leb, lt-leb, lt-ltb, le-ltb, not-true, not-false}
+use Rattle.model.specs.declared.Die.{Die}
+use Rattle.model.specs.declared.DieMade.{DieMade}
+use Rattle.model.specs.declared.DieMade.the-variants as die
+use Rattle.model.specs.declared.Fix.{Fix}
+use Rattle.model.specs.declared.FixMade.{FixMade}
+use Rattle.model.specs.declared.FixMade.the-variants as fix
+use Rattle.model.specs.declared.Mac.{Mac}
+use Rattle.model.specs.declared.MacMade.{MacMade}
+use Rattle.model.specs.declared.MacMade.the-variants as mac
 use Rattle.model.specs.declared.Net.{Net as HeldNet}
-use Rattle.model.specs.Meaning.{blankNet}
-use Rattle.grammar.specs.Line.{field, inRange}
+use Rattle.model.specs.declared.NetMade.{NetMade}
+use Rattle.model.specs.declared.NetMade.the-variants as net
+use Rattle.model.specs.declared.Pin.{Pin as HeldPin}
+use Rattle.model.specs.declared.PinMade.{PinMade}
+use Rattle.model.specs.declared.PinMade.the-variants as pin
+use Rattle.model.specs.Meaning.{blankNet, pinOf}
+use Rattle.model.specs.Made.{meantDie, makeDie, meantFix, makeFix, meantMac, makeMac, meantNet, makeNet, meantPin, remakePin}
 use Rattle.grammar.specs.Steps.{need}
-use Rattle.chipwriter.specs.Tests.{bareBefore}
+use Rattle.grammar.proofs.Made.{no-die, a-die, no-fix, a-fix, no-mac, a-mac, no-net, a-net, no-pin, a-pin}
+use Rattle.chip.specs.Text.{dieItem, fixItem, macItem, pinItem}
+use Rattle.chipwriter.specs.Tests.{inLimits, weightItem, bareBefore}
 
-pub last-test : (p r : Bool) → r ≡ p → r ≡ (p && true)
-last-test p r e = e ∙ sym (and-true p)
+-- a thing that was made, or not, of the numbers of an item
+module _ (d : Die) (r : DieMade) (e : meantDie r ≡ makeDie (d .w) (d .h)) where
+  pub die-in : (x : Die) → r ≡ die.Made x → true ≡ inLimits (dieItem d)
+  die-in x q = sym (a-die (d .w) (d .h) r e x q)
 
--- a number that is at least 0 in any case
-module _ (v most : ℕ) (q : Bool) where
-  pub too-high : most < v → false ≡ ((leb 0 v && leb v most) && q)
-  too-high h = rw (lt-leb v most h, le-leb 0 v (omega arith))
+  pub die-out : r ≡ die.Outside → false ≡ inLimits (dieItem d)
+  die-out q = sym (no-die (d .w) (d .h) r e q)
 
-  pub not-high : (x : Bool) → v ≤ most → x ≡ q → x ≡ ((leb 0 v && leb v most) && q)
-  not-high x h e = rw (le-leb v most h, le-leb 0 v (omega arith)) e
+module _ (f : Fix) (r : FixMade) (e : meantFix r ≡ makeFix (f .x) (f .y) (f .w) (f .h)) where
+  pub fix-in : (x : Fix) → r ≡ fix.Made x → true ≡ inLimits (fixItem f)
+  fix-in x q = sym (a-fix (f .x) (f .y) (f .w) (f .h) r e x q)
 
--- a place that is held 4,096 higher
-pub held-place : (name : List ℕ) (v : ℕ) (r : Bool) → r ≡ (leb 0 v && leb v 8192) → r ≡ inRange (field name (negsuc 4095) (pos 4096)) (subℕ v 4096)
-held-place name v r e = e ∙ by (decLt v 4096) (decLe v 8192)
-  where
-    by : Dec (v < 4096) → Dec (v ≤ 8192) → (leb 0 v && leb v 8192) ≡ inRange (field name (negsuc 4095) (pos 4096)) (subℕ v 4096)
-    by (yes l) d = rw (lt-ltb v 4096 l, le-leb 0 v (omega arith), le-leb v 8192 (omega arith), le-leb (4096 - suc v) 4095 (omega arith))
-    by (no l) (yes m) = rw (le-ltb v 4096 (omega arith), le-leb 0 v (omega arith), le-leb v 8192 m, le-leb (v - 4096) 4096 (omega arith))
-    by (no l) (no m) = rw (le-ltb v 4096 (omega arith), le-leb 0 v (omega arith), lt-leb v 8192 (omega arith), lt-leb (v - 4096) 4096 (omega arith))
+  pub fix-out : r ≡ fix.Outside → false ≡ inLimits (fixItem f)
+  fix-out q = sym (no-fix (f .x) (f .y) (f .w) (f .h) r e q)
+
+module _ (m : Mac) (r : MacMade) (e : meantMac r ≡ makeMac (m .w) (m .h)) where
+  pub mac-in : (x : Mac) → r ≡ mac.Made x → true ≡ inLimits (macItem m)
+  mac-in x q = sym (a-mac (m .w) (m .h) r e x q)
+
+  pub mac-out : r ≡ mac.Outside → false ≡ inLimits (macItem m)
+  mac-out q = sym (no-mac (m .w) (m .h) r e q)
+
+module _ (t : HeldNet) (r : NetMade) (e : meantNet r ≡ makeNet (t .weight) (t .pins)) where
+  pub net-in : (x : HeldNet) → r ≡ net.Made x → true ≡ inLimits (weightItem t)
+  net-in x q = sym (a-net (t .weight) (t .pins) r e x q)
+
+  pub net-out : r ≡ net.Outside → false ≡ inLimits (weightItem t)
+  net-out q = sym (no-net (t .weight) (t .pins) r e q)
+
+module _ (p : HeldPin) (r : PinMade) (e : meantPin r ≡ remakePin p) where
+  pub pin-in : (x : HeldPin) → r ≡ pin.Made x → true ≡ inLimits (pinItem (pinOf p))
+  pin-in x q = sym (a-pin p r e x q)
+
+  pub pin-out : r ≡ pin.Outside → false ≡ inLimits (pinItem (pinOf p))
+  pin-out q = sym (no-pin p r e q)
 
 module _ (no more : ℕ) where
   module _ (p r : Bool) (e : r ≡ p) where

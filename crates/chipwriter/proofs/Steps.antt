@@ -13,9 +13,9 @@ use Rattle.grammar.specs.Words.{isWord, isIn, rules, Item}
 use Rattle.grammar.specs.Reading.{Step, next, fault, check, stepFields}
 use Rattle.grammar.proofs.FieldsText.{ranges}
 use Rattle.grammar.proofs.Items.{itemStep}
-use Rattle.grammar.specs.Steps.{need}
+use Rattle.grammar.specs.Steps.{need, inRanges}
 use Rattle.chip.specs.Kind.{Part, followers, room, pinned, add, chipKind}
-use Rattle.chipwriter.specs.Tests.{inRanges, inLimits}
+use Rattle.chipwriter.specs.Tests.{inLimits}
 
 -- a step leads to a state that P holds of, or has the fault given
 pub data Steps (P : Part → Type 0) (x : Step Part) : ℕ → Type 0 where

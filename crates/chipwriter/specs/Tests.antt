@@ -2,10 +2,10 @@
 use Prim.Native.Nat.{ℕ, zero, suc, _+_}
 use mathlib.Core.Path.{_≡_}
 use mathlib.Core.List.{List, [], _∷_}
-use mathlib.Core.Bool.{Bool, true, false, not, _&&_}
+use mathlib.Core.Bool.{Bool, true, false, not}
 use lib.Dec.{leb, ltb, eqb}
 use lib.ListN.{length, getD, take}
-use lib.IntN.{ℤ, pos}
+use lib.IntN.{pos}
 use Rattle.model.specs.declared.Die.{Die}
 use Rattle.model.specs.declared.Fix.{Fix}
 use Rattle.model.specs.declared.Mac.{Mac}
@@ -17,21 +17,10 @@ use Rattle.model.specs.declared.Tested.the-variants as tested
 use Rattle.model.specs.declared.Word.the-variants as word
 use Rattle.model.specs.Meaning.{blankFix, blankMac, blankNet, blankPin, pinOf}
 use Rattle.model.specs.Limits.{mostFixes, mostMacs, mostNets, mostPins}
-use Rattle.grammar.specs.Line.{Rule, field, inRange}
-use Rattle.grammar.specs.Words.{byW, byH, rules, Item}
-use Rattle.grammar.specs.Steps.{need}
+use Rattle.grammar.specs.Words.{rules, Item}
+use Rattle.grammar.specs.Steps.{need, inRanges}
 use Rattle.chip.specs.Kind.{fixInDie, clearOf}
 use Rattle.chip.specs.Text.{dieItem, fixItem, macItem, pinItem}
-
--- every value is in the range of its field
-abbrev pub inRanges : List Rule → List ℤ → Bool
-inRanges [] zs = true
-inRanges (r ∷ rs) [] = true
-inRanges (r ∷ rs) (z ∷ zs) = inRange r z && inRanges rs zs
-
--- the fields w and h with sides from least to most
-abbrev pub sideRules : ℕ → ℕ → List Rule
-sideRules least most = field byW (pos least) (pos most) ∷ field byH (pos least) (pos most) ∷ []
 
 -- every value of a line is in the range of its field
 abbrev pub inLimits : Item → Bool

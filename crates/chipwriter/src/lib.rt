@@ -1,54 +1,55 @@
 // Testing and writing a chip that is held as a value.
 use model::Chip;
 use model::Die;
+use model::DieMade;
 use model::Fix;
+use model::FixMade;
 use model::Mac;
+use model::MacMade;
 use model::Net;
+use model::NetMade;
 use model::Pin;
+use model::PinMade;
 use model::Refusal;
 use model::TEXT_MOST;
 use model::Tested;
 use model::WriteAnswer;
 ghost use mathlib.Core.Path.{_≡_};
-ghost use mathlib.Core.List.{[], _∷_};
 ghost use Prim.Native.Nat.{_≤_};
-ghost use lib.IntN.{pos};
+ghost use Rattle.model.specs.Limits.{mostNets, mostPins};
 ghost use Rattle.model.specs.Meaning.{pinOf, chipOf};
 ghost use Rattle.grammar.specs.Writing.{testedAs, answerOf};
-ghost use Rattle.chip.specs.Text.{fixItem, pinItem, readChip, chipText, writeChip};
-ghost use Rattle.chipwriter.specs.Tests.{inRanges, sideRules, inLimits, dieFault, fixFault, macFault, bareBefore, netFault, pinFault, tests, pinsTested, netTested, netsTested, ItemsAnswer};
+ghost use Rattle.chip.specs.Text.{dieItem, fixItem, macItem, pinItem, readChip, chipText, writeChip};
+ghost use Rattle.chipwriter.specs.Tests.{inLimits, weightItem, dieFault, fixFault, macFault, bareBefore, netFault, pinFault, tests, pinsTested, netTested, netsTested, ItemsAnswer};
 
-// Whether the sides of a die, a fix or a macro are within least..most.
-fn sides_within(w: u64, h: u64, least: u64, most: u64) -> bool
-    ensures { λ r. ⌜ r ≡ inRanges (sideRules least most) (pos w ∷ pos h ∷ []) ⌝ }
+// Whether a die can be made of its sides.
+fn die_in_range(d: Die) -> bool
+    ensures { λ r. ⌜ r ≡ inLimits (dieItem d) ⌝ }
 {
-    if !model::within(w, least, most) {
-        return false;
+    match Die::new(d.w, d.h) {
+        DieMade::Made(_) => true,
+        DieMade::Outside => false,
     }
-    model::within(h, least, most)
 }
 
 // The fault of the die, or 0: range 4.
 fn die_fault(d: Die) -> usize
     ensures { λ r. ⌜ r ≡ dieFault d ⌝ }
 {
-    if !sides_within(d.w, d.h, Die::SIDE_LEAST, Die::SIDE_MOST) {
+    if !die_in_range(d) {
         return 4;
     }
     0
 }
 
-// Whether a fix is within its ranges.
+// Whether a fix can be made of its corner and its sides.
 fn fix_in_range(f: Fix) -> bool
     ensures { λ r. ⌜ r ≡ inLimits (fixItem f) ⌝ }
 {
-    if Fix::CORNER_MOST < f.x {
-        return false;
+    match Fix::new(f.x, f.y, f.w, f.h) {
+        FixMade::Made(_) => true,
+        FixMade::Outside => false,
     }
-    if Fix::CORNER_MOST < f.y {
-        return false;
-    }
-    sides_within(f.w, f.h, Fix::SIDE_LEAST, Fix::SIDE_MOST)
 }
 
 // The fault of fix i, or 0: count 6, range 4, leaves the die 9, overlaps an earlier fix 10.
@@ -86,6 +87,16 @@ fn test_fixes(d: Die, fixes: [Fix; Fix::COUNT], k: usize) -> Tested
     Tested::Passed
 }
 
+// Whether a macro can be made of its sides.
+fn mac_in_range(m: Mac) -> bool
+    ensures { λ r. ⌜ r ≡ inLimits (macItem m) ⌝ }
+{
+    match Mac::new(m.w, m.h) {
+        MacMade::Made(_) => true,
+        MacMade::Outside => false,
+    }
+}
+
 // The fault of macro i, or 0: count 6, range 4.
 fn mac_fault(macs: [Mac; Mac::COUNT], i: usize) -> usize
     ensures { λ r. ⌜ r ≡ macFault macs i ⌝ }
@@ -94,7 +105,7 @@ fn mac_fault(macs: [Mac; Mac::COUNT], i: usize) -> usize
         return 6;
     }
     let m = macs[i];
-    if !sides_within(m.w, m.h, Mac::SIDE_LEAST, Mac::SIDE_MOST) {
+    if !mac_in_range(m) {
         return 4;
     }
     0
@@ -116,17 +127,14 @@ fn test_macs(macs: [Mac; Mac::COUNT], n: usize, line: usize) -> Tested
     Tested::Passed
 }
 
-// Whether a pin is within its ranges.
+// Whether a pin can be made of its macro and its place.
 fn pin_in_range(p: Pin) -> bool
     ensures { λ r. ⌜ r ≡ inLimits (pinItem (pinOf p)) ⌝ }
 {
-    if Mac::COUNT < p.m {
-        return false;
+    match Pin::held(p.m, p.xup, p.yup) {
+        PinMade::Made(_) => true,
+        PinMade::Outside => false,
     }
-    if !model::within(p.xup, Pin::LEAST_UP, Pin::MOST_UP) {
-        return false;
-    }
-    model::within(p.yup, Pin::LEAST_UP, Pin::MOST_UP)
 }
 
 // The fault of pin i of a chip with n macros, or 0: count 6, range 4, no such macro 8.
@@ -148,7 +156,7 @@ fn pin_fault(pins: [Pin; Pin::COUNT], i: usize, n: usize) -> usize
 
 // The pins of one net, `count` of them from pin q on, from the line given on.
 fn test_pins(pins: [Pin; Pin::COUNT], q: usize, count: usize, n: usize, line: usize) -> Tested
-    requires { ⌜ (q ≤ 128) × (line ≤ 200) ⌝ }
+    requires { ⌜ (q ≤ mostPins) × (line ≤ 200) ⌝ }
     ensures { λ r. ⌜ r ≡ pinsTested pins n q line count ⌝ }
 {
     let mut i: usize = 0;
@@ -164,7 +172,7 @@ fn test_pins(pins: [Pin; Pin::COUNT], q: usize, count: usize, n: usize, line: us
 
 // Whether there is a net before net j and it has no pin.
 fn bare_before(nets: [Net; Net::COUNT], j: usize) -> bool
-    requires { ⌜ j ≤ 32 ⌝ }
+    requires { ⌜ j ≤ mostNets ⌝ }
     ensures { λ r. ⌜ r ≡ bareBefore nets j ⌝ }
 {
     if j == 0 {
@@ -172,6 +180,16 @@ fn bare_before(nets: [Net; Net::COUNT], j: usize) -> bool
     }
     let before = nets[j - 1];
     before.pins == 0
+}
+
+// Whether a net can be made of its weight.
+fn net_in_range(t: Net) -> bool
+    ensures { λ r. ⌜ r ≡ inLimits (weightItem t) ⌝ }
+{
+    match Net::new(t.weight, t.pins) {
+        NetMade::Made(_) => true,
+        NetMade::Outside => false,
+    }
 }
 
 // The fault of net j, or 0: count 6, the net before it without a pin 7, range 4.
@@ -185,7 +203,7 @@ fn net_fault(nets: [Net; Net::COUNT], j: usize) -> usize
         return 7;
     }
     let net = nets[j];
-    if !model::within(net.weight, Net::WEIGHT_LEAST, Net::WEIGHT_MOST) {
+    if !net_in_range(net) {
         return 4;
     }
     0
@@ -200,7 +218,7 @@ fn test_net(
     n: usize,
     line: usize,
 ) -> Tested
-    requires { ⌜ (q ≤ 128) × (line ≤ 199) ⌝ }
+    requires { ⌜ (q ≤ mostPins) × (line ≤ 199) ⌝ }
     ensures { λ r. ⌜ r ≡ netTested nets pins n line q j ⌝ }
 {
     let no = net_fault(nets, j);

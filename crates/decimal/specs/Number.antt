@@ -59,7 +59,7 @@ unfoldable pub numeralOf : List ℕ → Numeral
 numeralOf [] = noNumber
 numeralOf (b ∷ s) = signed (eqb b minusSign) b s
 
--- the last k digits of n at most, the first of them not 0 unless n is 0
+-- the decimal digits of n, without leading zeros, where it has at most k of them; else the last k
 unfoldable pub digitsIn : ℕ → ℕ → List ℕ
 digitsIn zero n = []
 digitsIn (suc k) n = elim (ltb n 10) [ true ↦ (48 + n) ∷ [] | false ↦ digitsIn k (n / 10) ++ ((48 + n % 10) ∷ []) ]

@@ -15,3 +15,5 @@ pub mod OneLine
 pub mod LineAt
 pub mod Left
 pub mod Fit
+pub mod Ranges
+pub mod Made

@@ -14,19 +14,26 @@ use Rattle.grammar.specs.Steps.{entryFault}
 use Rattle.grammar.proofs.Cut.{up-to-short, up-to-take, from-drop}
 use Rattle.grammar.proofs.Entry.{foundOr, found-fault, step-word}
 
--- the step by the fields of a line, where f is what they are read as in line l
-module _ {S : Type 0} (k : Kind S) (s : S) (w : Word) (l : ℕ) (f : Fields → Reading (List ℤ)) (right : (zs : List ℤ) → f (got zs) ≡ accepted zs) (wrong : (n : ℕ) → f (faulty n) ≡ refused n l) where
-  pub step-got : (x : Fields) (zs : List ℤ) → accepted zs ≡ f x → stepFields k s w x ≡ k .add s w zs
-  step-got (got ys) zs e = let c = e ∙ right ys in let q : ys ≡ zs = cc in ap (k .add s w) q
-  step-got (faulty n) zs e = let c = e ∙ wrong n in cc
+-- the fields of a line, where f is what they are read as in line l
+module _ (l : ℕ) (f : Fields → Reading (List ℤ)) (right : (zs : List ℤ) → f (got zs) ≡ accepted zs) (wrong : (n : ℕ) → f (faulty n) ≡ refused n l) where
+  pub fields-got : (x : Fields) (zs : List ℤ) → accepted zs ≡ f x → x ≡ got zs
+  fields-got (got ys) zs e = let c = e ∙ right ys in let q : ys ≡ zs = cc in ap got q
+  fields-got (faulty n) zs e = let c = e ∙ wrong n in cc
 
-  pub step-faulty : (x : Fields) (n j : ℕ) → refused n j ≡ f x → fault n ≡ stepFields k s w x
-  step-faulty (got ys) n j e = let c = e ∙ right ys in cc
-  step-faulty (faulty m) n j e = let c = e ∙ wrong m in let q : n ≡ m = cc in ap fault q
+  fields-faulty : (x : Fields) (n j : ℕ) → refused n j ≡ f x → (x ≡ faulty n) × (j ≡ l)
+  fields-faulty (got ys) n j e = let c = e ∙ right ys in (cc, cc)
+  fields-faulty (faulty m) n j e = let c = e ∙ wrong m in let q : m ≡ n = cc in (ap faulty q, cc)
 
   pub faulty-line : (x : Fields) (n j : ℕ) → refused n j ≡ f x → j ≡ l
-  faulty-line (got ys) n j e = let c = e ∙ right ys in cc
-  faulty-line (faulty m) n j e = let c = e ∙ wrong m in cc
+  faulty-line x n j e = fields-faulty x n j e .1
+
+  -- the step by them
+  module _ {S : Type 0} (k : Kind S) (s : S) (w : Word) where
+    pub step-got : (x : Fields) (zs : List ℤ) → accepted zs ≡ f x → stepFields k s w x ≡ k .add s w zs
+    step-got x zs e = ap (stepFields k s w) (fields-got x zs e)
+
+    pub step-faulty : (x : Fields) (n j : ℕ) → refused n j ≡ f x → fault n ≡ stepFields k s w x
+    step-faulty x n j e = ap (stepFields k s w) (sym (fields-faulty x n j e .0))
 
 -- the line from its word on
 module _ (bytes : List ℕ) (b : ℕ) (n : b ≡ length (upTo comma bytes)) where

@@ -1,20 +1,25 @@
 -- The steps of the reader of a line's fields: what its loop keeps, and each answer.
-use mathlib.Core.Path.{_≡_, refl, ap, subst, _∙_}
+use mathlib.Core.Path.{_≡_, refl, sym, ap, ap₂, subst}
 use mathlib.Core.List.{List, [], _∷_, _++_}
 use Prim.Native.Nat.{ℕ, zero, suc, _+_, _≤_, _<_}
 use native.Mathlib.Numerals.{add-one}
 use native.Mathlib.Omega.{arith}
 use lib.IntN.{ℤ}
-use lib.ListN.{length, getD, take, drop, set, length-set, drop-of-length-le}
+use lib.ListN.{length, getD, take, drop, set, replicate, drop-of-length-le}
 use lib.Seq.{drop-cons, take-all}
 use Rattle.model.specs.declared.Word.{Word}
 use Rattle.model.specs.declared.Refusal.{Refusal}
+use Rattle.model.specs.Held.{filled, raised, Holds}
+use Rattle.model.proofs.FirstOf.{first-take}
+use Rattle.model.proofs.Holding.{holds-more, holds-none, holds-all, filled-again}
+use Rattle.model.proofs.HeldAgain.{raised-again}
+use Rattle.grammar.specs.Reading.{accepted, refused}
 use Rattle.grammar.specs.Line.{Fields, got, faulty, andThen, fields}
 use Rattle.line.specs.declared.Rule.{Rule as HeldRule}
 use Rattle.line.specs.declared.Field.{Field}
 use Rattle.line.specs.declared.Field.the-variants as field
 use Rattle.line.specs.declared.Fields.the-variants as held
-use Rattle.line.specs.Held.{lowered, loweredAll, FieldsOk}
+use Rattle.line.specs.Held.{lowered, ups, loweredAll, valuesOf, readFields, raisedAll, FieldsOk}
 use Rattle.line.specs.Layout.{rulesOf, upsOf, blankRule, LayoutOk}
 use Rattle.line.specs.Steps.{Got, Faulty, FieldOk}
 use Rattle.line.proofs.Laid.{next-rule, next-up, rules-length, ups-length}
@@ -52,12 +57,33 @@ read-place text a l v b r f one e = let g : Got text a r v b = subst (FieldOk te
 
 -- the first j of the n fields have the values vs, and the next one begins at a
 pub record ReadTo (n : ℕ) (rs : List HeldRule) (text vs : List ℕ) (a j : ℕ) : Type 0 where
-  pub room : length vs ≡ 4
+  pub room : Holds 0 4 j vs
   pub kept : fields (rulesOf n rs) text ≡ prefixed (loweredAll (take j (upsOf n rs)) vs) (fields (drop j (rulesOf n rs)) (drop a text))
 
-pub read-none : (n : ℕ) (rs : List HeldRule) (text vs : List ℕ) → length vs ≡ 4 → ReadTo n rs text vs 0 0
+pub read-none : (n : ℕ) (rs : List HeldRule) (text : List ℕ) → ReadTo n rs text (replicate 4 0) 0 0
 unfolding prefixed loweredAll
-read-none n rs text vs h = record { room = h; kept = refl }
+read-none n rs text = record { room = holds-none 0 4; kept = refl }
+
+-- ---- the whole answer, by what it means
+
+refused-answer : (w : Word) (l : ℕ) (text : List ℕ) (r : Refusal) → refused (r .no) (r .line) ≡ readFields w l text → FieldsOk w l text (record { answer = held.Refused r; values = 0 ∷ 0 ∷ 0 ∷ 0 ∷ [] })
+refused-answer w l text r e = record { meant = e; whole = rw (← e) }
+
+raised-one : (u v : ℕ) → raised u (lowered u v) ≡ v
+raised-one zero v = omega arith
+raised-one (suc u) v = raised-again (suc u) v
+
+raised-back : (us vs : List ℕ) → length us ≤ length vs → raisedAll us (loweredAll us vs) ≡ take (length us) vs
+unfolding raisedAll loweredAll
+raised-back [] vs h = refl
+raised-back (u ∷ us) [] h = absurd (omega arith)
+raised-back (u ∷ us) (v ∷ vs) h = ap₂ _∷_ (raised-one u v) (raised-back us vs (omega arith))
+
+got-answer : (w : Word) (l : ℕ) (text vs : List ℕ) → Holds 0 4 (length (ups w)) vs → accepted (valuesOf w vs) ≡ readFields w l text → FieldsOk w l text (record { answer = held.Got; values = vs })
+got-answer w l text vs h e = record { meant = e; whole = rw (← e) (ap (λ (t : List ℕ). record { answer = held.Got; values = t }) (sym back)) }
+  where
+    back : filled 4 0 (raisedAll (ups w) (valuesOf w vs)) ≡ vs
+    back = rw (raised-back (ups w) vs (holds-all h), ← first-take 0 (length (ups w)) vs (holds-all h)) (filled-again 0 4 (length (ups w)) vs h)
 
 module _ (n : ℕ) (rs : List HeldRule) (text vs : List ℕ) (a j : ℕ) (inv : ReadTo n rs text vs a j) (w : Word) (ok : LayoutOk w n rs) (l : ℕ) where
   module _ (h : j < n) (f : Field) (one : FieldOk text a (getD rs j blankRule) l f) where
@@ -66,15 +92,15 @@ module _ (n : ℕ) (rs : List HeldRule) (text vs : List ℕ) (a j : ℕ) (inv : 
     read-more v b e =
         let g : Got text a (getD rs j blankRule) v b = subst (FieldOk text a (getD rs j blankRule) l) e one in
         let m = ok .few in
-        let d = inv .room in
+        let d = inv .room .long in
         let q = ups-length w n rs ok in
-        record { room = length-set vs j v ∙ d; kept = rw (add-one, inv .kept, next-rule w n rs ok j h, g .read (λ t. fields (drop (suc j) (rulesOf n rs)) t), prefixed-more, ← next-up w n rs ok j h, lowered-more (upsOf n rs) vs j v (omega arith) (omega arith)) }
+        record { room = holds-more (inv .room) v (omega arith); kept = rw (add-one, inv .kept, next-rule w n rs ok j h, g .read (λ t. fields (drop (suc j) (rulesOf n rs)) t), prefixed-more, ← next-up w n rs ok j h, lowered-more (upsOf n rs) vs j v (omega arith) (omega arith)) }
 
     pub read-refused : (r : Refusal) → f ≡ field.Refused r → FieldsOk w l text (record { answer = held.Refused r; values = 0 ∷ 0 ∷ 0 ∷ 0 ∷ [] })
     unfolding fields
     read-refused r e =
         let g : Faulty text a (getD rs j blankRule) l r = subst (FieldOk text a (getD rs j blankRule) l) e one in
-        record { meant = rw (← ok .means, inv .kept, next-rule w n rs ok j h, g .read (λ t. fields (drop (suc j) (rulesOf n rs)) t), prefixed-faulty, g .at); blank = refl }
+        refused-answer w l text r (rw (← ok .means, inv .kept, next-rule w n rs ok j h, g .read (λ t. fields (drop (suc j) (rulesOf n rs)) t), prefixed-faulty, g .at))
 
   module _ (h : n ≤ j) where
     no-rule : drop j (rulesOf n rs) ≡ []
@@ -82,10 +108,11 @@ module _ (n : ℕ) (rs : List HeldRule) (text vs : List ℕ) (a j : ℕ) (inv : 
 
     pub bytes-left : a < length text → FieldsOk w l text (record { answer = held.Refused (record { no = 2; line = l }); values = 0 ∷ 0 ∷ 0 ∷ 0 ∷ [] })
     unfolding fields
-    bytes-left g = record { meant = rw (← ok .means, inv .kept, no-rule, drop-cons text a 0 g, prefixed-faulty); blank = refl }
+    bytes-left g = refused-answer w l text (record { no = 2; line = l }) (rw (← ok .means, inv .kept, no-rule, drop-cons text a 0 g, prefixed-faulty))
 
-    pub all-read : length text ≤ a → FieldsOk w l text (record { answer = held.Got; values = vs })
+    pub all-read : j ≤ n → length text ≤ a → FieldsOk w l text (record { answer = held.Got; values = vs })
     unfolding fields
-    all-read g =
+    all-read b g =
         let q = ups-length w n rs ok in
-        record { meant = rw (← ok .means, inv .kept, no-rule, drop-of-length-le text g, prefixed-all, take-all j (upsOf n rs) (omega arith), ok .above); blank = refl }
+        let e : length (ups w) ≡ n = rw (← ok .above) q in
+        got-answer w l text vs (subst (λ (k : ℕ). Holds 0 4 k vs) (omega arith) (inv .room)) (rw (← ok .means, inv .kept, no-rule, drop-of-length-le text g, prefixed-all, take-all j (upsOf n rs) (omega arith), ok .above))

@@ -1,5 +1,5 @@
 -- The rules that the program holds for a word.
-use mathlib.Core.Path.{_≡_, refl, ap, _∙_}
+use mathlib.Core.Path.{_≡_, refl, sym, ap, subst, _∙_}
 use mathlib.Core.Bool.{Bool, true, false, _&&_, false≢true}
 use mathlib.Core.List.{List, [], _∷_, map}
 use Prim.Native.Nat.{ℕ, zero, suc, _<_}
@@ -9,15 +9,47 @@ use lib.ListN.{length, getD, take, drop, length-take, length-map, List·getD-map
 use lib.Seq.{getD-take, drop-cons}
 use borrow.Author.Tests.{leb-true, ltb-true, eqb-true}
 use Rattle.model.specs.declared.Word.{Word}
+use Rattle.model.specs.declared.Word.the-variants as word
+use Rattle.model.specs.Held.{filled}
 use Rattle.decimal.specs.Held.{cap}
 use Rattle.line.specs.declared.Rule.{Rule as HeldRule}
-use Rattle.line.specs.Layout.{ruleOf, rulesOf, upsOf, blankRule, Sane, saneTest, allSane, LayoutOk}
+use Rattle.line.specs.declared.Layout.{Layout}
+use Rattle.line.specs.Layout.{noRule, layout, ruleOf, rulesOf, upsOf, blankRule, Sane, saneTest, allSane, LayoutOk}
 
-pub laid : (w w′ : Word) (n : ℕ) (a b c d a′ b′ c′ d′ : HeldRule) → w ≡ w′ → a ≡ a′ → b ≡ b′ → c ≡ c′ → d ≡ d′ → LayoutOk w′ n (a′ ∷ b′ ∷ c′ ∷ d′ ∷ []) → LayoutOk w n (a ∷ b ∷ c ∷ d ∷ [])
-laid w w′ n a b c d a′ b′ c′ d′ p q r s t ok = rw (p, q, r, s, t) ok
+-- the fields of each word, by computation
+pub laid : (w w′ : Word) (l : Layout) → w ≡ w′ → l ≡ layout w′ → l ≡ layout w
+laid w w′ l p e = rw p e
 
-pub laid-one : (w w′ : Word) (n : ℕ) (a b b′ : HeldRule) → w ≡ w′ → b ≡ b′ → LayoutOk w′ n (a ∷ b′ ∷ b′ ∷ b′ ∷ []) → LayoutOk w n (a ∷ b ∷ b ∷ b ∷ [])
-laid-one w w′ n a b b′ p q ok = laid w w′ n a b b b a b′ b′ b′ p refl q q q ok
+abbrev fieldsOf : List HeldRule → Layout
+fieldsOf rs = record { count = length rs; rules = filled 4 noRule rs }
+
+pub laid-one : (w w′ : Word) (a a′ : HeldRule) → w ≡ w′ → a ≡ a′ → fieldsOf (a′ ∷ []) ≡ layout w′ → fieldsOf (a ∷ []) ≡ layout w
+laid-one w w′ a a′ p q e = rw (p, q) e
+
+pub laid-two : (w w′ : Word) (a b a′ b′ : HeldRule) → w ≡ w′ → a ≡ a′ → b ≡ b′ → fieldsOf (a′ ∷ b′ ∷ []) ≡ layout w′ → fieldsOf (a ∷ b ∷ []) ≡ layout w
+laid-two w w′ a b a′ b′ p q r e = rw (p, q, r) e
+
+pub laid-three : (w w′ : Word) (a b c a′ b′ c′ : HeldRule) → w ≡ w′ → a ≡ a′ → b ≡ b′ → c ≡ c′ → fieldsOf (a′ ∷ b′ ∷ c′ ∷ []) ≡ layout w′ → fieldsOf (a ∷ b ∷ c ∷ []) ≡ layout w
+laid-three w w′ a b c a′ b′ c′ p q r s e = rw (p, q, r, s) e
+
+pub laid-four : (w w′ : Word) (a b c d a′ b′ c′ d′ : HeldRule) → w ≡ w′ → a ≡ a′ → b ≡ b′ → c ≡ c′ → d ≡ d′ → fieldsOf (a′ ∷ b′ ∷ c′ ∷ d′ ∷ []) ≡ layout w′ → fieldsOf (a ∷ b ∷ c ∷ d ∷ []) ≡ layout w
+laid-four w w′ a b c d a′ b′ c′ d′ p q r s t e = rw (p, q, r, s, t) e
+
+each-laid : (w : Word) → LayoutOk w (layout w .count) (layout w .rules)
+each-laid word.Nothing = record { few = omega arith; all = refl; means = refl; above = refl; sound = refl }
+each-laid word.Die = record { few = omega arith; all = refl; means = refl; above = refl; sound = refl }
+each-laid word.Fix = record { few = omega arith; all = refl; means = refl; above = refl; sound = refl }
+each-laid word.Mac = record { few = omega arith; all = refl; means = refl; above = refl; sound = refl }
+each-laid word.Net = record { few = omega arith; all = refl; means = refl; above = refl; sound = refl }
+each-laid word.Pin = record { few = omega arith; all = refl; means = refl; above = refl; sound = refl }
+each-laid word.End = record { few = omega arith; all = refl; means = refl; above = refl; sound = refl }
+each-laid word.Least = record { few = omega arith; all = refl; means = refl; above = refl; sound = refl }
+each-laid word.None = record { few = omega arith; all = refl; means = refl; above = refl; sound = refl }
+each-laid word.At = record { few = omega arith; all = refl; means = refl; above = refl; sound = refl }
+each-laid word.Done = record { few = omega arith; all = refl; means = refl; above = refl; sound = refl }
+
+pub laid-ok : (w : Word) (n : ℕ) (rs : List HeldRule) → record { count = n; rules = rs } ≡ layout w → LayoutOk w n rs
+laid-ok w n rs e = subst (λ (l : Layout). LayoutOk w (l .count) (l .rules)) (sym e) (each-laid w)
 
 both : (a b : Bool) → (a && b) ≡ true → (a ≡ true) × (b ≡ true)
 both true b e = (refl, e)

@@ -3,9 +3,11 @@ use Prim.Native.Nat.{ℕ, zero, suc}
 use mathlib.Core.List.{List, [], _∷_}
 use mathlib.Core.Path.{_≡_}
 use lib.IntN.{ℤ, pos, subℕ}
+use lib.ListN.{replicate}
 use Rattle.model.specs.declared.Word.{Word}
 use Rattle.model.specs.declared.Word.the-variants as word
 use Rattle.model.specs.Meaning.{pinUp}
+use Rattle.model.specs.Held.{filled, raised}
 use Rattle.line.specs.declared.Fields.{Fields as HeldFields}
 use Rattle.line.specs.declared.Fields.the-variants as held
 use Rattle.line.specs.declared.FieldsRead.{FieldsRead}
@@ -60,12 +62,18 @@ meant w (held.Refused f) vs = refused (f .no) (f .line)
 abbrev pub meantFields : Word → FieldsRead → Reading (List ℤ)
 meantFields w r = meant w (r .answer) (r .values)
 
--- the values after a refusal; where there is none, four zeros
-abbrev pub afterRefusal : HeldFields → List ℕ → List ℕ
-afterRefusal held.Got vs = 0 ∷ 0 ∷ 0 ∷ 0 ∷ []
-afterRefusal (held.Refused f) vs = vs
+-- the numbers zs, each held higher by its number in us
+unfoldable pub raisedAll : List ℕ → List ℤ → List ℕ
+raisedAll [] zs = []
+raisedAll (u ∷ us) [] = []
+raisedAll (u ∷ us) (z ∷ zs) = raised u z ∷ raisedAll us zs
 
--- r is the answer for the bytes s after the word w in line l
+-- the whole answer for fields that are read so: the values as held, then 0
+abbrev pub fieldsAnswer : Word → Reading (List ℤ) → FieldsRead
+fieldsAnswer w (accepted zs) = record { answer = held.Got; values = filled 4 0 (raisedAll (ups w) zs) }
+fieldsAnswer w (refused n l) = record { answer = held.Refused (record { no = n; line = l }); values = replicate 4 0 }
+
+-- r is the answer for the bytes s after the word w in line l: what it means, and the whole of it
 pub record FieldsOk (w : Word) (l : ℕ) (s : List ℕ) (r : FieldsRead) : Type 0 where
   pub meant : meantFields w r ≡ readFields w l s
-  pub blank : afterRefusal (r .answer) (r .values) ≡ 0 ∷ 0 ∷ 0 ∷ 0 ∷ []
+  pub whole : r ≡ fieldsAnswer w (readFields w l s)

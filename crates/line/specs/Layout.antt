@@ -4,13 +4,15 @@ use mathlib.Core.List.{List, [], _∷_, map}
 use mathlib.Core.Path.{_≡_}
 use mathlib.Core.Bool.{Bool, true, _&&_}
 use lib.Dec.{leb, ltb, eqb}
-use lib.ListN.{length, take}
+use lib.ListN.{length, take, replicate}
 use Rattle.model.specs.declared.Word.{Word}
 use Rattle.model.specs.Meaning.{pinUp}
 use Rattle.decimal.specs.Held.{cap}
 use Rattle.grammar.specs.Line.{Rule}
 use Rattle.grammar.specs.Words.{rules}
+use Rattle.model.specs.Held.{filled, raised}
 use Rattle.line.specs.declared.Rule.{Rule as HeldRule}
+use Rattle.line.specs.declared.Layout.{Layout}
 use Rattle.line.specs.Held.{lowered, ups}
 
 -- the bytes of a field's mark
@@ -24,6 +26,24 @@ ruleOf r = record { mark = markOf r; least = lowered (r .up) (r .least); most = 
 -- a field whose name is one byte; its values go from lo to hi and are held u higher
 abbrev pub shortRule : ℕ → ℕ → ℕ → ℕ → HeldRule
 shortRule name u lo hi = record { mark = 44 ∷ name ∷ 44 ∷ 0 ∷ []; size = 3; up = u; least = lo; most = hi }
+
+-- a field as it is held: the bytes of its mark, then 0 up to four; its values are held u higher
+abbrev pub heldRule : ℕ → Rule → HeldRule
+heldRule u r = record { mark = filled 4 0 (r .mark); size = length (r .mark); up = u; least = raised u (r .least); most = raised u (r .most) }
+
+-- fields as they are held, each by its number in us
+abbrev pub heldRules : List ℕ → List Rule → List HeldRule
+heldRules [] rs = []
+heldRules (u ∷ us) [] = []
+heldRules (u ∷ us) (r ∷ rs) = heldRule u r ∷ heldRules us rs
+
+-- the field past the last
+abbrev pub noRule : HeldRule
+noRule = record { mark = replicate 4 0; size = 0; up = 0; least = 0; most = 0 }
+
+-- the fields of a line with the word w as they are held
+abbrev pub layout : Word → Layout
+layout w = record { count = length (rules w); rules = filled 4 noRule (heldRules (ups w) (rules w)) }
 
 -- the field that stands for none, past the end of a list
 abbrev pub blankRule : HeldRule

@@ -1,13 +1,11 @@
 -- How the program holds the spelling of a word.
-use Prim.Native.Nat.{_≤_}
-use mathlib.Core.Path.{_≡_}
-use lib.ListN.{length, take}
+use mathlib.Core.List.{List}
+use lib.ListN.{length}
 use Rattle.model.specs.declared.Word.{Word}
+use Rattle.model.specs.Held.{filled}
 use Rattle.grammar.specs.Words.{spell}
 use Rattle.line.specs.declared.Spelling.{Spelling}
 
--- p is the spelling of the word w: the first of its five bytes
-pub record Spells (w : Word) (p : Spelling) : Type 0 where
-  pub few : p .1 ≤ 5
-  pub long : length (p .0) ≡ 5
-  pub text : take (p .1) (p .0) ≡ spell w
+-- the spelling of the word w: its bytes, then 0 up to five, and how many of them are the word's
+abbrev pub spelling : Word → Spelling
+spelling w = record { bytes = filled 5 0 (spell w); size = length (spell w) }

@@ -16,12 +16,15 @@ ghost use Rattle.grammar.specs.Line.{upTo};
 ghost use Rattle.grammar.specs.Steps.{lineEnd};
 ghost use Rattle.grammar.specs.Words.{same, wordIn, chipWords, recordWords};
 ghost use Rattle.line.specs.Held.{FieldsOk};
-ghost use Rattle.line.specs.Spelling.{Spells};
-ghost use Rattle.line.specs.Layout.{shortRule, Sane, LayoutOk};
+ghost use Rattle.line.specs.Spelling.{spelling};
+ghost use Rattle.line.specs.Layout.{shortRule, layout, Sane, LayoutOk};
 ghost use Rattle.line.specs.Steps.{Starts, ifInRange, within, FieldOk};
 
 // The spelling of a word: five bytes, and how many of them are the word's; the others are 0.
-pub struct Spelling(pub [u8; 5], pub usize);
+pub struct Spelling {
+    pub bytes: [u8; 5],
+    pub size: usize,
+}
 
 // A field: its name between two commas (the first `size` bytes of `mark`), how much higher its value is held, and its range, as held.
 pub struct Rule {
@@ -105,20 +108,53 @@ fn same_bytes(s: &[u8], t: &[u8]) -> bool
 
 // The spelling of a word. The table stands in the order of the words' ranks.
 pub fn spelling_of(w: Word) -> Spelling
-    ensures { λ r. ⌜ Spells w r ⌝ }
+    ensures { λ r. ⌜ r ≡ spelling w ⌝ }
 {
     let spellings = [
-        Spelling([0, 0, 0, 0, 0], 0),
-        Spelling([b'd', b'i', b'e', 0, 0], 3),
-        Spelling([b'f', b'i', b'x', 0, 0], 3),
-        Spelling([b'm', b'a', b'c', 0, 0], 3),
-        Spelling([b'n', b'e', b't', 0, 0], 3),
-        Spelling([b'p', b'i', b'n', 0, 0], 3),
-        Spelling([b'e', b'n', b'd', 0, 0], 3),
-        Spelling([b'l', b'e', b'a', b's', b't'], 5),
-        Spelling([b'n', b'o', b'n', b'e', 0], 4),
-        Spelling([b'a', b't', 0, 0, 0], 2),
-        Spelling([b'd', b'o', b'n', b'e', 0], 4),
+        Spelling {
+            bytes: [0, 0, 0, 0, 0],
+            size: 0,
+        },
+        Spelling {
+            bytes: [b'd', b'i', b'e', 0, 0],
+            size: 3,
+        },
+        Spelling {
+            bytes: [b'f', b'i', b'x', 0, 0],
+            size: 3,
+        },
+        Spelling {
+            bytes: [b'm', b'a', b'c', 0, 0],
+            size: 3,
+        },
+        Spelling {
+            bytes: [b'n', b'e', b't', 0, 0],
+            size: 3,
+        },
+        Spelling {
+            bytes: [b'p', b'i', b'n', 0, 0],
+            size: 3,
+        },
+        Spelling {
+            bytes: [b'e', b'n', b'd', 0, 0],
+            size: 3,
+        },
+        Spelling {
+            bytes: [b'l', b'e', b'a', b's', b't'],
+            size: 5,
+        },
+        Spelling {
+            bytes: [b'n', b'o', b'n', b'e', 0],
+            size: 4,
+        },
+        Spelling {
+            bytes: [b'a', b't', 0, 0, 0],
+            size: 2,
+        },
+        Spelling {
+            bytes: [b'd', b'o', b'n', b'e', 0],
+            size: 4,
+        },
     ];
     spellings[grammar::rank_of(w)]
 }
@@ -132,8 +168,8 @@ fn word_among(s: &[u8], words: [Word; 6], count: usize) -> Word
     while i < count {
         let w = words[i];
         let p = spelling_of(w);
-        let bytes = p.0;
-        let size = p.1;
+        let bytes = p.bytes;
+        let size = p.size;
         if same_bytes(&bytes[..size], s) {
             return w;
         }
@@ -191,11 +227,18 @@ fn short_rule(name: u8, up: u64, least: u64, most: u64) -> Rule
     }
 }
 
-// The fields of a line with that word; places past `count` hold a field that is never read.
+// The fields of a line with that word; those past `count` are 0 throughout.
 pub fn layout_of(word: Word) -> Layout
+    ensures { λ r. ⌜ r ≡ layout word ⌝ }
     ensures { λ r. ⌜ LayoutOk word (r .count) (r .rules) ⌝ }
 {
-    let none = short_rule(0, 0, 0, 0);
+    let none = Rule {
+        mark: [0; 4],
+        size: 0,
+        up: 0,
+        least: 0,
+        most: 0,
+    };
     let blank = Layout {
         count: 0,
         rules: [none, none, none, none],

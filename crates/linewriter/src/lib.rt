@@ -27,8 +27,8 @@ fn put_word(out: &mut [u8], at: usize, w: Word) -> usize
     ensures { λ r. ⌜ Wrote (now (out .entry)) (now (out .exit)) (spell w) at r ⌝ }
 {
     let p = line::spelling_of(w);
-    let bytes = p.0;
-    let size = p.1;
+    let bytes = p.bytes;
+    let size = p.size;
     decimal::put_bytes(out, at, &bytes[..size])
 }
 

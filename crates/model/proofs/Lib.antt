@@ -3,3 +3,5 @@ pub mod Nets
 pub mod Tests
 pub mod Places
 pub mod Pins
+pub mod Holding
+pub mod HeldAgain

@@ -7,13 +7,8 @@ use lib.ListN.{length, drop, set}
 use lib.Seq.{drop-drop, drop-set-add}
 use Rattle.model.specs.declared.Net.{Net as HeldNet}
 use Rattle.model.specs.declared.Pin.{Pin as HeldPin}
-use Rattle.model.specs.Meaning.{firstOf, blankPin, pinsOf, netsOf}
+use Rattle.model.specs.Meaning.{firstOf, blankPin, pinsOf, taken, netsOf}
 use Rattle.model.proofs.FirstOf.{first-kept}
-
--- the number of pins that counts take
-unfoldable pub taken : List HeldNet → ℕ
-taken [] = 0
-taken (t ∷ ts) = t .pins + taken ts
 
 pub taken-snoc : (ts : List HeldNet) (u : HeldNet) → taken (ts ++ (u ∷ [])) ≡ taken ts + u .pins
 unfolding taken

@@ -1,25 +1,21 @@
 -- A pin made of its macro and its places, in the form of the needs of its constructor.
 use mathlib.Core.Path.{_≡_, refl, sym, ap, _∙_}
-use mathlib.Core.Bool.{Bool, true, false, and-false}
-use Prim.Native.Nat.{ℕ, _≤_, _<_, zero-le}
+use mathlib.Core.Bool.{Bool, true, false, _&&_, and-false}
+use Prim.Native.Nat.{ℕ, suc, _-_, _≤_, _<_, zero-le}
+use native.Mathlib.Decide.{decLe, decLt}
+use native.Mathlib.Omega.{arith}
+use lib.Dec.{leb}
 use lib.IntN.{ℤ, subℕ}
 use mir.Syntax.{w64}
 use mir.Val.{SFits, toZ, ofZ}
 use mir.Facts.{toZ-ofZ}
-use borrow.Author.Tests.{le-leb, lt-leb}
+use borrow.Author.Tests.{le-leb, lt-leb, le-ltb, lt-ltb}
+use Rattle.model.specs.declared.PinMade.{PinMade}
 use Rattle.model.specs.declared.Place.{Place}
 use Rattle.model.specs.declared.Place.the-variants as place
 use Rattle.model.specs.Limits.{isWithin, pinPlace}
-use Rattle.model.specs.Meaning.{pinOf}
-use Rattle.model.specs.Made.{made, outOfRange, ifWithin, meantPlace, makePlace, makePin}
-
-refused : {A : Type 0} (b : Bool) (a : A) → outOfRange ≡ ifWithin b a → b ≡ false
-refused true a e = cc
-refused false a e = refl
-
-kept : {A : Type 0} (b : Bool) (a a′ : A) → made a′ ≡ ifWithin b a → (b ≡ true) × (a′ ≡ a)
-kept true a a′ e = (refl, cc)
-kept false a a′ e = (cc, cc)
+use Rattle.model.proofs.Tests.{refused, kept}
+use Rattle.model.specs.Made.{outOfRange, meantPlace, makePlace, meantPin, makePin, remakePin}
 
 -- what raising a place x, read from its bits, has answered
 module _ (x : ℤ) (fx : SFits w64 x) (r : Place) (e : meantPlace r ≡ makePlace (toZ w64 (ofZ w64 x))) where
@@ -32,10 +28,16 @@ module _ (x : ℤ) (fx : SFits w64 x) (r : Place) (e : meantPlace r ≡ makePlac
   place-kept : (v : ℕ) → r ≡ place.Up v → (isWithin pinPlace x ≡ true) × (subℕ v 4096 ≡ x)
   place-kept v q = kept (isWithin pinPlace x) x (subℕ v 4096) (ap meantPlace (sym q) ∙ answered)
 
-module _ (m : ℕ) (x y : ℤ) where
-  pub macro-outside : 8 < m → outOfRange ≡ makePin m x y
-  macro-outside h = rw (lt-leb m 8 h, and-false)
+-- a place as held: its range
+pub held-place : (v : ℕ) (r : Bool) → r ≡ (leb 0 v && leb v 8192) → r ≡ isWithin pinPlace (subℕ v 4096)
+held-place v r e = e ∙ by (decLt v 4096) (decLe v 8192)
+  where
+    by : Dec (v < 4096) → Dec (v ≤ 8192) → (leb 0 v && leb v 8192) ≡ isWithin pinPlace (subℕ v 4096)
+    by (yes l) d = rw (lt-ltb v 4096 l, le-leb 0 v zero-le, le-leb v 8192 (omega arith), le-leb (4096 - suc v) 4095 (omega arith))
+    by (no l) (yes m) = rw (le-ltb v 4096 (omega arith), le-leb 0 v zero-le, le-leb v 8192 m, le-leb (v - 4096) 4096 (omega arith))
+    by (no l) (no m) = rw (le-ltb v 4096 (omega arith), le-leb 0 v zero-le, lt-leb v 8192 (omega arith), lt-leb (v - 4096) 4096 (omega arith))
 
+module _ (m : ℕ) (x y : ℤ) where
   module _ (fx : SFits w64 x) (r : Place) (e : meantPlace r ≡ makePlace (toZ w64 (ofZ w64 x))) where
     pub x-outside : r ≡ place.Outside → outOfRange ≡ makePin m x y
     x-outside q = rw (place-refused x fx r e q, and-false)
@@ -45,8 +47,8 @@ module _ (m : ℕ) (x y : ℤ) where
     y-outside q = rw (place-refused y fy s e q, and-false)
 
     module _ (fx : SFits w64 x) (r : Place) (d : meantPlace r ≡ makePlace (toZ w64 (ofZ w64 x))) where
-      pub pin-made : (v w : ℕ) → m ≤ 8 → r ≡ place.Up v → s ≡ place.Up w → made (pinOf (record { m = m; xup = v; yup = w })) ≡ makePin m x y
-      pin-made v w h q t =
+      pub pin-made : (v w : ℕ) → r ≡ place.Up v → s ≡ place.Up w → (p : PinMade) → meantPin p ≡ remakePin (record { m = m; xup = v; yup = w }) → meantPin p ≡ makePin m x y
+      pin-made v w q t p o =
           let a = place-kept x fx r d v q in
           let b = place-kept y fy s e w t in
-          rw (le-leb 0 m zero-le, le-leb m 8 h, a .0, b .0, a .1, b .1)
+          o ∙ rw (a .1, b .1)

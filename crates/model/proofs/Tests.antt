@@ -1,5 +1,5 @@
 -- The tests of the constructors, in the form of the needs of their functions.
-use mathlib.Core.Path.{_≡_}
+use mathlib.Core.Path.{_≡_, refl}
 use mathlib.Core.Bool.{Bool, true, false, not, _&&_, and-false}
 use Prim.Native.Nat.{ℕ, _≤_, _<_, zero-le}
 use lib.Dec.{leb}
@@ -46,3 +46,12 @@ module _ {A : Type 0} (p : Bool) (a : A) where
 
   pub inside : true ≡ p → made a ≡ ifWithin p a
   inside h = rw (← h)
+
+-- what the answer of a constructor tells of its tests
+pub refused : {A : Type 0} (b : Bool) (a : A) → outOfRange ≡ ifWithin b a → b ≡ false
+refused true a e = cc
+refused false a e = refl
+
+pub kept : {A : Type 0} (b : Bool) (a a′ : A) → made a′ ≡ ifWithin b a → (b ≡ true) × (a′ ≡ a)
+kept true a a′ e = (refl, cc)
+kept false a a′ e = (cc, cc)

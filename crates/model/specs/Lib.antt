@@ -1,3 +1,4 @@
 pub mod Meaning
 pub mod Limits
 pub mod Made
+pub mod Held

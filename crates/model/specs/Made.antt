@@ -16,10 +16,14 @@ use Rattle.model.specs.declared.NetMade.{NetMade}
 use Rattle.model.specs.declared.NetMade.the-variants as net
 use Rattle.model.specs.declared.Place.{Place}
 use Rattle.model.specs.declared.Place.the-variants as place
+use Rattle.model.specs.declared.Pin.{Pin as HeldPin}
 use Rattle.model.specs.declared.PinMade.{PinMade}
 use Rattle.model.specs.declared.PinMade.the-variants as pin
+use Rattle.model.specs.declared.Spot.{Spot}
+use Rattle.model.specs.declared.SpotMade.{SpotMade}
+use Rattle.model.specs.declared.SpotMade.the-variants as spot
 use Rattle.model.specs.Meaning.{Pin, pinOf}
-use Rattle.model.specs.Limits.{isWithin, dieSide, fixCorner, fixSide, macSide, netWeight, pinMacro, pinPlace}
+use Rattle.model.specs.Limits.{isWithin, dieSide, fixCorner, fixSide, macSide, netWeight, pinMacro, pinPlace, placedCorner}
 
 -- what making a thing answers: the thing, or the number of a refusal
 pub data Made (A : Type 0) : Type 0 where
@@ -88,3 +92,16 @@ meantPin pin.Outside = outOfRange
 -- a pin of macro m, or a pad where m is 0, at x,y
 abbrev pub makePin : ℕ → ℤ → ℤ → Made Pin
 makePin m x y = ifWithin (isWithin pinMacro (pos m) && isWithin pinPlace x && isWithin pinPlace y) (record { m = m; x = x; y = y })
+
+-- the same of a pin held as a value
+abbrev pub remakePin : HeldPin → Made Pin
+remakePin p = makePin (p .m) (pinOf p .x) (pinOf p .y)
+
+-- what each case of the constructor's answer means
+abbrev pub meantSpot : SpotMade → Made Spot
+meantSpot (spot.Made p) = made p
+meantSpot spot.Outside = outOfRange
+
+-- a macro's corner at x,y in a record
+abbrev pub makeSpot : ℕ → ℕ → Made Spot
+makeSpot x y = ifWithin (isWithin placedCorner (pos x) && isWithin placedCorner (pos y)) (record { x = x; y = y })

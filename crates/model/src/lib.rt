@@ -2,7 +2,7 @@
 ghost use mathlib.Core.Path.{_≡_};
 ghost use mathlib.Core.Bool.{_&&_};
 ghost use lib.Dec.{leb};
-ghost use Rattle.model.specs.Made.{meantDie, makeDie, meantFix, makeFix, meantMac, makeMac, meantNet, makeNet, meantPlace, makePlace, meantPin, makePin};
+ghost use Rattle.model.specs.Made.{meantDie, makeDie, meantFix, makeFix, meantMac, makeMac, meantNet, makeNet, meantPlace, makePlace, meantPin, makePin, remakePin, meantSpot, makeSpot};
 
 // How many bytes a text has at most.
 pub const TEXT_MOST: usize = 16384;
@@ -248,20 +248,33 @@ impl Pin {
 
     pub const MOST_UP: u64 = Pin::UP + Pin::PLACE_MOST;
 
-    // A pin or a pad, where m, x and y are in their ranges.
-    pub fn new(m: usize, x: i64, y: i64) -> PinMade
-        ensures { λ r. ⌜ meantPin r ≡ makePin m x y ⌝ }
+    // A pin or a pad whose x and y are given as held, where m, x and y are in their ranges.
+    pub fn held(m: usize, xup: u64, yup: u64) -> PinMade
+        ensures { λ r. ⌜ meantPin r ≡ remakePin (record { m = m; xup = xup; yup = yup }) ⌝ }
     {
         if Mac::COUNT < m {
             return PinMade::Outside;
         }
+        if !within(xup, Pin::LEAST_UP, Pin::MOST_UP) {
+            return PinMade::Outside;
+        }
+        if !within(yup, Pin::LEAST_UP, Pin::MOST_UP) {
+            return PinMade::Outside;
+        }
+        PinMade::Made(Pin { m, xup, yup })
+    }
+
+    // A pin or a pad, where m, x and y are in their ranges.
+    pub fn new(m: usize, x: i64, y: i64) -> PinMade
+        ensures { λ r. ⌜ meantPin r ≡ makePin m x y ⌝ }
+    {
         let Place::Up(xup) = raised(x) else {
             return PinMade::Outside;
         };
         let Place::Up(yup) = raised(y) else {
             return PinMade::Outside;
         };
-        PinMade::Made(Pin { m, xup, yup })
+        Pin::held(m, xup, yup)
     }
 }
 
@@ -283,9 +296,28 @@ pub struct Spot {
     pub y: u64,
 }
 
+// What making a spot answers: the spot, or that a number is outside its range.
+pub enum SpotMade {
+    Made(Spot),
+    Outside,
+}
+
 impl Spot {
     // The greatest x and y.
     pub const MOST: u64 = 1024;
+
+    // A spot, where its x and y are in their range.
+    pub fn new(x: u64, y: u64) -> SpotMade
+        ensures { λ r. ⌜ meantSpot r ≡ makeSpot x y ⌝ }
+    {
+        if Spot::MOST < x {
+            return SpotMade::Outside;
+        }
+        if Spot::MOST < y {
+            return SpotMade::Outside;
+        }
+        SpotMade::Made(Spot { x, y })
+    }
 }
 
 // What a record says: no placement, or the wirelength and the number of macros placed.

@@ -1,4 +1,4 @@
--- The lines of a record before `done`, and that a macro put last into the record puts its line last.
+-- The lines of a record before the last one: `done` follows them, and a macro put last into the record puts its line last.
 use mathlib.Core.Path.{_≡_, refl, ap}
 use mathlib.Core.List.{List, [], _∷_, _++_}
 use Prim.Native.Nat.{ℕ, suc, _+_}
@@ -7,11 +7,7 @@ use lib.ListN.{length}
 use Rattle.model.specs.declared.Spot.{Spot}
 use Rattle.model.specs.Meaning.{Record, none, least}
 use Rattle.grammar.specs.Words.{Item}
-use Rattle.record.specs.Text.{leastItem, noneItem, doneItem, atItem, atItems, recordItems}
-
-abbrev pub body : Record → List Item
-body none = noneItem ∷ []
-body (least wl ps) = leastItem wl ∷ atItems 1 ps
+use Rattle.record.specs.Text.{leastItem, doneItem, atItem, atItems, body, recordItems}
 
 pub body-done : (r : Record) → recordItems r ≡ body r ++ (doneItem ∷ [])
 unfolding recordItems

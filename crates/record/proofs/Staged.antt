@@ -19,8 +19,8 @@ use Rattle.grammar.proofs.Items.{WellFormed, runItems, check-next}
 use Rattle.grammar.proofs.Values.{heldOf, grows}
 use Rattle.grammar.proofs.Ready.{Stages, Staged, staged-next, staged-on, run-ready}
 use Rattle.record.specs.Kind.{Part, start, followers, spotsOf, spotOf, withSpot, after, add, recordKind}
-use Rattle.record.specs.Text.{atItems, recordItems}
-use Rattle.record.proofs.Body.{body, body-done, body-at}
+use Rattle.record.specs.Text.{atItems, recordItems, body}
+use Rattle.record.proofs.Body.{body-done, body-at}
 
 -- the items js have been read as r, and a word may be next
 data Ready (r : Record) (js : List Item) : Word → Type 0 where

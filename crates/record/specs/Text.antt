@@ -40,10 +40,14 @@ unfoldable pub atItems : ℕ → List Spot → List Item
 atItems m [] = []
 atItems m (p ∷ ps) = atItem m p ∷ atItems (suc m) ps
 
+-- the lines of a record before the last one
+abbrev pub body : Record → List Item
+body none = noneItem ∷ []
+body (least wl ps) = leastItem wl ∷ atItems 1 ps
+
 -- all lines of a record
 unfoldable pub recordItems : Record → List Item
-recordItems none = noneItem ∷ (doneItem ∷ [])
-recordItems (least wl ps) = leastItem wl ∷ (atItems 1 ps ++ (doneItem ∷ []))
+recordItems r = body r ++ (doneItem ∷ [])
 
 -- the one text of a record
 unfoldable pub recordText : Record → List ℕ

@@ -1,17 +1,24 @@
 -- What a line adds: the length, a spot, the end.
-use mathlib.Core.Path.{_≡_, refl, sym, _∙_}
-use mathlib.Core.Bool.{true, false, false≢true}
+use mathlib.Core.Path.{_≡_, refl, sym, ap, _∙_}
+use mathlib.Core.Bool.{true, false, _&&_, false≢true, true≢false}
 use mathlib.Core.List.{List}
 use Prim.Native.Nat.{ℕ, suc, _+_}
 use native.Mathlib.Numerals.{add-one}
-use native.Mathlib.Omega.{arith}
 use lib.Dec.{eqb}
-use lib.ListN.{length, getD, set, length-set}
+use lib.IntN.{pos}
+use lib.ListN.{length, getD, set, replicate}
 use borrow.Author.Tests.{eq-eqb, ne-eqb}
+use Rattle.model.specs.declared.Spot.{Spot}
+use Rattle.model.specs.declared.SpotMade.{SpotMade}
+use Rattle.model.specs.declared.SpotMade.the-variants as spot
 use Rattle.model.specs.declared.Word.the-variants as word
 use Rattle.model.specs.Meaning.{firstOf, blankSpot}
+use Rattle.model.specs.Limits.{isWithin, placedCorner, mostMacs}
+use Rattle.model.specs.Made.{meantSpot, makeSpot}
+use Rattle.model.proofs.Tests.{refused, kept}
+use Rattle.model.proofs.Holding.{holds-more, holds-none, fits-in}
 use Rattle.model.proofs.FirstOf.{first-set}
-use Rattle.grammar.specs.Steps.{Entered}
+use Rattle.grammar.specs.Steps.{Entered, InRanges}
 use Rattle.grammar.specs.Words.{size}
 use Rattle.line.specs.Held.{valuesOf}
 use Rattle.record.specs.Kind.{recordKind, add, spotsOf}
@@ -19,24 +26,27 @@ use Rattle.recordreader.specs.declared.State.{State}
 use Rattle.line.specs.declared.Fault.the-variants as held
 use Rattle.recordreader.specs.declared.Taken.{Taken}
 use Rattle.recordreader.specs.State.{Sound, partOf, withFault, TakenOk}
-use Rattle.recordreader.proofs.Values.{heldSpot, least-values, at-values}
+use Rattle.recordreader.proofs.Values.{heldSpot, least-values, at-values, corners-in}
 use Rattle.recordreader.proofs.Entry.{count-meant, at-fits, at-found}
 
 abbrev taken : State → Taken
 taken s = record { fault = held.Clear; state = s }
 
 module _ (s : State) (v : List ℕ) (sound : Sound s) (l : ℕ) where
-  pub least-added : TakenOk (taken (record { last = word.Least; found = true; wl = getD v 0 0; count = 0; spots = s .spots })) l (add (partOf s) word.Least (valuesOf word.Least v))
+  pub least-added : (ps : List Spot) → ps ≡ replicate mostMacs blankSpot → TakenOk (taken (record { last = word.Least; found = true; wl = getD v 0 0; count = 0; spots = ps })) l (add (partOf s) word.Least (valuesOf word.Least v))
   unfolding firstOf
-  least-added =
+  least-added ps e =
       record {
         meant = rw (least-values v);
         at = refl;
-        sound = record { few = omega arith; long = sound .long; blank = λ e. refl; opened = λ o. refl };
+        sound = record { spots = rw e (holds-none blankSpot mostMacs); blank = λ f. refl; opened = λ o. refl };
       }
 
+  pub none-added : (ps : List Spot) → ps ≡ replicate mostMacs blankSpot → TakenOk (taken (record { last = word.None; found = false; wl = 0; count = 0; spots = ps })) l (add (partOf s) word.None (valuesOf word.None v))
+  none-added ps e = record { meant = refl; at = refl; sound = record { spots = rw e (holds-none blankSpot mostMacs); blank = λ f. refl; opened = λ o. absurd (false≢true o) } }
+
   pub done-added : TakenOk (taken (record { last = word.Done; found = s .found; wl = s .wl; count = s .count; spots = s .spots })) l (add (partOf s) word.Done (valuesOf word.Done v))
-  done-added = record { meant = refl; at = refl; sound = record { few = sound .few; long = sound .long; blank = sound .blank; opened = λ o. absurd (false≢true o) } }
+  done-added = record { meant = refl; at = refl; sound = record { spots = sound .spots; blank = sound .blank; opened = λ o. absurd (false≢true o) } }
 
   -- m against the next number
   turn : eqb (size (valuesOf word.At v) 0) (suc (length (spotsOf (partOf s .result)))) ≡ eqb (getD v 0 0) (s .count + 1)
@@ -45,15 +55,21 @@ module _ (s : State) (v : List ℕ) (sound : Sound s) (l : ℕ) where
   pub out-of-turn : (r : Taken) → (getD v 0 0 ≡ s .count + 1 → ⊥) → r ≡ withFault s (record { no = 8; line = l }) → TakenOk r l (add (partOf s) word.At (valuesOf word.At v))
   out-of-turn r h e = rw e (record { meant = rw (turn, ne-eqb (getD v 0 0) (s .count + 1) h); at = refl; sound = sound })
 
-  pub at-added : Entered recordKind (partOf s) word.At → getD v 0 0 ≡ s .count + 1 → TakenOk (taken (record { last = word.At; found = s .found; wl = s .wl; count = s .count + 1; spots = set (s .spots) (s .count) (heldSpot v) })) l (add (partOf s) word.At (valuesOf word.At v))
-  at-added p h =
+  pub spot-never : length v ≡ 4 → InRanges word.At (valuesOf word.At v) → (m : SpotMade) → meantSpot m ≡ makeSpot (getD v 1 0) (getD v 2 0) → m ≡ spot.Outside → (r : Taken) → TakenOk r l (add (partOf s) word.At (valuesOf word.At v))
+  spot-never four i m o q r =
+      absurd (true≢false (sym (corners-in v four i) ∙ refused (isWithin placedCorner (pos (getD v 1 0)) && isWithin placedCorner (pos (getD v 2 0))) (heldSpot v) (ap meantSpot (sym q) ∙ o)))
+
+  the-spot : (m : SpotMade) → meantSpot m ≡ makeSpot (getD v 1 0) (getD v 2 0) → (p : Spot) → m ≡ spot.Made p → p ≡ heldSpot v
+  the-spot m o p q = kept (isWithin placedCorner (pos (getD v 1 0)) && isWithin placedCorner (pos (getD v 2 0))) (heldSpot v) p (ap meantSpot (sym q) ∙ o) .1
+
+  pub at-added : Entered recordKind (partOf s) word.At → getD v 0 0 ≡ s .count + 1 → (m : SpotMade) → meantSpot m ≡ makeSpot (getD v 1 0) (getD v 2 0) → (p : Spot) → m ≡ spot.Made p → TakenOk (taken (record { last = word.At; found = s .found; wl = s .wl; count = s .count + 1; spots = set (s .spots) (s .count) p })) l (add (partOf s) word.At (valuesOf word.At v))
+  at-added e h m o p q =
       record {
-        meant = rw (turn, eq-eqb (getD v 0 0) (s .count + 1) h, at-found s sound p, at-values v .1, first-set blankSpot (s .count) (s .spots) (heldSpot v) (omega (arith, at-fits s sound p, sound .long)));
+        meant = rw (turn, eq-eqb (getD v 0 0) (s .count + 1) h, at-found s sound e, at-values v .1, ← the-spot m o p q, first-set blankSpot (s .count) (s .spots) p (fits-in (sound .spots) (at-fits s sound e)));
         at = refl;
         sound = record {
-          few = omega (arith, at-fits s sound p);
-          long = length-set (s .spots) (s .count) (heldSpot v) ∙ sound .long;
-          blank = λ e. absurd (false≢true (sym e ∙ at-found s sound p));
-          opened = λ o. at-found s sound p;
+          spots = holds-more (sound .spots) p (at-fits s sound e);
+          blank = λ f. absurd (false≢true (sym f ∙ at-found s sound e));
+          opened = λ o. at-found s sound e;
         };
       }

@@ -3,7 +3,6 @@ use mathlib.Core.Path.{_≡_, refl, sym, _∙_}
 use mathlib.Core.Bool.{Bool, true, false, not, _||_}
 use mathlib.Core.List.{List}
 use Prim.Native.Nat.{ℕ, _≤_, _<_}
-use native.Mathlib.Omega.{arith}
 use lib.Dec.{ltb, eqb}
 use lib.ListN.{length}
 use borrow.Author.Tests.{ne-eqb, ltb-true, lt-ltb, le-ltb, not-true, not-false}
@@ -11,6 +10,7 @@ use Rattle.model.specs.declared.Spot.{Spot}
 use Rattle.model.specs.declared.Word.{Word}
 use Rattle.model.specs.declared.Word.the-variants as word
 use Rattle.model.specs.Meaning.{Record, blankSpot}
+use Rattle.model.proofs.Holding.{holds-all}
 use Rattle.model.proofs.FirstOf.{length-first}
 use Rattle.grammar.specs.Words.{rank, isIn}
 use Rattle.grammar.specs.Steps.{entryFault, Entered}
@@ -31,7 +31,7 @@ spots-count true wl n ps h z = length-first blankSpot n ps h
 spots-count false wl n ps h z = sym (z refl)
 
 pub count-meant : (s : State) → Sound s → length (spotsOf (partOf s .result)) ≡ s .count
-count-meant s sound = spots-count (s .found) (s .wl) (s .count) (s .spots) (omega (arith, sound .few, sound .long)) (sound .blank)
+count-meant s sound = spots-count (s .found) (s .wl) (s .count) (s .spots) (holds-all (sound .spots)) (sound .blank)
 
 -- ---- the faults in their order
 

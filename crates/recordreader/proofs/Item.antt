@@ -4,11 +4,15 @@ use mathlib.Core.List.{List}
 use Prim.Native.Nat.{ℕ}
 use Rattle.model.specs.declared.Word.{Word}
 use Rattle.grammar.specs.Reading.{fault}
+use Rattle.grammar.specs.Steps.{InRanges}
 use Rattle.line.specs.Held.{valuesOf}
 use Rattle.record.specs.Kind.{add}
 use Rattle.recordreader.specs.declared.State.{State}
 use Rattle.recordreader.specs.declared.Taken.{Taken}
 use Rattle.recordreader.specs.State.{Sound, partOf, withFault, TakenOk}
+
+pub ranged-as : (w x : Word) → w ≡ x → (v : List ℕ) → InRanges w (valuesOf w v) → InRanges x (valuesOf x v)
+ranged-as w x e v i = rw (← e) i
 
 module _ (s : State) (w x : Word) (e : w ≡ x) (v : List ℕ) (r : Taken) (l : ℕ) where
   pub taken-as : TakenOk r l (add (partOf s) x (valuesOf x v)) → TakenOk r l (add (partOf s) w (valuesOf w v))

@@ -1,9 +1,8 @@
 -- Reading line by line: what is left to read, and each end of the reading.
-use mathlib.Core.Path.{_≡_, refl, ap}
+use mathlib.Core.Path.{_≡_, refl, sym, ap, ap₂, subst}
 use mathlib.Core.Bool.{true, false, false≢true}
 use mathlib.Core.List.{List}
 use Prim.Native.Nat.{ℕ, _+_, _-_, _≤_, _<_}
-use native.Mathlib.Omega.{arith}
 use lib.ListN.{length, take, drop, replicate}
 use borrow.Author.Tests.{ne-eqb}
 use Rattle.model.specs.declared.Spot.{Spot}
@@ -11,7 +10,11 @@ use Rattle.model.specs.declared.Outcome.the-variants as outcome
 use Rattle.model.specs.declared.Record.{Record as HeldRecord}
 use Rattle.model.specs.declared.Word.the-variants as word
 use Rattle.model.specs.declared.Refusal.{Refusal}
-use Rattle.model.specs.Meaning.{Record, recordOf, blankSpot}
+use Rattle.model.specs.Meaning.{Record, recordOf, firstOf, blankSpot}
+use Rattle.model.specs.Limits.{mostMacs}
+use Rattle.model.specs.Held.{filled}
+use Rattle.model.proofs.FirstOf.{length-first}
+use Rattle.model.proofs.Holding.{holds-all, holds-none, filled-again}
 use Rattle.grammar.specs.Words.{rank}
 use Rattle.grammar.specs.Reading.{Reading, refused, stepBytes, stepLine, ending}
 use Rattle.grammar.specs.Steps.{lineEnd, lineAt}
@@ -24,17 +27,17 @@ use Rattle.line.specs.declared.Fault.the-variants as held
 use Rattle.recordreader.specs.declared.Taken.{Taken}
 use Rattle.recordreader.specs.declared.RecordAnswer.the-variants as answer
 use Rattle.recordreader.specs.declared.RecordRead.{RecordRead}
-use Rattle.recordreader.specs.State.{Sound, resultOf, partOf, withFault, TakenOk}
+use Rattle.recordreader.specs.State.{Sound, partOf, withFault, TakenOk, RecordIs}
 use Rattle.recordreader.specs.Answer.{refusedAt, ReadOk}
 
 pub refuses : (r : RecordRead) (f : Refusal) (read : Reading Record) → r ≡ refusedAt f → refused (f .no) (f .line) ≡ read → ReadOk read r
-refuses r f read e q = rw e (record { meant = q; blank = refl })
+refuses r f read e q = rw (e, ← q) (record { meant = refl; whole = refl })
 
 -- ---- before the first line
 
 module _ (ps : List Spot) (e : ps ≡ replicate 8 blankSpot) where
   pub empty-sound : Sound (record { last = word.Nothing; found = false; wl = 0; count = 0; spots = ps })
-  empty-sound = record { few = omega arith; long = ap length e; blank = λ f. refl; opened = λ o. absurd (false≢true o) }
+  empty-sound = record { spots = rw e (holds-none blankSpot mostMacs); blank = λ f. refl; opened = λ o. absurd (false≢true o) }
 
 -- ---- a line
 
@@ -61,18 +64,32 @@ pub all-read : (text : List ℕ) (s : State) (a line : ℕ) → Left recordKind 
 unfolding readRecord
 all-read text s a line left h r ok = rw (text-ends recordKind start text (partOf s) a line left h) ok
 
-module _ (s : State) where
-  pub least-held : s .found ≡ true → recordOf (record { outcome = outcome.Least (s .wl) (s .count); spots = s .spots }) ≡ resultOf (s .found) (s .wl) (s .count) (s .spots)
+module _ (s : State) (sound : Sound s) where
+  pub least-held : s .found ≡ true → RecordIs (record { outcome = outcome.Least (s .wl) (s .count); spots = s .spots }) (partOf s .result)
   unfolding recordOf
-  least-held e = rw e
+  least-held e =
+      rw e
+      (record {
+        meant = refl;
+        whole =
+            ap₂ (λ (n : ℕ) (ps : List Spot). record { outcome = outcome.Least (s .wl) n; spots = ps })
+            (sym (length-first blankSpot (s .count) (s .spots) (holds-all (sound .spots))))
+            (sym (filled-again blankSpot mostMacs (s .count) (s .spots) (sound .spots)));
+      })
 
-  pub none-held : s .found ≡ false → recordOf (record { outcome = outcome.None; spots = s .spots }) ≡ resultOf (s .found) (s .wl) (s .count) (s .spots)
-  unfolding recordOf
-  none-held e = rw e
+  pub none-held : s .found ≡ false → RecordIs (record { outcome = outcome.None; spots = s .spots }) (partOf s .result)
+  unfolding recordOf firstOf
+  none-held e =
+      let blank : replicate mostMacs blankSpot ≡ s .spots = subst (λ (n : ℕ). filled mostMacs blankSpot (firstOf blankSpot n (s .spots)) ≡ s .spots) (sound .blank e) (filled-again blankSpot mostMacs (s .count) (s .spots) (sound .spots)) in
+      rw e (record { meant = refl; whole = ap (λ (ps : List Spot). record { outcome = outcome.None; spots = ps }) (sym blank) })
 
 module _ (s : State) (line b : ℕ) (own : b ≡ rank (s .last)) where
-  pub complete : b ≡ 10 → (r : HeldRecord) → recordOf r ≡ resultOf (s .found) (s .wl) (s .count) (s .spots) → ReadOk (recordRead (ending recordKind (recordKind .complete (partOf s)) (partOf s) line)) (record { answer = answer.Accepted; «record» = r })
-  complete e r q = record { meant = rw (← own, e, q); blank = refl }
+  pub complete : b ≡ 10 → (r : HeldRecord) → RecordIs r (partOf s .result) → ReadOk (recordRead (ending recordKind (recordKind .complete (partOf s)) (partOf s) line)) (record { answer = answer.Accepted; «record» = r })
+  complete e r q =
+      record {
+        meant = rw (← own, e, q .meant);
+        whole = rw (← own, e) (ap (λ (d : HeldRecord). record { answer = answer.Accepted; «record» = d }) (q .whole));
+      }
 
   pub not-complete : (b ≡ 10 → ⊥) → refused 5 line ≡ recordRead (ending recordKind (recordKind .complete (partOf s)) (partOf s) line)
   not-complete d = rw (← own, ne-eqb b 10 d)

@@ -8,8 +8,9 @@ use Rattle.model.specs.declared.Refusal.{Refusal}
 use Rattle.grammar.specs.Line.{comma, upTo, fields}
 use Rattle.grammar.specs.Words.{wordIn, recordWords, rules}
 use Rattle.grammar.specs.Reading.{stepFields, stepBytes}
-use Rattle.grammar.specs.Steps.{entryFault}
-use Rattle.grammar.proofs.OneLine.{step-got, step-faulty, faulty-line, step-fails, step-passes}
+use Rattle.grammar.specs.Steps.{entryFault, InRanges}
+use Rattle.grammar.proofs.Ranges.{fields-ranged}
+use Rattle.grammar.proofs.OneLine.{fields-got, step-got, step-faulty, faulty-line, step-fails, step-passes}
 use Rattle.line.specs.declared.FieldsRead.{FieldsRead}
 use Rattle.line.specs.declared.Fields.the-variants as held
 use Rattle.line.specs.Held.{valuesOf, located, FieldsOk}
@@ -18,12 +19,15 @@ use Rattle.recordreader.specs.declared.State.{State}
 use Rattle.recordreader.specs.declared.Taken.{Taken}
 use Rattle.recordreader.specs.State.{Sound, partOf, withFault, TakenOk}
 
+pub line-ranged : (w : Word) (l : ℕ) (rest : List ℕ) (f : FieldsRead) → FieldsOk w l rest f → f .answer ≡ held.Got → InRanges w (valuesOf w (f .values))
+line-ranged w l rest f ok q = fields-ranged w rest (valuesOf w (f .values)) (fields-got l (located l) (λ zs. refl) (λ n. refl) (fields (rules w) rest) (valuesOf w (f .values)) (rw q at (ok .meant)))
+
 module _ (s : State) (w : Word) (l : ℕ) (rest : List ℕ) (f : FieldsRead) (ok : FieldsOk w l rest f) (r : Taken) where
   pub fields-fail : Sound s → (g : Refusal) → f .answer ≡ held.Refused g → r ≡ withFault s g → TakenOk r l (stepFields recordKind (partOf s) w (fields (rules w) rest))
-  fields-fail sound g q e = rw e (record { meant = step-faulty recordKind (partOf s) w l (located l) (λ zs. refl) (λ n. refl) (fields (rules w) rest) (g .no) (g .line) (rw q at (ok .meant)); at = faulty-line recordKind (partOf s) w l (located l) (λ zs. refl) (λ n. refl) (fields (rules w) rest) (g .no) (g .line) (rw q at (ok .meant)); sound = sound })
+  fields-fail sound g q e = rw e (record { meant = step-faulty l (located l) (λ zs. refl) (λ n. refl) recordKind (partOf s) w (fields (rules w) rest) (g .no) (g .line) (rw q at (ok .meant)); at = faulty-line l (located l) (λ zs. refl) (λ n. refl) (fields (rules w) rest) (g .no) (g .line) (rw q at (ok .meant)); sound = sound })
 
   pub line-adds : f .answer ≡ held.Got → TakenOk r l (add (partOf s) w (valuesOf w (f .values))) → TakenOk r l (stepFields recordKind (partOf s) w (fields (rules w) rest))
-  line-adds q t = rw (step-got recordKind (partOf s) w l (located l) (λ zs. refl) (λ n. refl) (fields (rules w) rest) (valuesOf w (f .values)) (rw q at (ok .meant))) t
+  line-adds q t = rw (step-got l (located l) (λ zs. refl) (λ n. refl) recordKind (partOf s) w (fields (rules w) rest) (valuesOf w (f .values)) (rw q at (ok .meant))) t
 
 module _ (bytes : List ℕ) (b : ℕ) (n : b ≡ length (upTo comma bytes)) (s : State) (w : Word) (i : w ≡ wordIn recordWords (take b bytes)) (no : ℕ) (tests : no ≡ entryFault recordKind (partOf s) w) (r : Taken) (l : ℕ) where
   pub entry-fails : Sound s → (no ≡ 0 → ⊥) → r ≡ withFault s (record { no = no; line = l }) → TakenOk r l (stepBytes recordKind (partOf s) bytes)

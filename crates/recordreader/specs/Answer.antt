@@ -5,6 +5,7 @@ use Rattle.model.specs.declared.Outcome.the-variants as outcome
 use Rattle.model.specs.declared.Refusal.{Refusal}
 use Rattle.model.specs.declared.Record.{Record as HeldRecord}
 use Rattle.model.specs.Meaning.{Record, recordOf, blankSpot}
+use Rattle.model.specs.Held.{heldRecord}
 use Rattle.model.specs.Limits.{mostMacs}
 use Rattle.grammar.specs.Reading.{Reading, accepted, refused}
 use Rattle.recordreader.specs.declared.RecordAnswer.{RecordAnswer}
@@ -24,16 +25,16 @@ meant (answer.Refused f) r = refused (f .no) (f .line)
 abbrev pub meantRecord : RecordRead → Reading Record
 meantRecord r = meant (r .answer) (r .record)
 
--- the record after a refusal; where there is none, a blank one
-abbrev pub afterRefusal : RecordAnswer → HeldRecord → HeldRecord
-afterRefusal answer.Accepted r = blankRecord
-afterRefusal (answer.Refused f) r = r
-
 -- the refusal f, with a blank record
 abbrev pub refusedAt : Refusal → RecordRead
 refusedAt f = record { answer = answer.Refused f; «record» = blankRecord }
 
+-- the whole answer for a text that is read so
+abbrev pub recordAnswer : Reading Record → RecordRead
+recordAnswer (accepted r) = record { answer = answer.Accepted; «record» = heldRecord r }
+recordAnswer (refused n l) = refusedAt (record { no = n; line = l })
+
 -- r is the answer for a text that is read so
 pub record ReadOk (read : Reading Record) (r : RecordRead) : Type 0 where
   pub meant : meantRecord r ≡ read
-  pub blank : afterRefusal (r .answer) (r .record) ≡ blankRecord
+  pub whole : r ≡ recordAnswer read

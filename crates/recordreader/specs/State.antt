@@ -1,15 +1,17 @@
 -- What the reader holds while it reads, and what that means.
-use Prim.Native.Nat.{ℕ, _≤_}
+use Prim.Native.Nat.{ℕ}
 use mathlib.Core.Path.{_≡_}
 use mathlib.Core.List.{List, [], _∷_}
 use mathlib.Core.Bool.{Bool, true, false, _&&_, _||_}
-use lib.ListN.{length, getD}
+use lib.ListN.{getD}
 use lib.Dec.{leb}
 use Rattle.model.specs.declared.Word.the-variants as word
 use Rattle.model.specs.declared.Refusal.{Refusal}
 use Rattle.model.specs.declared.Spot.{Spot}
-use Rattle.model.specs.Meaning.{Record, none, least, firstOf, blankSpot}
+use Rattle.model.specs.declared.Record.{Record as HeldRecord}
+use Rattle.model.specs.Meaning.{Record, none, least, firstOf, blankSpot, recordOf}
 use Rattle.model.specs.Limits.{mostMacs}
+use Rattle.model.specs.Held.{heldRecord, Holds}
 use Rattle.grammar.specs.Words.{isWord}
 use Rattle.grammar.specs.Reading.{Step, next, fault as faulty}
 use Rattle.line.specs.declared.Fault.{Fault}
@@ -27,10 +29,9 @@ resultOf true wl n ps = least wl (firstOf blankSpot n ps)
 abbrev pub partOf : State → Part
 partOf s = record { last = s .last; result = resultOf (s .found) (s .wl) (s .count) (s .spots) }
 
--- the count stays within the array, and is 0 before a `least` line, which stands before an `at` line
+-- the count stays within the array, whose entries past it are blank, and is 0 before a `least` line, which stands before an `at` line
 pub record Sound (s : State) : Type 0 where
-  pub few : s .count ≤ mostMacs
-  pub long : length (s .spots) ≡ mostMacs
+  pub spots : Holds blankSpot mostMacs (s .count) (s .spots)
   pub blank : s .found ≡ false → s .count ≡ 0
   pub opened : (isWord (s .last) word.Least || isWord (s .last) word.At) ≡ true → s .found ≡ true
 
@@ -64,3 +65,8 @@ pub record TakenOk (t : Taken) (l : ℕ) (step : Step Part) : Type 0 where
   pub meant : stepOf (t .fault) (t .state) ≡ step
   pub at : lineOf (t .fault) l ≡ l
   pub sound : Sound (t .state)
+
+-- r is the record d as it is held
+pub record RecordIs (r : HeldRecord) (d : Record) : Type 0 where
+  pub meant : recordOf r ≡ d
+  pub whole : r ≡ heldRecord d

@@ -6,21 +6,23 @@ use model::Outcome;
 use model::Record;
 use model::Refusal;
 use model::Spot;
+use model::SpotMade;
 use model::TEXT_MOST;
 use model::Word;
 ghost use mathlib.Core.Path.{_≡_};
 ghost use Prim.Native.Nat.{_≤_, _<_};
 ghost use lib.ListN.{length, replicate};
-ghost use Rattle.model.specs.Meaning.{recordOf, blankSpot};
+ghost use Rattle.model.specs.Limits.{mostBytes, mostMacs};
+ghost use Rattle.model.specs.Meaning.{blankSpot};
 ghost use Rattle.grammar.specs.Words.{rules};
 ghost use Rattle.grammar.specs.Line.{fields};
 ghost use Rattle.grammar.specs.Reading.{stepBytes, stepFields, stepLine, ending};
-ghost use Rattle.grammar.specs.Steps.{entryFault, Entered, lineEnd, lineAt};
+ghost use Rattle.grammar.specs.Steps.{entryFault, Entered, InRanges, lineEnd, lineAt};
 ghost use Rattle.line.specs.Held.{valuesOf};
 ghost use Rattle.record.specs.Kind.{add, recordKind};
 ghost use Rattle.record.specs.Text.{recordRead, readRecord};
-ghost use Rattle.recordreader.specs.State.{Sound, resultOf, partOf, mayFollow, withFault, TakenOk};
-ghost use Rattle.recordreader.specs.Answer.{blankRecord, refusedAt, meantRecord, afterRefusal, ReadOk};
+ghost use Rattle.recordreader.specs.State.{Sound, partOf, mayFollow, withFault, TakenOk, RecordIs};
+ghost use Rattle.recordreader.specs.Answer.{refusedAt, meantRecord, recordAnswer, ReadOk};
 
 // What reading a record answers.
 pub enum RecordAnswer {
@@ -28,7 +30,7 @@ pub enum RecordAnswer {
     Refused(Refusal),
 }
 
-// The answer with the record; after a refusal the record is blank.
+// The answer with the record; its spots past the count are blank, and after a refusal the record is.
 pub struct RecordRead {
     pub answer: RecordAnswer,
     pub record: Record,
@@ -51,7 +53,7 @@ pub(crate) struct Taken {
 
 // Blank spots: 0,0 each.
 fn blank_spots() -> [Spot; Mac::COUNT]
-    ensures { λ r. ⌜ r ≡ replicate 8 blankSpot ⌝ }
+    ensures { λ r. ⌜ r ≡ replicate mostMacs blankSpot ⌝ }
 {
     [Spot { x: 0, y: 0 }; Mac::COUNT]
 }
@@ -103,7 +105,7 @@ fn add_least(s: State, v: [u64; 4], line: usize) -> Taken
     requires { ⌜ Sound s ⌝ }
     ensures { λ r. ⌜ TakenOk r line (add (partOf s) Word.Least (valuesOf Word.Least v)) ⌝ }
 {
-    let spots = s.spots;
+    let spots = blank_spots();
     Taken {
         fault: Fault::Clear,
         state: State {
@@ -121,7 +123,7 @@ fn add_none(s: State, v: [u64; 4], line: usize) -> Taken
     requires { ⌜ Sound s ⌝ }
     ensures { λ r. ⌜ TakenOk r line (add (partOf s) Word.None (valuesOf Word.None v)) ⌝ }
 {
-    let spots = s.spots;
+    let spots = blank_spots();
     Taken {
         fault: Fault::Clear,
         state: State {
@@ -134,9 +136,10 @@ fn add_none(s: State, v: [u64; 4], line: usize) -> Taken
     }
 }
 
-// What an `at` line adds: the spot of macro m. m out of turn 8.
+// What an `at` line adds: the spot of macro m. m out of turn 8. The values that were read are in their ranges, so the constructor does not refuse them.
 fn add_at(s: State, v: [u64; 4], line: usize) -> Taken
     requires { ⌜ Sound s ⌝ }
+    requires { ⌜ InRanges Word.At (valuesOf Word.At v) ⌝ }
     requires { ⌜ Entered recordKind (partOf s) Word.At ⌝ }
     ensures { λ r. ⌜ TakenOk r line (add (partOf s) Word.At (valuesOf Word.At v)) ⌝ }
 {
@@ -145,8 +148,11 @@ fn add_at(s: State, v: [u64; 4], line: usize) -> Taken
     if m != n + 1 {
         return with_fault(s, Refusal { no: 8, line });
     }
+    let SpotMade::Made(p) = Spot::new(v[1], v[2]) else {
+        return with_fault(s, Refusal { no: 4, line });
+    };
     let mut spots = s.spots;
-    spots[n] = Spot { x: v[1], y: v[2] };
+    spots[n] = p;
     Taken {
         fault: Fault::Clear,
         state: State {
@@ -180,6 +186,7 @@ fn add_done(s: State, v: [u64; 4], line: usize) -> Taken
 // What a line with the word w and the values v adds, or its fault.
 fn add_item(s: State, w: Word, v: [u64; 4], line: usize) -> Taken
     requires { ⌜ Sound s ⌝ }
+    requires { ⌜ InRanges w (valuesOf w v) ⌝ }
     requires { ⌜ Entered recordKind (partOf s) w ⌝ }
     ensures { λ r. ⌜ TakenOk r line (add (partOf s) w (valuesOf w v)) ⌝ }
 {
@@ -256,7 +263,8 @@ fn refused(f: Refusal) -> RecordRead
 
 // The record that has been read.
 fn record_of(s: State) -> Record
-    ensures { λ r. ⌜ recordOf r ≡ resultOf (s .found) (s .wl) (s .count) (s .spots) ⌝ }
+    requires { ⌜ Sound s ⌝ }
+    ensures { λ r. ⌜ RecordIs r (partOf s .result) ⌝ }
 {
     let spots = s.spots;
     if s.found {
@@ -273,6 +281,7 @@ fn record_of(s: State) -> Record
 
 // The end of the text, where line `line` would begin: `done` must stand before it.
 fn finish(s: State, line: usize) -> RecordRead
+    requires { ⌜ Sound s ⌝ }
     ensures { λ r. ⌜ ReadOk (recordRead (ending recordKind (recordKind .complete (partOf s)) (partOf s) line)) r ⌝ }
 {
     let last = s.last;
@@ -287,7 +296,7 @@ fn finish(s: State, line: usize) -> RecordRead
 
 // The lines of a text that is not too long.
 fn read_lines(text: &[u8]) -> RecordRead
-    requires { ⌜ length (now text) ≤ 16384 ⌝ }
+    requires { ⌜ length (now text) ≤ mostBytes ⌝ }
     ensures { λ r. ⌜ ReadOk (readRecord (now (text .entry))) r ⌝ }
 {
     let spots = blank_spots();
@@ -318,10 +327,10 @@ fn read_lines(text: &[u8]) -> RecordRead
     finish(s, line)
 }
 
-// The record that a text means, or number and line of its refusal.
+// The record that a text means, or number and line of its refusal: what the answer means, and the whole answer.
 pub fn read_record(text: &[u8]) -> RecordRead
     ensures { λ r. ⌜ meantRecord r ≡ readRecord (now (text .entry)) ⌝ }
-    ensures { λ r. ⌜ afterRefusal (r .answer) (r .record) ≡ blankRecord ⌝ }
+    ensures { λ r. ⌜ r ≡ recordAnswer (readRecord (now (text .entry))) ⌝ }
 {
     if TEXT_MOST < text.len() {
         return refused(Refusal { no: 1, line: 0 });

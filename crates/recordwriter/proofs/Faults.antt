@@ -1,24 +1,33 @@
 -- The fault of a macro's spot, test by test, in the form of the needs.
-use mathlib.Core.Path.{_≡_}
+use mathlib.Core.Path.{_≡_, sym, ap, _∙_}
+use mathlib.Core.Bool.{Bool, true, false, not}
 use mathlib.Core.List.{List}
 use Prim.Native.Nat.{ℕ, _≤_, _<_}
 use lib.ListN.{getD}
-use borrow.Author.Tests.{lt-ltb, le-ltb, lt-leb, le-leb}
+use borrow.Author.Tests.{lt-ltb, le-ltb, not-true, not-false}
 use Rattle.model.specs.declared.Spot.{Spot}
+use Rattle.model.specs.declared.SpotMade.{SpotMade}
+use Rattle.model.specs.declared.SpotMade.the-variants as spot
 use Rattle.model.specs.Meaning.{blankSpot}
-use Rattle.recordwriter.specs.Parts.{spotFault}
+use Rattle.model.specs.Made.{meantSpot, makeSpot}
+use Rattle.model.proofs.Tests.{refused, kept}
+use Rattle.recordwriter.specs.Parts.{inCorners, spotFault}
+
+-- a spot that was made, or not
+module _ (p : Spot) (r : SpotMade) (e : meantSpot r ≡ makeSpot (p .x) (p .y)) where
+  pub spot-in : (q : Spot) → r ≡ spot.Made q → true ≡ inCorners p
+  spot-in q o = sym (kept (inCorners p) (record { x = p .x; y = p .y }) q (ap meantSpot (sym o) ∙ e) .0)
+
+  pub spot-out : r ≡ spot.Outside → false ≡ inCorners p
+  spot-out o = sym (refused (inCorners p) (record { x = p .x; y = p .y }) (ap meantSpot (sym o) ∙ e))
 
 module _ (s : List Spot) (i : ℕ) where
   pub no-room : 8 ≤ i → 6 ≡ spotFault s i
   no-room h = rw (le-ltb i 8 h)
 
-  module _ (h : i < 8) where
-    pub x-over : 1024 < getD s i blankSpot .x → 4 ≡ spotFault s i
-    x-over g = rw (lt-ltb i 8 h, lt-leb (getD s i blankSpot .x) 1024 g)
+  module _ (h : i < 8) (b : Bool) (e : b ≡ inCorners (getD s i blankSpot)) where
+    pub spot-over : not b ≡ true → 4 ≡ spotFault s i
+    spot-over g = rw (lt-ltb i 8 h, ← e, not-true b g)
 
-    module _ (g : getD s i blankSpot .x ≤ 1024) where
-      pub y-over : 1024 < getD s i blankSpot .y → 4 ≡ spotFault s i
-      y-over f = rw (lt-ltb i 8 h, le-leb (getD s i blankSpot .x) 1024 g, lt-leb (getD s i blankSpot .y) 1024 f)
-
-      pub no-fault : getD s i blankSpot .y ≤ 1024 → 0 ≡ spotFault s i
-      no-fault f = rw (lt-ltb i 8 h, le-leb (getD s i blankSpot .x) 1024 g, le-leb (getD s i blankSpot .y) 1024 f)
+    pub no-fault : not b ≡ false → 0 ≡ spotFault s i
+    no-fault g = rw (lt-ltb i 8 h, ← e, not-false b g)

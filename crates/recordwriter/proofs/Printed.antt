@@ -15,8 +15,8 @@ use Rattle.grammar.specs.Words.{itemText, itemsText}
 use Rattle.linewriter.specs.Shown.{shownOf}
 use Rattle.linewriter.proofs.Counted.{length-first-of, take-more, take-every}
 use Rattle.linewriter.proofs.Items.{then-line}
-use Rattle.record.specs.Text.{leastItem, noneItem, doneItem, atItem, atItems, recordText}
-use Rattle.record.proofs.Body.{body, body-done, body-at}
+use Rattle.record.specs.Text.{leastItem, noneItem, doneItem, atItem, atItems, recordText, body}
+use Rattle.record.proofs.Body.{body-done, body-at}
 
 module _ (b m a : List ℕ) (at k r : ℕ) (f : length b < 2 ^ 64) where
   -- a loop over the macros of an array s

@@ -1,6 +1,6 @@
 -- Reading the lines of a record's macros one by one: what is left to read after the first i, and each answer.
 use mathlib.Core.Path.{_≡_, refl, sym, ap, _∙_}
-use mathlib.Core.Bool.{Bool, true, false}
+use mathlib.Core.Bool.{Bool, true, false, _&&_}
 use mathlib.Core.List.{List, [], _∷_, _++_}
 use Prim.Native.Nat.{ℕ, zero, suc, _+_, _-_, _≤_, _<_}
 use native.Mathlib.Decide.{decLt}
@@ -26,7 +26,7 @@ use Rattle.grammar.specs.Steps.{need}
 use Rattle.record.specs.Kind.{Part, followers, recordKind}
 use Rattle.record.specs.Text.{doneItem, atItem, atItems, recordItems, recordRead}
 use Rattle.record.proofs.ItemsRun.{lines-run}
-use Rattle.recordwriter.specs.Parts.{spotFault, linesRead}
+use Rattle.recordwriter.specs.Parts.{inCorners, spotFault, linesRead}
 
 -- the word of the line before macro i + 1
 abbrev lastOf : ℕ → Word
@@ -52,9 +52,9 @@ abbrev foundBy : ℕ → ℕ → Reading Record → Reading Record
 foundBy zero line more = more
 foundBy (suc n) line more = refused (suc n) line
 
--- the two range tests that a macro in turn leaves open
+-- the range test that a macro in turn leaves open
 abbrev spotTests : Spot → ℕ
-spotTests p = need (leb (p .x) 1024) 4 (need (leb (p .y) 1024) 4 0)
+spotTests p = need (inCorners p) 4 0
 
 module _ (wl i : ℕ) (ps : List Spot) (p : Spot) (l : length ps ≡ i) where
   abbrev before : Part
@@ -69,7 +69,7 @@ module _ (wl i : ℕ) (ps : List Spot) (p : Spot) (l : length ps ≡ i) where
       rw (at-follows i, l, lt-ltb i 8 h, le-leb 1 (suc i) (omega arith), le-leb 0 (p .x) (omega arith), le-leb 0 (p .y) (omega arith))
       (by (leb (p .x) 1024) (leb (p .y) 1024))
     where
-      by : (x y : Bool) → stepFields recordKind before word.At (ranged true (pos (suc i)) (ranged x (pos (p .x)) (ranged y (pos (p .y)) (got [])))) ≡ stepBy (need x 4 (need y 4 0)) after
+      by : (x y : Bool) → stepFields recordKind before word.At (ranged true (pos (suc i)) (ranged x (pos (p .x)) (ranged y (pos (p .y)) (got [])))) ≡ stepBy (need (x && y) 4 0) after
       by true true = rw (l, eq-eqb (suc i) (suc i) refl)
       by true false = refl
       by false y = refl

@@ -4,6 +4,7 @@ use model::Outcome;
 use model::Record;
 use model::Refusal;
 use model::Spot;
+use model::SpotMade;
 use model::TEXT_MOST;
 use model::Tested;
 use model::Word;
@@ -12,13 +13,23 @@ ghost use mathlib.Core.Path.{_≡_};
 ghost use Prim.Native.Nat.{_≤_};
 ghost use lib.Dec.{leb};
 ghost use lib.ListN.{length, getD};
+ghost use Rattle.model.specs.Limits.{mostBytes};
 ghost use Rattle.decimal.specs.Held.{Wrote};
 ghost use Rattle.model.specs.Meaning.{least, firstOf, blankSpot, recordOf};
 ghost use Rattle.grammar.specs.Words.{itemsText};
 ghost use Rattle.grammar.specs.Writing.{testedAs, answerOf, fit};
-ghost use Rattle.record.specs.Text.{readRecord, atItems, recordText, writeRecord};
-ghost use Rattle.record.proofs.Body.{body};
-ghost use Rattle.recordwriter.specs.Parts.{spotFault, linesRead};
+ghost use Rattle.record.specs.Text.{readRecord, atItems, body, recordText, writeRecord};
+ghost use Rattle.recordwriter.specs.Parts.{inCorners, spotFault, linesRead};
+
+// Whether a spot can be made of its x and y.
+fn spot_in_range(p: Spot) -> bool
+    ensures { λ r. ⌜ r ≡ inCorners p ⌝ }
+{
+    match Spot::new(p.x, p.y) {
+        SpotMade::Made(_) => true,
+        SpotMade::Outside => false,
+    }
+}
 
 // The fault of macro i's spot, or 0: count 6, range 4.
 fn spot_fault(spots: [Spot; Mac::COUNT], i: usize) -> usize
@@ -28,10 +39,7 @@ fn spot_fault(spots: [Spot; Mac::COUNT], i: usize) -> usize
         return 6;
     }
     let p = spots[i];
-    if Spot::MOST < p.x {
-        return 4;
-    }
-    if Spot::MOST < p.y {
+    if !spot_in_range(p) {
         return 4;
     }
     0
@@ -129,7 +137,7 @@ pub fn test_record(r: Record) -> Tested
 
 // A record whose test is passed: refused where the buffer is shorter than its text.
 fn write_passed(r: Record, out: &mut [u8]) -> WriteAnswer
-    requires { ⌜ length (recordText (recordOf r)) ≤ 16384 ⌝ }
+    requires { ⌜ length (recordText (recordOf r)) ≤ mostBytes ⌝ }
     ensures { λ a. ⌜ record { answer = answerOf a; buffer = now (out .exit) } ≡ fit (leb (length (recordText (recordOf r))) (length (now (out .entry)))) (recordText (recordOf r)) (now (out .entry)) ⌝ }
 {
     let mut none = [0u8; 1];

@@ -1,70 +1,41 @@
-use Rattle.chipreader.proofs.Added.{fix-leaves, fix-overlaps, fix-added}
-use Rattle.chipreader.proofs.Entry.{fix-fits}
+use Rattle.chipreader.proofs.MadeOf.{fix-never}
+use Rattle.chipreader.proofs.Added.{fix-made}
 use borrow.Author.Needs.{needs}
 use Rattle.chipreader.proofs.add_fix.Statement.{statement}
 use Rattle.chipreader.proofs.add_fix.Tie as tie
 
-array-read-t11 : tie.Need-array-read-t11
-array-read-t11 c = search needs
+array-read-new : tie.Need-array-read-new
+array-read-new c = search needs
 
-array-read-t14 : tie.Need-array-read-t14
-array-read-t14 c = search needs
+array-read-new-2 : tie.Need-array-read-new-2
+array-read-new-2 c = search needs
 
-array-read-t17 : tie.Need-array-read-t17
-array-read-t17 c = search needs
+array-read-new-3 : tie.Need-array-read-new-3
+array-read-new-3 c = search needs
 
-array-read-t20 : tie.Need-array-read-t20
-array-read-t20 c = search needs
+array-read-new-4 : tie.Need-array-read-new-4
+array-read-new-4 c = search needs
 
-fix-in-die-requires : tie.Need-fix-in-die-requires
-fix-in-die-requires c κs = search needs
+new-requires : tie.Need-new-requires
+new-requires c κs = search needs
+
+enum-known-f : tie.Need-enum-known-f
+enum-known-f c = search needs
+
+enum-told : tie.Need-enum-told
+enum-told c = search needs
 
 with-fault-requires : tie.Need-with-fault-requires
 with-fault-requires c κs = search needs
 
 returns : tie.Need-returns
-returns c = search (needs, fix-leaves)
+returns c = search (needs, fix-never)
 
-clear-of-fixes-requires : tie.Need-clear-of-fixes-requires
-clear-of-fixes-requires c κs = search needs
-
-with-fault-requires-2 : tie.Need-with-fault-requires-2
-with-fault-requires-2 c κs = search needs
+put-fix-requires : tie.Need-put-fix-requires
+put-fix-requires c κs = search needs
 
 returns-2 : tie.Need-returns-2
-returns-2 c = search (needs, fix-overlaps)
-
-mul-f : tie.Need-mul-f
-mul-f c = search needs
-
-element-set-from-f : tie.Need-element-set-from-f
-element-set-from-f c = search fix-fits
-
-add-chip : tie.Need-add-chip
-add-chip c = search needs
-
-with-chip-requires : tie.Need-with-chip-requires
-with-chip-requires c κs = search needs
-
-returns-3 : tie.Need-returns-3
-returns-3 c = search (needs, fix-added)
+returns-2 c = search (needs, fix-made)
 
 pub add-fix-spec : {M : Type 1} → statement M
-add-fix-spec =
-    tie.close
-    (tie.spec
-    array-read-t11
-    array-read-t14
-    array-read-t17
-    array-read-t20
-    fix-in-die-requires
-    with-fault-requires
-    returns
-    clear-of-fixes-requires
-    with-fault-requires-2
-    returns-2
-    mul-f
-    element-set-from-f
-    add-chip
-    with-chip-requires
-    returns-3)
+add-fix-spec = tie.close (tie.spec array-read-new array-read-new-2 array-read-new-3 array-read-new-4 new-requires enum-known-f enum-told with-fault-requires returns put-fix-requires returns-2)

@@ -1,5 +1,5 @@
 use Rattle.grammar.proofs.Entry.{entered-as}
-use Rattle.chipreader.proofs.Item.{taken-as, not-taken, end-taken}
+use Rattle.chipreader.proofs.Item.{ranged-as, taken-as, not-taken, end-taken}
 use borrow.Author.Needs.{needs}
 use Rattle.chipreader.proofs.add_item.Statement.{statement}
 use Rattle.chipreader.proofs.add_item.Tie as tie
@@ -8,31 +8,31 @@ enum-told : tie.Need-enum-told
 enum-told c = search needs
 
 add-die-requires : tie.Need-add-die-requires
-add-die-requires c κs = search needs
+add-die-requires c κs = (search needs, search ranged-as)
 
 enum-told-2 : tie.Need-enum-told-2
 enum-told-2 c = search needs
 
 add-fix-requires : tie.Need-add-fix-requires
-add-fix-requires c κs = (search needs, search entered-as)
+add-fix-requires c κs = (search needs, (search ranged-as, search entered-as))
 
 enum-told-3 : tie.Need-enum-told-3
 enum-told-3 c = search needs
 
 add-mac-requires : tie.Need-add-mac-requires
-add-mac-requires c κs = (search needs, search entered-as)
+add-mac-requires c κs = (search needs, (search ranged-as, search entered-as))
 
 enum-told-4 : tie.Need-enum-told-4
 enum-told-4 c = search needs
 
 add-net-requires : tie.Need-add-net-requires
-add-net-requires c κs = (search needs, search entered-as)
+add-net-requires c κs = (search needs, (search ranged-as, search entered-as))
 
 enum-told-5 : tie.Need-enum-told-5
 enum-told-5 c = search needs
 
 add-pin-requires : tie.Need-add-pin-requires
-add-pin-requires c κs = (search needs, search entered-as)
+add-pin-requires c κs = (search needs, (search ranged-as, search entered-as))
 
 enum-told-6 : tie.Need-enum-told-6
 enum-told-6 c = search needs

@@ -1,20 +1,36 @@
+use Rattle.chipreader.proofs.MadeOf.{mac-never}
 use Rattle.chipreader.proofs.Added.{mac-added}
 use Rattle.chipreader.proofs.Entry.{mac-fits}
 use borrow.Author.Needs.{needs}
 use Rattle.chipreader.proofs.add_mac.Statement.{statement}
 use Rattle.chipreader.proofs.add_mac.Tie as tie
 
-array-read-t9 : tie.Need-array-read-t9
-array-read-t9 c = search needs
+array-read-new : tie.Need-array-read-new
+array-read-new c = search needs
 
-array-read-t12 : tie.Need-array-read-t12
-array-read-t12 c = search needs
+array-read-new-2 : tie.Need-array-read-new-2
+array-read-new-2 c = search needs
 
-mul-t14 : tie.Need-mul-t14
-mul-t14 c = search needs
+new-requires : tie.Need-new-requires
+new-requires c κs = search needs
 
-element-set-from-chip : tie.Need-element-set-from-chip
-element-set-from-chip c = search mac-fits
+enum-known-mac : tie.Need-enum-known-mac
+enum-known-mac c = search needs
+
+enum-told : tie.Need-enum-told
+enum-told c = search needs
+
+with-fault-requires : tie.Need-with-fault-requires
+with-fault-requires c κs = search needs
+
+returns : tie.Need-returns
+returns c = search (needs, mac-never)
+
+mul-mac : tie.Need-mul-mac
+mul-mac c = search needs
+
+element-set-from-mac : tie.Need-element-set-from-mac
+element-set-from-mac c = search mac-fits
 
 add-chip : tie.Need-add-chip
 add-chip c = search needs
@@ -22,17 +38,8 @@ add-chip c = search needs
 with-chip-requires : tie.Need-with-chip-requires
 with-chip-requires c κs = search needs
 
-returns : tie.Need-returns
-returns c = search (needs, mac-added)
+returns-2 : tie.Need-returns-2
+returns-2 c = search (needs, mac-added)
 
 pub add-mac-spec : {M : Type 1} → statement M
-add-mac-spec =
-    tie.close
-    (tie.spec
-    array-read-t9
-    array-read-t12
-    mul-t14
-    element-set-from-chip
-    add-chip
-    with-chip-requires
-    returns)
+add-mac-spec = tie.close (tie.spec array-read-new array-read-new-2 new-requires enum-known-mac enum-told with-fault-requires returns mul-mac element-set-from-mac add-chip with-chip-requires returns-2)

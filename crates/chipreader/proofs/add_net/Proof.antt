@@ -1,17 +1,33 @@
+use Rattle.chipreader.proofs.MadeOf.{net-never}
 use Rattle.chipreader.proofs.Added.{net-added}
 use Rattle.chipreader.proofs.Entry.{net-fits}
 use borrow.Author.Needs.{needs}
 use Rattle.chipreader.proofs.add_net.Statement.{statement}
 use Rattle.chipreader.proofs.add_net.Tie as tie
 
-array-read-t9 : tie.Need-array-read-t9
-array-read-t9 c = search needs
+array-read-new : tie.Need-array-read-new
+array-read-new c = search needs
 
-mul-t11 : tie.Need-mul-t11
-mul-t11 c = search needs
+new-requires : tie.Need-new-requires
+new-requires c κs = search needs
 
-element-set-from-chip : tie.Need-element-set-from-chip
-element-set-from-chip c = search net-fits
+enum-known-net : tie.Need-enum-known-net
+enum-known-net c = search needs
+
+enum-told : tie.Need-enum-told
+enum-told c = search needs
+
+with-fault-requires : tie.Need-with-fault-requires
+with-fault-requires c κs = search needs
+
+returns : tie.Need-returns
+returns c = search (needs, net-never)
+
+mul-net : tie.Need-mul-net
+mul-net c = search needs
+
+element-set-from-net : tie.Need-element-set-from-net
+element-set-from-net c = search net-fits
 
 add-chip : tie.Need-add-chip
 add-chip c = search needs
@@ -19,10 +35,8 @@ add-chip c = search needs
 with-chip-requires : tie.Need-with-chip-requires
 with-chip-requires c κs = search needs
 
-returns : tie.Need-returns
-returns c = search (needs, net-added)
+returns-2 : tie.Need-returns-2
+returns-2 c = search (needs, net-added)
 
 pub add-net-spec : {M : Type 1} → statement M
-add-net-spec =
-    tie.close
-    (tie.spec array-read-t9 mul-t11 element-set-from-chip add-chip with-chip-requires returns)
+add-net-spec = tie.close (tie.spec array-read-new new-requires enum-known-net enum-told with-fault-requires returns mul-net element-set-from-net add-chip with-chip-requires returns-2)

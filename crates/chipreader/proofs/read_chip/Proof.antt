@@ -11,7 +11,7 @@ refused-requires c κs = search needs
 returns : tie.Need-returns
 returns c =
     let ok : ReadOk (readChip (c .before .before .before .args .text .now)) (c .refused .result) = search (needs, too-long-read) in
-    (ok .meant, ok .blank)
+    (ok .meant, ok .whole)
 
 read-lines-requires : tie.Need-read-lines-requires
 read-lines-requires c κs = search needs

@@ -12,8 +12,8 @@ mul-m c = search needs
 array-copy-out-m : tie.Need-array-copy-out-m
 array-copy-out-m c = search needs
 
-sides-within-requires : tie.Need-sides-within-requires
-sides-within-requires c κs = search needs
+mac-in-range-requires : tie.Need-mac-in-range-requires
+mac-in-range-requires c κs = search needs
 
 returns-2 : tie.Need-returns-2
 returns-2 c = search (room-rest, need-fails)
@@ -23,4 +23,4 @@ returns-3 c = search (room-rest, need-rest)
 
 pub mac-fault-spec : {M : Type 1} → statement M
 mac-fault-spec =
-    tie.close (tie.spec returns mul-m array-copy-out-m sides-within-requires returns-2 returns-3)
+    tie.close (tie.spec returns mul-m array-copy-out-m mac-in-range-requires returns-2 returns-3)

@@ -1,4 +1,4 @@
-use Rattle.chipwriter.proofs.Needs.{no-room, room-rest, bare-fails, bare-rest, need-fails, need-rest, last-test}
+use Rattle.chipwriter.proofs.Needs.{no-room, room-rest, bare-fails, bare-rest, need-fails, need-rest}
 use borrow.Author.Needs.{needs}
 use Rattle.chipwriter.proofs.net_fault.Statement.{statement}
 use Rattle.chipwriter.proofs.net_fault.Tie as tie
@@ -18,14 +18,14 @@ mul-net c = search needs
 array-copy-out-net : tie.Need-array-copy-out-net
 array-copy-out-net c = search needs
 
-within-requires : tie.Need-within-requires
-within-requires c κs = search needs
+net-in-range-requires : tie.Need-net-in-range-requires
+net-in-range-requires c κs = search needs
 
 returns-3 : tie.Need-returns-3
-returns-3 c = search (room-rest, bare-rest, need-fails, last-test)
+returns-3 c = search (room-rest, bare-rest, need-fails)
 
 returns-4 : tie.Need-returns-4
-returns-4 c = search (room-rest, bare-rest, need-rest, last-test)
+returns-4 c = search (room-rest, bare-rest, need-rest)
 
 pub net-fault-spec : {M : Type 1} → statement M
 net-fault-spec =
@@ -36,6 +36,6 @@ net-fault-spec =
     returns-2
     mul-net
     array-copy-out-net
-    within-requires
+    net-in-range-requires
     returns-3
     returns-4)

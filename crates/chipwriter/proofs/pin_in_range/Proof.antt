@@ -1,24 +1,22 @@
-use Rattle.chip.proofs.Fixes.{and-fails, and-rest}
-use Rattle.chipwriter.proofs.Needs.{too-high, not-high, held-place, last-test}
+use Rattle.chipwriter.proofs.Needs.{pin-in, pin-out}
 use borrow.Author.Needs.{needs}
 use Rattle.chipwriter.proofs.pin_in_range.Statement.{statement}
 use Rattle.chipwriter.proofs.pin_in_range.Tie as tie
 
-returns : tie.Need-returns
-returns c = search too-high
+held-requires : tie.Need-held-requires
+held-requires c κs = search needs
 
-within-requires : tie.Need-within-requires
-within-requires c κs = search needs
+enum-told : tie.Need-enum-told
+enum-told c = search needs
+
+enum-told-2 : tie.Need-enum-told-2
+enum-told-2 c = search needs
+
+returns : tie.Need-returns
+returns c = search pin-in
 
 returns-2 : tie.Need-returns-2
-returns-2 c = search (not-high, and-fails, held-place)
-
-within-requires-2 : tie.Need-within-requires-2
-within-requires-2 c κs = search needs
-
-returns-3 : tie.Need-returns-3
-returns-3 c = search (not-high, and-rest, held-place, last-test)
+returns-2 c = search pin-out
 
 pub pin-in-range-spec : {M : Type 1} → statement M
-pin-in-range-spec =
-    tie.close (tie.spec returns within-requires returns-2 within-requires-2 returns-3)
+pin-in-range-spec = tie.close (tie.spec held-requires enum-told enum-told-2 returns returns-2)

@@ -4,7 +4,7 @@ use mathlib.Core.Path.{_≡_, refl}
 use Prim.Native.Nat.{_≤_, _-_}
 use lib.ListN.{take, drop}
 use Rattle.grammar.specs.Words.{wordIn}
-use Rattle.line.proofs.Word.{spelling-long, no-word, this-word, other-word}
+use Rattle.line.proofs.Word.{spelling-few, spelling-long, no-word, this-word, other-word}
 use Rattle.line.proofs.word_among.Statement.{statement}
 use Rattle.line.proofs.word_among.Tie as tie
 
@@ -24,7 +24,7 @@ spelling-of-requires : tie.Need-spelling-of-requires Inv-loop μ-loop
 spelling-of-requires c κs = search needs
 
 array-share-prefix-bytes : tie.Need-array-share-prefix-bytes Inv-loop μ-loop
-array-share-prefix-bytes c = search needs
+array-share-prefix-bytes c = search spelling-few
 
 slice-aggregate-same-bytes : tie.Need-slice-aggregate-same-bytes Inv-loop μ-loop
 slice-aggregate-same-bytes c = search spelling-long

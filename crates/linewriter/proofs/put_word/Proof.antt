@@ -1,5 +1,5 @@
 -- A word, by its spelling.
-use Rattle.line.proofs.Word.{spelling-long}
+use Rattle.line.proofs.Word.{spelling-few, spelling-long}
 use Rattle.linewriter.proofs.Joined.{word-written}
 use borrow.Author.Needs.{needs}
 use Rattle.linewriter.proofs.put_word.Statement.{statement}
@@ -9,7 +9,7 @@ spelling-of-requires : tie.Need-spelling-of-requires
 spelling-of-requires c κs = search needs
 
 array-share-prefix-bytes : tie.Need-array-share-prefix-bytes
-array-share-prefix-bytes c = search needs
+array-share-prefix-bytes c = search spelling-few
 
 slice-aggregate-put-bytes : tie.Need-slice-aggregate-put-bytes
 slice-aggregate-put-bytes c = search spelling-long

@@ -1,4 +1,4 @@
-use Rattle.recordreader.proofs.Added.{out-of-turn, at-added}
+use Rattle.recordreader.proofs.Added.{out-of-turn, spot-never, at-added}
 use Rattle.recordreader.proofs.Entry.{at-fits}
 use borrow.Author.Needs.{needs}
 use Rattle.recordreader.proofs.add_at.Statement.{statement}
@@ -16,11 +16,26 @@ with-fault-requires c κs = search needs
 returns : tie.Need-returns
 returns c = search (needs, out-of-turn)
 
-array-read-t10 : tie.Need-array-read-t10
-array-read-t10 c = search needs
+array-read-new : tie.Need-array-read-new
+array-read-new c = search needs
 
-array-read-t18 : tie.Need-array-read-t18
-array-read-t18 c = search needs
+array-read-new-2 : tie.Need-array-read-new-2
+array-read-new-2 c = search needs
+
+new-requires : tie.Need-new-requires
+new-requires c κs = search needs
+
+enum-known-p : tie.Need-enum-known-p
+enum-known-p c = search needs
+
+enum-told : tie.Need-enum-told
+enum-told c = search needs
+
+with-fault-requires-2 : tie.Need-with-fault-requires-2
+with-fault-requires-2 c κs = search needs
+
+returns-2 : tie.Need-returns-2
+returns-2 c = search (needs, spot-never)
 
 mul-spots : tie.Need-mul-spots
 mul-spots c = search needs
@@ -28,23 +43,11 @@ mul-spots c = search needs
 array-set-from-spots : tie.Need-array-set-from-spots
 array-set-from-spots c = search at-fits
 
-add-t11 : tie.Need-add-t11
-add-t11 c = search needs
+add-t12 : tie.Need-add-t12
+add-t12 c = search needs
 
-returns-2 : tie.Need-returns-2
-returns-2 c = search (needs, at-added)
+returns-3 : tie.Need-returns-3
+returns-3 c = search (needs, at-added)
 
 pub add-at-spec : {M : Type 1} → statement M
-add-at-spec =
-    tie.close
-    (tie.spec
-    array-read-m
-    add-if1
-    with-fault-requires
-    returns
-    array-read-t10
-    array-read-t18
-    mul-spots
-    array-set-from-spots
-    add-t11
-    returns-2)
+add-at-spec = tie.close (tie.spec array-read-m add-if1 with-fault-requires returns array-read-new array-read-new-2 new-requires enum-known-p enum-told with-fault-requires-2 returns-2 mul-spots array-set-from-spots add-t12 returns-3)

@@ -1,5 +1,5 @@
 use Rattle.grammar.proofs.Entry.{entered-as}
-use Rattle.recordreader.proofs.Item.{taken-as, not-taken}
+use Rattle.recordreader.proofs.Item.{ranged-as, taken-as, not-taken}
 use borrow.Author.Needs.{needs}
 use Rattle.recordreader.proofs.add_item.Statement.{statement}
 use Rattle.recordreader.proofs.add_item.Tie as tie
@@ -20,7 +20,7 @@ enum-told-3 : tie.Need-enum-told-3
 enum-told-3 c = search needs
 
 add-at-requires : tie.Need-add-at-requires
-add-at-requires c κs = (search needs, search entered-as)
+add-at-requires c κs = (search needs, (search ranged-as, search entered-as))
 
 enum-told-4 : tie.Need-enum-told-4
 enum-told-4 c = search needs

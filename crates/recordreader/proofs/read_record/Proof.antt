@@ -8,7 +8,7 @@ refused-requires : tie.Need-refused-requires
 refused-requires c κs = search needs
 
 returns : tie.Need-returns
-returns c = let ok = refuses _ _ _ (c .refused .ensures) (too-long _ (c .before .if1 .taken)) in (ok .meant, ok .blank)
+returns c = let ok = refuses _ _ _ (c .refused .ensures) (too-long _ (c .before .if1 .taken)) in (ok .meant, ok .whole)
 
 read-lines-requires : tie.Need-read-lines-requires
 read-lines-requires c κs = search needs

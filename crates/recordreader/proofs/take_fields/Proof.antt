@@ -1,4 +1,4 @@
-use Rattle.recordreader.proofs.OneLine.{fields-fail, line-adds}
+use Rattle.recordreader.proofs.OneLine.{fields-fail, line-ranged, line-adds}
 use borrow.Author.Needs.{needs}
 use Rattle.recordreader.proofs.take_fields.Statement.{statement}
 use Rattle.recordreader.proofs.take_fields.Tie as tie
@@ -10,7 +10,7 @@ enum-told : tie.Need-enum-told
 enum-told c = search needs
 
 add-item-requires : tie.Need-add-item-requires
-add-item-requires c κs = search needs
+add-item-requires c κs = (search needs, (search line-ranged, search needs))
 
 enum-known-answer : tie.Need-enum-known-answer
 enum-known-answer c = search needs

@@ -1,10 +1,7 @@
-use Rattle.model.proofs.Pins.{macro-outside, x-outside, y-outside, pin-made}
+use Rattle.model.proofs.Pins.{x-outside, y-outside, pin-made}
 use borrow.Author.Needs.{needs}
 use Rattle.model.proofs.Pin.new.Statement.{statement}
 use Rattle.model.proofs.Pin.new.Tie as tie
-
-returns : tie.Need-returns
-returns c = search macro-outside
 
 raised-requires : tie.Need-raised-requires
 raised-requires c κs = search needs
@@ -15,8 +12,8 @@ enum-known-xup c = search needs
 enum-told : tie.Need-enum-told
 enum-told c = search needs
 
-returns-2 : tie.Need-returns-2
-returns-2 c = search x-outside
+returns : tie.Need-returns
+returns c = search x-outside
 
 raised-requires-2 : tie.Need-raised-requires-2
 raised-requires-2 c κs = search needs
@@ -27,23 +24,26 @@ enum-known-yup c = search needs
 enum-told-2 : tie.Need-enum-told-2
 enum-told-2 c = search needs
 
-returns-3 : tie.Need-returns-3
-returns-3 c = search y-outside
+returns-2 : tie.Need-returns-2
+returns-2 c = search y-outside
 
-returns-4 : tie.Need-returns-4
-returns-4 c = search pin-made
+held-requires : tie.Need-held-requires
+held-requires c κs = search needs
+
+returns-3 : tie.Need-returns-3
+returns-3 c = search pin-made
 
 pub new-spec : {M : Type 1} → statement M
 new-spec =
     tie.close
     (tie.spec
-    returns
     raised-requires
     enum-known-xup
     enum-told
-    returns-2
+    returns
     raised-requires-2
     enum-known-yup
     enum-told-2
-    returns-3
-    returns-4)
+    returns-2
+    held-requires
+    returns-3)
