@@ -1,8 +1,13 @@
 // Solving one axis of a fit: the least values under the bounds, and of those the smallest; a flow, or a closed chain.
 //
-// An axis beyond the limits is malformed. A macro larger than the die has no place. Then an answer is proposed (axis_propose) and tested,
+// An axis beyond the limits is malformed. A macro larger than the die has no place. Then an answer is proposed (`propose`) and tested,
 // as a flow with the smallest values (axis_values, axis_amounts), or as a closed chain. What does not pass its test is done again by the
 // solver that is sure but slow (axis_solve).
+mod propose;
+mod tables;
+
+use crate::propose::Proposal;
+use crate::propose::propose;
 use axis_amounts::is_chain;
 use axis_amounts::is_flow;
 use axis_graph::NODE_ROOM;
@@ -16,8 +21,6 @@ use axis_held::coordinates::coordinates;
 use axis_held::graphs::macro_graph;
 use axis_held::graphs::net_spans;
 use axis_held::graphs::whole_graph;
-use axis_propose::propose::Proposal;
-use axis_propose::propose::propose;
 use axis_solve::solve_by_growth;
 use axis_values::is_rest;
 use bounds::Axis;

@@ -2,3 +2,4 @@
 mod branch;
 mod root;
 pub mod service;
+mod weights;

@@ -2,6 +2,7 @@
 use crate::branch::search;
 use crate::root::first_fit;
 use crate::root::root;
+use crate::weights::all_weights;
 use chip_array::array_of;
 use chipreader::ChipAnswer;
 use half_fit::service::first_half;
@@ -10,7 +11,6 @@ use model::Chip;
 use model::Record;
 use model::Tested;
 use model::WriteAnswer;
-use search_choose::weights::all_weights;
 use search_node::Parts;
 use search_node::no_record;
 use slots::Direction;

@@ -1,7 +1,6 @@
 // The pair to branch on: an overlapping one; while no placement is found, one with at most two open letters first; of those the one with the greatest score. The score is what moving the two apart would cost, in the two cheapest ways, times the weight of their nets; among equal scores the pair of the first macros.
 mod open;
 mod score;
-pub mod weights;
 
 use crate::score::pair_score;
 use model::Fix;
