@@ -49,7 +49,8 @@ layout w = record { count = length (rules w); rules = filled 4 noRule (heldRules
 abbrev pub blankRule : HeldRule
 blankRule = record { mark = []; size = 0; up = 0; least = 0; most = 0 }
 
--- what the readers and writers of a field rely on: its mark is within its four bytes, its value is held at most as much higher as a pin's, and its range ends below the cap of the number reader
+-- what the readers and writers of a field rely on: its mark is within its four bytes, its value is held at most as much higher as a pin's,
+-- and its range ends below the cap of the number reader
 pub record Sane (r : HeldRule) : Type 0 where
   pub name : r .size ≤ 4
   pub long : length (r .mark) ≡ 4

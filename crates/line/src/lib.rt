@@ -59,7 +59,7 @@ pub enum Fields {
     Refused(Refusal),
 }
 
-// The answer with the values of the fields, x and y of a pin held 4,096 higher; 0 past the last field, and after a refusal.
+// The answer with the values of the fields, as held; 0 past the last field, and after a refusal.
 pub struct FieldsRead {
     pub answer: Fields,
     pub values: [u64; 4],
