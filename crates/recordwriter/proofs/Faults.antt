@@ -2,9 +2,9 @@
 use mathlib.Core.Path.{_≡_, sym, ap, _∙_}
 use mathlib.Core.Bool.{Bool, true, false, not}
 use mathlib.Core.List.{List}
-use Prim.Native.Nat.{ℕ, _≤_, _<_}
+use Prim.Native.Nat.{ℕ, _≤_, _<_, zero-le}
 use lib.ListN.{getD}
-use borrow.Author.Tests.{lt-ltb, le-ltb, not-true, not-false}
+use borrow.Author.Tests.{lt-ltb, le-ltb, le-leb, not-true, not-false}
 use Rattle.model.specs.declared.Spot.{Spot}
 use Rattle.model.specs.declared.SpotMade.{SpotMade}
 use Rattle.model.specs.declared.SpotMade.the-variants as spot
@@ -29,5 +29,9 @@ module _ (s : List Spot) (i : ℕ) where
     pub spot-over : not b ≡ true → 4 ≡ spotFault s i
     spot-over g = rw (lt-ltb i 8 h, ← e, not-true b g)
 
-    pub no-fault : not b ≡ false → 0 ≡ spotFault s i
-    no-fault g = rw (lt-ltb i 8 h, ← e, not-false b g)
+    pub spot-clear : not b ≡ false → 0 ≡ spotFault s i
+    spot-clear g = rw (lt-ltb i 8 h, ← e, not-false b g)
+
+  -- a spot whose x and y are at most the greatest
+  pub no-fault : i < 8 → getD s i blankSpot .x ≤ 1024 → getD s i blankSpot .y ≤ 1024 → 0 ≡ spotFault s i
+  no-fault h x y = rw (lt-ltb i 8 h, le-leb 0 (getD s i blankSpot .x) zero-le, le-leb (getD s i blankSpot .x) 1024 x, le-leb 0 (getD s i blankSpot .y) zero-le, le-leb (getD s i blankSpot .y) 1024 y)
