@@ -1,4 +1,5 @@
 // The letters of a pair that the differences leave open. They guide the choice of the pair and nothing else, so nothing is promised of them.
+use bounds::Slot;
 use model::Fix;
 use model::Mac;
 use pairs::Cursor;
@@ -14,6 +15,11 @@ pub(crate) struct Open {
     pub above: bool,
 }
 
+// Whether the differences leave the letter of a slot open.
+fn is_open(k: &[u32; 128], s: Slot) -> bool {
+    !kept::excludes(k, s)
+}
+
 pub(crate) fn open_letters(
     macs: [Mac; 8],
     fixes: [Fix; 8],
@@ -22,19 +28,19 @@ pub(crate) fn open_letters(
     at: Cursor,
 ) -> Open {
     Open {
-        left: !kept::excludes(
+        left: is_open(
             kx,
             slot_at(at, Asked::Before, macs, fixes, Direction::Horizontal),
         ),
-        right: !kept::excludes(
+        right: is_open(
             kx,
             slot_at(at, Asked::After, macs, fixes, Direction::Horizontal),
         ),
-        below: !kept::excludes(
+        below: is_open(
             ky,
             slot_at(at, Asked::Before, macs, fixes, Direction::Vertical),
         ),
-        above: !kept::excludes(
+        above: is_open(
             ky,
             slot_at(at, Asked::After, macs, fixes, Direction::Vertical),
         ),
