@@ -91,7 +91,7 @@ fn print(text: &[u8]) {
 
 // Reads a text and prints what belongs to it; nothing where a read fails. A text of 16,385 bytes is too long, so more of it is not read.
 fn place_from(fd: i32, name: &[u8]) {
-    let mut text = [0u8; 16385];
+    let mut text = [0u8; model::TEXT_MOST + 1];
     let came = read_text(fd, &mut text);
     if came.failed {
         tell(name);

@@ -12,7 +12,7 @@ ghost use Rattle.slots.specs.Slots.{dieSide, macSide};
 ghost use Rattle.half_tables.specs.Dots.{dotBound, Dotted};
 
 // The bound from node u to node v.
-fn dot_bound(side: u64, macs: [Mac; 8], n: usize, d: Direction, u: usize, v: usize) -> u32
+fn dot_bound(side: u64, macs: [Mac; Mac::COUNT], n: usize, d: Direction, u: usize, v: usize) -> u32
     requires { ⌜ n ≤ 8 ⌝ }
     ensures { λ r. ⌜ r ≡ dotBound side n (map (macSide d) macs) u v ⌝ }
 {
@@ -33,7 +33,7 @@ fn dot_bound(side: u64, macs: [Mac; 8], n: usize, d: Direction, u: usize, v: usi
 }
 
 // x_i at least 0 and at most the side less the size, for each of the n macros.
-pub(crate) fn dot_arcs(die: Die, macs: [Mac; 8], n: usize, d: Direction) -> [u32; 128]
+pub(crate) fn dot_arcs(die: Die, macs: [Mac; Mac::COUNT], n: usize, d: Direction) -> [u32; 128]
     requires { ⌜ n ≤ 8 ⌝ }
     ensures { λ r. ⌜ Dotted (dieSide d die) n (map (macSide d) macs) r 81 ⌝ }
 {

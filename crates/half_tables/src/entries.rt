@@ -67,7 +67,7 @@ fn joined(s: Span, up: u64) -> Span
 }
 
 // The places of the pins on a node, of those from `from` to before `to`.
-fn node_span(pins: [Pin; 128], d: Direction, from: usize, to: usize, node: usize) -> Span
+fn node_span(pins: [Pin; Pin::COUNT], d: Direction, from: usize, to: usize, node: usize) -> Span
     requires { ⌜ from ≤ to ⌝ }
     requires { ⌜ to ≤ 128 ⌝ }
     ensures { λ r. ⌜ Spans (pinsOn d pins) from to node r ⌝ }
@@ -100,8 +100,8 @@ fn put_entry(tab: &mut [u32; 1024], e: usize, node: usize, most: u64, least: u64
 
 // The entries of net j from entry e on, one for each node with pins; the next free entry.
 fn put_net(
-    nets: [Net; 32],
-    pins: [Pin; 128],
+    nets: [Net; Net::COUNT],
+    pins: [Pin; Pin::COUNT],
     d: Direction,
     j: usize,
     from: usize,
@@ -133,9 +133,9 @@ fn put_net(
 
 // The entries and the weights of t nets; how many entries there are.
 fn put_nets(
-    nets: [Net; 32],
+    nets: [Net; Net::COUNT],
     t: usize,
-    pins: [Pin; 128],
+    pins: [Pin; Pin::COUNT],
     d: Direction,
     tab: &mut [u32; 1024],
 ) -> usize
@@ -160,9 +160,9 @@ fn put_nets(
 
 // The whole array, for t nets and n macros.
 pub(crate) fn net_table(
-    nets: [Net; 32],
+    nets: [Net; Net::COUNT],
     t: usize,
-    pins: [Pin; 128],
+    pins: [Pin; Pin::COUNT],
     n: usize,
     d: Direction,
 ) -> [u32; 1024]

@@ -35,7 +35,7 @@ pub fn with_bound(arcs: [u32; 128], s: Slot) -> [u32; 128]
 }
 
 // Whether t nets stand within the arrays, and so do their pins.
-fn nets_fit(nets: [Net; 32], t: usize) -> bool
+fn nets_fit(nets: [Net; Net::COUNT], t: usize) -> bool
     ensures { λ r. ⌜ NetsFit r nets t ⌝ }
 {
     if 32 < t {

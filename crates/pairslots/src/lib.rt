@@ -137,7 +137,13 @@ fn fix_pair(k: Asked, i: usize, w: u64, x: u64, v: u64) -> Slot
 }
 
 // The slot of a pair in a direction. A cursor past the arrays and a fix past its ranges are read modulo 8 and 65,536.
-pub fn slot_at(at: Cursor, k: Asked, macs: [Mac; 8], fixes: [Fix; 8], d: Direction) -> Slot
+pub fn slot_at(
+    at: Cursor,
+    k: Asked,
+    macs: [Mac; Mac::COUNT],
+    fixes: [Fix; Fix::COUNT],
+    d: Direction,
+) -> Slot
     ensures { λ r. ⌜ r ≡ slotRead d k macs fixes (at .fix) (at .i) (at .j) ⌝ }
 {
     let fix = at.fix;

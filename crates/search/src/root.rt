@@ -4,6 +4,7 @@ use half_fit::service::HalfFit;
 use half_fit::service::HalfOutcome;
 use half_tables::Arrays;
 use model::Chip;
+use model::Mac;
 use model::Outcome;
 use model::Record;
 use model::Spot;
@@ -39,7 +40,7 @@ fn coordinate(p: Spot, d: Direction) -> u64
 }
 
 // The corners' coordinates in a direction.
-fn coordinates(spots: [Spot; 8], d: Direction) -> [u64; 8]
+fn coordinates(spots: [Spot; Mac::COUNT], d: Direction) -> [u64; 8]
     ensures { λ r. ⌜ r ≡ cornersOn d spots ⌝ }
 {
     let mut at = [0u64; 8];
@@ -58,7 +59,7 @@ fn upright(cs: &[u64; 640], at: [u64; 8], l: u64) -> Record
 {
     Record {
         outcome: Outcome::Least(l, macro_count(cs)),
-        spots: spots_with(Direction::Vertical, at, [Spot { x: 0, y: 0 }; 8]),
+        spots: spots_with(Direction::Vertical, at, [Spot { x: 0, y: 0 }; Mac::COUNT]),
     }
 }
 

@@ -8,7 +8,7 @@ ghost use lib.Dec.{leb};
 ghost use Rattle.search_boxes.specs.Boxes.{overlaps, boxOf, secondOf};
 
 // Macro i at its corner, counted from 0; past the arrays an empty box.
-pub fn box_at(macs: [Mac; 8], spots: [Spot; 8], i: usize) -> Fix
+pub fn box_at(macs: [Mac; Mac::COUNT], spots: [Spot; Mac::COUNT], i: usize) -> Fix
     ensures { λ r. ⌜ r ≡ boxOf macs spots i ⌝ }
 {
     if 8 <= i {
@@ -30,7 +30,13 @@ pub fn box_at(macs: [Mac; 8], spots: [Spot; 8], i: usize) -> Fix
 }
 
 // The second of a pair: fix j, or macro j at its corner; past the arrays an empty box.
-pub fn second_box(macs: [Mac; 8], fixes: [Fix; 8], spots: [Spot; 8], fix: bool, j: usize) -> Fix
+pub fn second_box(
+    macs: [Mac; Mac::COUNT],
+    fixes: [Fix; Fix::COUNT],
+    spots: [Spot; Mac::COUNT],
+    fix: bool,
+    j: usize,
+) -> Fix
     ensures { λ r. ⌜ r ≡ secondOf macs fixes spots fix j ⌝ }
 {
     if fix {

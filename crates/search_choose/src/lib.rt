@@ -34,16 +34,16 @@ fn is_laid(n: usize, k: usize, p: usize) -> bool
 
 // The place of an overlapping pair of the p pairs of n macros and k fixes, or p where each two are apart.
 fn choose_pair(
-    macs: [Mac; 8],
+    macs: [Mac; Mac::COUNT],
     n: usize,
-    fixes: [Fix; 8],
+    fixes: [Fix; Fix::COUNT],
     k: usize,
     p: usize,
     weights: [u64; 8],
     kx: &[u32; 128],
     ky: &[u32; 128],
     found: bool,
-    spots: [Spot; 8],
+    spots: [Spot; Mac::COUNT],
 ) -> Choice
     requires { ⌜ Laid n k p ⌝ }
     ensures { λ r. ⌜ Chosen (partsOf macs n fixes k) (take n spots) p (r .s) ⌝ }
@@ -74,16 +74,16 @@ fn choose_pair(
 
 // The same for every number of macros, fixes and pairs; kx, ky are the differences kept, and found says whether a placement is found.
 pub fn choose(
-    macs: [Mac; 8],
+    macs: [Mac; Mac::COUNT],
     n: usize,
-    fixes: [Fix; 8],
+    fixes: [Fix; Fix::COUNT],
     k: usize,
     p: usize,
     weights: [u64; 8],
     kx: &[u32; 128],
     ky: &[u32; 128],
     found: bool,
-    spots: [Spot; 8],
+    spots: [Spot; Mac::COUNT],
 ) -> Choice
     ensures { λ r. ⌜ ChosenOf macs n fixes k spots p (r .s) (r .at) ⌝ }
 {

@@ -21,8 +21,8 @@ fn is_open(k: &[u32; 128], s: Slot) -> bool {
 }
 
 pub(crate) fn open_letters(
-    macs: [Mac; 8],
-    fixes: [Fix; 8],
+    macs: [Mac; Mac::COUNT],
+    fixes: [Fix; Fix::COUNT],
     kx: &[u32; 128],
     ky: &[u32; 128],
     at: Cursor,

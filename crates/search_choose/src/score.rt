@@ -105,9 +105,9 @@ fn pair_weight(weights: [u64; 8], fix: bool, i: usize, j: usize) -> u64
 
 // The score of the pair at hand.
 pub(crate) fn pair_score(
-    macs: [Mac; 8],
-    fixes: [Fix; 8],
-    spots: [Spot; 8],
+    macs: [Mac; Mac::COUNT],
+    fixes: [Fix; Fix::COUNT],
+    spots: [Spot; Mac::COUNT],
     weights: [u64; 8],
     kx: &[u32; 128],
     ky: &[u32; 128],

@@ -5,6 +5,7 @@ use fit::FitOutcome;
 use half_fit::service::HalfFit;
 use half_fit::service::HalfOutcome;
 use model::Chip;
+use model::Mac;
 use model::Outcome;
 use model::Record;
 use model::Spot;
@@ -59,7 +60,7 @@ fn spot_with(d: Direction, v: u64, p: Spot) -> Spot
 }
 
 // The corners with other coordinates in a direction.
-pub fn spots_with(d: Direction, at: [u64; 8], spots: [Spot; 8]) -> [Spot; 8]
+pub fn spots_with(d: Direction, at: [u64; 8], spots: [Spot; Mac::COUNT]) -> [Spot; Mac::COUNT]
     ensures { λ r. ⌜ r ≡ spotsWith d at spots ⌝ }
 {
     let mut r = spots;

@@ -22,8 +22,8 @@ pub const LETTERS: usize = 120;
 pub struct Parts {
     pub n: usize,
     pub k: usize,
-    pub macs: [Mac; 8],
-    pub fixes: [Fix; 8],
+    pub macs: [Mac; Mac::COUNT],
+    pub fixes: [Fix; Fix::COUNT],
     pub weights: [u64; 8],
 }
 
@@ -45,7 +45,7 @@ pub fn no_record() -> Record
 {
     Record {
         outcome: Outcome::None,
-        spots: [Spot { x: 0, y: 0 }; 8],
+        spots: [Spot { x: 0, y: 0 }; Mac::COUNT],
     }
 }
 
