@@ -344,7 +344,7 @@ fn put_chain(by: &[usize; ARCS], st: &[u32; POOL], a: usize, f: &mut [u64; SLOT_
 
 // Whether the fast fit of the tables and the bounds finds a fit; its state.
 fn fit(tab: &[u32; TAB], arcs: &[u32; ARCS], st: &mut [u32; POOL]) -> bool {
-    let mut help = [0u32; 4352];
+    let mut help = [0u32; half_fit::HELP];
     let r = first_half(tab, &mut help, arcs, st, 0, ROOM);
     let outcome = r.outcome;
     let HalfOutcome::Fit(l) = outcome else {

@@ -12,6 +12,9 @@ ghost use lib.Seq.{sets};
 ghost use Rattle.chip_array.specs.Array.{macsAt, netsAt, pinsAt, fixesAt, macNumbers, netNumbers, pinNumbers, fixNumbers};
 ghost use Rattle.chip_array.specs.Array.{macsIn, netsIn, pinsIn, fixesIn, chipIn};
 
+// How many numbers the array has.
+pub const CELLS: usize = 640;
+
 // Where the first item of each kind begins.
 const MACS: usize = 8;
 
@@ -22,7 +25,7 @@ const PINS: usize = NETS + 2 * Net::COUNT;
 const FIXES: usize = PINS + 3 * Pin::COUNT;
 
 // The numbers of each macro, at its place.
-fn put_macs(macs: [Mac; Mac::COUNT], cs: &mut [u64; 640])
+fn put_macs(macs: [Mac; Mac::COUNT], cs: &mut [u64; CELLS])
     ensures { λ _. ⌜ now (cs .exit) ≡ sets (now (cs .entry)) macsAt (flatMap macNumbers macs) ⌝ }
 {
     let mut i: usize = 0;
@@ -36,7 +39,7 @@ fn put_macs(macs: [Mac; Mac::COUNT], cs: &mut [u64; 640])
 }
 
 // The numbers of each net, at its place.
-fn put_nets(nets: [Net; Net::COUNT], cs: &mut [u64; 640])
+fn put_nets(nets: [Net; Net::COUNT], cs: &mut [u64; CELLS])
     ensures { λ _. ⌜ now (cs .exit) ≡ sets (now (cs .entry)) netsAt (flatMap netNumbers nets) ⌝ }
 {
     let mut i: usize = 0;
@@ -50,7 +53,7 @@ fn put_nets(nets: [Net; Net::COUNT], cs: &mut [u64; 640])
 }
 
 // The numbers of each pin, at its place.
-fn put_pins(pins: [Pin; Pin::COUNT], cs: &mut [u64; 640])
+fn put_pins(pins: [Pin; Pin::COUNT], cs: &mut [u64; CELLS])
     ensures { λ _. ⌜ now (cs .exit) ≡ sets (now (cs .entry)) pinsAt (flatMap pinNumbers pins) ⌝ }
 {
     let mut i: usize = 0;
@@ -65,7 +68,7 @@ fn put_pins(pins: [Pin; Pin::COUNT], cs: &mut [u64; 640])
 }
 
 // The numbers of each fix, at its place.
-fn put_fixes(fixes: [Fix; Fix::COUNT], cs: &mut [u64; 640])
+fn put_fixes(fixes: [Fix; Fix::COUNT], cs: &mut [u64; CELLS])
     ensures { λ _. ⌜ now (cs .exit) ≡ sets (now (cs .entry)) fixesAt (flatMap fixNumbers fixes) ⌝ }
 {
     let mut i: usize = 0;
@@ -81,10 +84,10 @@ fn put_fixes(fixes: [Fix; Fix::COUNT], cs: &mut [u64; 640])
 }
 
 // The array that stands for a chip.
-pub fn array_of(c: Chip) -> [u64; 640]
+pub fn array_of(c: Chip) -> [u64; CELLS]
     ensures { λ r. ⌜ chipIn r ≡ c ⌝ }
 {
-    let mut cs = [0u64; 640];
+    let mut cs = [0u64; CELLS];
     cs[0] = c.k as u64;
     cs[1] = c.n as u64;
     cs[2] = c.t as u64;
@@ -102,14 +105,14 @@ pub fn array_of(c: Chip) -> [u64; 640]
 }
 
 // How many macros the chip has.
-pub fn macro_count(cs: &[u64; 640]) -> usize
+pub fn macro_count(cs: &[u64; CELLS]) -> usize
     ensures { λ r. ⌜ r ≡ chipIn (now (cs .entry)) .n ⌝ }
 {
     cs[1] as usize
 }
 
 // The chip's macros.
-fn macs_in(cs: &[u64; 640]) -> [Mac; Mac::COUNT]
+fn macs_in(cs: &[u64; CELLS]) -> [Mac; Mac::COUNT]
     ensures { λ r. ⌜ r ≡ macsIn (now (cs .entry)) ⌝ }
 {
     let mut macs = [Mac { w: 0, h: 0 }; Mac::COUNT];
@@ -126,7 +129,7 @@ fn macs_in(cs: &[u64; 640]) -> [Mac; Mac::COUNT]
 }
 
 // The chip's nets.
-fn nets_in(cs: &[u64; 640]) -> [Net; Net::COUNT]
+fn nets_in(cs: &[u64; CELLS]) -> [Net; Net::COUNT]
     ensures { λ r. ⌜ r ≡ netsIn (now (cs .entry)) ⌝ }
 {
     let mut nets = [Net { weight: 0, pins: 0 }; Net::COUNT];
@@ -143,7 +146,7 @@ fn nets_in(cs: &[u64; 640]) -> [Net; Net::COUNT]
 }
 
 // The chip's pins.
-fn pins_in(cs: &[u64; 640]) -> [Pin; Pin::COUNT]
+fn pins_in(cs: &[u64; CELLS]) -> [Pin; Pin::COUNT]
     ensures { λ r. ⌜ r ≡ pinsIn (now (cs .entry)) ⌝ }
 {
     let mut pins = [Pin {
@@ -165,7 +168,7 @@ fn pins_in(cs: &[u64; 640]) -> [Pin; Pin::COUNT]
 }
 
 // The chip's fixes.
-fn fixes_in(cs: &[u64; 640]) -> [Fix; Fix::COUNT]
+fn fixes_in(cs: &[u64; CELLS]) -> [Fix; Fix::COUNT]
     ensures { λ r. ⌜ r ≡ fixesIn (now (cs .entry)) ⌝ }
 {
     let mut fixes = [Fix {
@@ -189,7 +192,7 @@ fn fixes_in(cs: &[u64; 640]) -> [Fix; Fix::COUNT]
 }
 
 // The chip that an array stands for.
-pub fn chip_in(cs: &[u64; 640]) -> Chip
+pub fn chip_in(cs: &[u64; CELLS]) -> Chip
     ensures { λ r. ⌜ r ≡ chipIn (now (cs .entry)) ⌝ }
 {
     let fixes = fixes_in(cs);

@@ -20,7 +20,7 @@ ghost use Rattle.chipprinter.specs.Parts.{blockItems};
 fn fix_at(fixes: [Fix; Fix::COUNT], i: usize) -> Fix
     ensures { λ r. ⌜ r ≡ getD fixes i blankFix ⌝ }
 {
-    if i < 8 {
+    if i < Fix::COUNT {
         return fixes[i];
     }
     Fix {
@@ -50,7 +50,7 @@ fn put_fixes(out: &mut [u8], at: usize, fixes: [Fix; Fix::COUNT], k: usize) -> u
 fn mac_at(macs: [Mac; Mac::COUNT], i: usize) -> Mac
     ensures { λ r. ⌜ r ≡ getD macs i blankMac ⌝ }
 {
-    if i < 8 {
+    if i < Mac::COUNT {
         return macs[i];
     }
     Mac { w: 0, h: 0 }

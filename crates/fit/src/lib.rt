@@ -3,6 +3,7 @@ mod axes;
 mod pairlist;
 
 use crate::axes::axis_of;
+use axis_graph::SLOT_ROOM;
 use axis_graph::Solution;
 use axis_graph::Verdict;
 use measure::MeasureAnswer;
@@ -112,7 +113,7 @@ fn pin_total(nets: [Net; Net::COUNT], t: usize) -> usize
 }
 
 // The first m amounts into the list from place `at` on.
-fn put_amounts(flow: &mut [u16], at: usize, amounts: [u64; 456], m: usize)
+fn put_amounts(flow: &mut [u16], at: usize, amounts: [u64; SLOT_ROOM], m: usize)
     requires { ⌜ m ≤ 456 ⌝ }
     requires { ⌜ at + m ≤ length (now flow) ⌝ }
     requires { ⌜ Below16 amounts ⌝ }
@@ -126,7 +127,7 @@ fn put_amounts(flow: &mut [u16], at: usize, amounts: [u64; 456], m: usize)
 }
 
 // The amounts of both directions, m slots each.
-fn put_both(flow: &mut [u16], across: [u64; 456], up: [u64; 456], m: usize)
+fn put_both(flow: &mut [u16], across: [u64; SLOT_ROOM], up: [u64; SLOT_ROOM], m: usize)
     requires { ⌜ m ≤ 456 ⌝ }
     requires { ⌜ m + m ≤ length (now flow) ⌝ }
     requires { ⌜ Below16 across ⌝ }
@@ -156,8 +157,8 @@ fn placed(
     letters: &[u8],
     xs: [u64; Mac::COUNT],
     ys: [u64; Mac::COUNT],
-    across: [u64; 456],
-    up: [u64; 456],
+    across: [u64; SLOT_ROOM],
+    up: [u64; SLOT_ROOM],
     m: usize,
     flow: &mut [u16],
 ) -> FitAnswer
@@ -183,14 +184,20 @@ fn placed(
 }
 
 // Amounts of 0.
-fn no_amounts() -> [u64; 456]
+fn no_amounts() -> [u64; SLOT_ROOM]
     ensures { λ r. ⌜ Idle r ⌝ }
 {
-    [0u64; 456]
+    [0u64; SLOT_ROOM]
 }
 
 // No coordinates horizontally: the chain, and 0 in the slots of the other direction.
-fn none_across(c: Chip, letters: &[u8], across: [u64; 456], m: usize, flow: &mut [u16]) -> FitAnswer
+fn none_across(
+    c: Chip,
+    letters: &[u8],
+    across: [u64; SLOT_ROOM],
+    m: usize,
+    flow: &mut [u16],
+) -> FitAnswer
     requires { ⌜ Asking c (now letters) m ⌝ }
     requires { ⌜ m + m ≤ length (now flow) ⌝ }
     requires { ⌜ UnsolvedBy c (now letters) Direction.Horizontal across ⌝ }
@@ -205,8 +212,8 @@ fn none_across(c: Chip, letters: &[u8], across: [u64; 456], m: usize, flow: &mut
 fn none_up(
     c: Chip,
     letters: &[u8],
-    across: [u64; 456],
-    up: [u64; 456],
+    across: [u64; SLOT_ROOM],
+    up: [u64; SLOT_ROOM],
     m: usize,
     flow: &mut [u16],
 ) -> FitAnswer
@@ -233,7 +240,7 @@ fn fit_up(
     c: Chip,
     letters: &[u8],
     xs: [u64; Mac::COUNT],
-    across: [u64; 456],
+    across: [u64; SLOT_ROOM],
     m: usize,
     flow: &mut [u16],
 ) -> FitAnswer

@@ -1,5 +1,8 @@
 // A fit from nothing: the smallest values that keep the bounds, then net by net its weight from its lo to its hi, by cheapest augmenting ways.
-use crate::lists::HELP;
+use crate::ARCS;
+use crate::HELP;
+use crate::POOL;
+use crate::TAB;
 use crate::push::carry;
 use crate::push::narrowest;
 use crate::residual::set_carried;
@@ -8,7 +11,6 @@ use crate::state::FAR;
 use crate::state::FWD;
 use crate::state::K;
 use crate::state::LEN;
-use crate::state::POOL;
 use crate::state::STATE;
 use crate::state::TOP;
 use crate::state::V;
@@ -26,10 +28,8 @@ use crate::state::set_value;
 use crate::state::times;
 use crate::state::value;
 use crate::state::wide;
-use crate::tables::ARCS;
 use crate::tables::EL;
 use crate::tables::EO;
-use crate::tables::TAB;
 use crate::tables::arc;
 use crate::tables::net_begin;
 use crate::tables::net_count;

@@ -1,5 +1,8 @@
 // One bound more.
-use crate::lists::HELP;
+use crate::ARCS;
+use crate::HELP;
+use crate::POOL;
+use crate::TAB;
 use crate::push::carry;
 use crate::push::narrowest;
 use crate::residual::offer;
@@ -11,7 +14,6 @@ use crate::state::FWD;
 use crate::state::K;
 use crate::state::LEN;
 use crate::state::LOW;
-use crate::state::POOL;
 use crate::state::REV;
 use crate::state::V;
 use crate::state::X;
@@ -25,8 +27,6 @@ use crate::state::put;
 use crate::state::set_tie;
 use crate::state::times;
 use crate::state::wide;
-use crate::tables::ARCS;
-use crate::tables::TAB;
 use crate::tables::arc;
 use crate::tables::nodes;
 use crate::ways::distances;

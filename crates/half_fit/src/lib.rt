@@ -11,3 +11,12 @@ pub mod service;
 mod state;
 mod tables;
 mod ways;
+
+// The lengths of the lent arrays: those of half_test, and what the first half fit prepares for later ones.
+pub const TAB: usize = half_test::TAB;
+
+pub const ARCS: usize = half_test::ARCS;
+
+pub const POOL: usize = half_test::POOL;
+
+pub const HELP: usize = 4352;

@@ -4,9 +4,9 @@ ghost use Prim.Native.Nat.{_<_};
 ghost use Rattle.half_test.specs.Arrays.{boundAt};
 ghost use Rattle.half_test.specs.Tests.{Says};
 ghost use Rattle.half_fit.specs.Chain.{Empty};
-use crate::state::POOL;
+use crate::ARCS;
+use crate::POOL;
 use crate::state::STATE;
-use crate::tables::ARCS;
 
 // The parent of a node in state o.
 fn parent(s: &[u32; POOL], o: usize, w: usize) -> usize

@@ -1,5 +1,8 @@
 // The push of an amount along the parents of a way.
-use crate::lists::HELP;
+use crate::ARCS;
+use crate::HELP;
+use crate::POOL;
+use crate::TAB;
 use crate::residual::carrier;
 use crate::residual::set_carried;
 use crate::residual::set_flow;
@@ -8,7 +11,6 @@ use crate::state::F;
 use crate::state::FAR;
 use crate::state::FWD;
 use crate::state::LO;
-use crate::state::POOL;
 use crate::state::REV;
 use crate::state::TOP;
 use crate::state::V;
@@ -17,8 +19,6 @@ use crate::state::carried;
 use crate::state::cell;
 use crate::state::get;
 use crate::state::wide;
-use crate::tables::ARCS;
-use crate::tables::TAB;
 use std::num::wrapping_add_u32;
 use std::num::wrapping_sub_u32;
 

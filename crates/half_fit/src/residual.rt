@@ -1,5 +1,8 @@
 // Residual bounds between nodes, changed only where an amount becomes 0 or stops being 0.
-use crate::lists::HELP;
+use crate::ARCS;
+use crate::HELP;
+use crate::POOL;
+use crate::TAB;
 use crate::lists::difference;
 use crate::lists::key;
 use crate::lists::list_from;
@@ -10,7 +13,6 @@ use crate::state::FWD;
 use crate::state::HI;
 use crate::state::K;
 use crate::state::LO;
-use crate::state::POOL;
 use crate::state::REV;
 use crate::state::TOP;
 use crate::state::TWICE;
@@ -22,9 +24,7 @@ use crate::state::narrow;
 use crate::state::put;
 use crate::state::put_carried;
 use crate::state::wide;
-use crate::tables::ARCS;
 use crate::tables::EO;
-use crate::tables::TAB;
 use crate::tables::above;
 use crate::tables::arc;
 use crate::tables::end_beside;

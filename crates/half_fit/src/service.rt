@@ -3,14 +3,15 @@ ghost use Rattle.bounds.specs.Half.{AboveOn};
 ghost use Rattle.half_test.specs.Arrays.{axisOn};
 ghost use Rattle.half_test.specs.Tests.{Says};
 ghost use Rattle.half_fit.specs.Answer.{Answers};
+use crate::ARCS;
+use crate::HELP;
+use crate::POOL;
+use crate::TAB;
 use crate::cold::cold;
 use crate::insert::insert;
 use crate::lists::put_lists;
 use crate::none::shows_none;
-use crate::state::POOL;
 use crate::state::copy;
-use crate::tables::ARCS;
-use crate::tables::TAB;
 use bounds::Axis;
 use half_test::beyond::shows_beyond;
 use half_test::proposal::Shown;
@@ -101,10 +102,10 @@ fn judge(
 
 // The fit from nothing, into state o. The help is made here.
 pub fn first_half(
-    tab: &[u32; 1024],
-    help: &mut [u32; 4352],
-    arcs: &[u32; 128],
-    st: &mut [u32; 2560],
+    tab: &[u32; TAB],
+    help: &mut [u32; HELP],
+    arcs: &[u32; ARCS],
+    st: &mut [u32; POOL],
     o: usize,
     room: u64,
 ) -> HalfFit
@@ -117,12 +118,12 @@ pub fn first_half(
 
 // The fit into state o, from state j of another pool, which is that of the same nets with a lower bound from u to v.
 pub fn half_fit(
-    tab: &[u32; 1024],
-    help: &[u32; 4352],
-    arcs: &[u32; 128],
-    from: &[u32; 2560],
+    tab: &[u32; TAB],
+    help: &[u32; HELP],
+    arcs: &[u32; ARCS],
+    from: &[u32; POOL],
     j: usize,
-    st: &mut [u32; 2560],
+    st: &mut [u32; POOL],
     o: usize,
     u: usize,
     v: usize,

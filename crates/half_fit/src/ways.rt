@@ -1,7 +1,7 @@
 // Cheapest ways over nine nodes by Dijkstra's method, with the slacks of the residual bounds as lengths.
+use crate::POOL;
 use crate::state::BIAS;
 use crate::state::FAR;
-use crate::state::POOL;
 use crate::state::at;
 use crate::state::lesser;
 use crate::state::narrow;

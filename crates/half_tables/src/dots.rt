@@ -1,4 +1,5 @@
 // The bounds of a chip without letters.
+use crate::ARCS;
 use crate::limits::bound_of;
 use model::Die;
 use model::Mac;
@@ -33,12 +34,12 @@ fn dot_bound(side: u64, macs: [Mac; Mac::COUNT], n: usize, d: Direction, u: usiz
 }
 
 // x_i at least 0 and at most the side less the size, for each of the n macros.
-pub(crate) fn dot_arcs(die: Die, macs: [Mac; Mac::COUNT], n: usize, d: Direction) -> [u32; 128]
+pub(crate) fn dot_arcs(die: Die, macs: [Mac; Mac::COUNT], n: usize, d: Direction) -> [u32; ARCS]
     requires { ⌜ n ≤ 8 ⌝ }
     ensures { λ r. ⌜ Dotted (dieSide d die) n (map (macSide d) macs) r 81 ⌝ }
 {
     let side = die_side(die, d);
-    let mut arcs = [0u32; 128];
+    let mut arcs = [0u32; ARCS];
     let mut c: usize = 0;
     while c < 81 {
         arcs[c] = dot_bound(side, macs, n, d, c / 9, c % 9);

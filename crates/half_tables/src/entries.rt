@@ -1,6 +1,7 @@
 // The nets of a direction as entries: a net and a node that has pins on it, with the greatest and the least place of those pins.
 // Parts of 128 numbers: 0 on the nodes, 128 on the greatest places, 256 on the least, 384 on the nets of the entries. At 512 + j the
 // entries of net j begin, at 576 + j stands its weight; at 896, 897, 898 the counts of nets, macros and entries.
+use crate::TAB;
 use crate::limits::lesser;
 use crate::limits::narrow;
 use bounds::AxisPin;
@@ -89,7 +90,7 @@ fn node_span(pins: [Pin; Pin::COUNT], d: Direction, from: usize, to: usize, node
     s
 }
 
-fn put_entry(tab: &mut [u32; 1024], e: usize, node: usize, most: u64, least: u64, net: usize)
+fn put_entry(tab: &mut [u32; TAB], e: usize, node: usize, most: u64, least: u64, net: usize)
     ensures { λ r. ⌜ now (tab .exit) ≡ withEntry (now (tab .entry)) e node most least net ⌝ }
 {
     tab[e % 128] = narrow(node as u64);
@@ -106,7 +107,7 @@ fn put_net(
     j: usize,
     from: usize,
     e: usize,
-    tab: &mut [u32; 1024],
+    tab: &mut [u32; TAB],
 ) -> usize
     requires { ⌜ j < 32 ⌝ }
     requires { ⌜ from ≡ pinsBefore j nets ⌝ }
@@ -137,7 +138,7 @@ fn put_nets(
     t: usize,
     pins: [Pin; Pin::COUNT],
     d: Direction,
-    tab: &mut [u32; 1024],
+    tab: &mut [u32; TAB],
 ) -> usize
     requires { ⌜ t ≤ 32 ⌝ }
     requires { ⌜ pinsBefore t nets ≤ 128 ⌝ }
@@ -165,12 +166,12 @@ pub(crate) fn net_table(
     pins: [Pin; Pin::COUNT],
     n: usize,
     d: Direction,
-) -> [u32; 1024]
+) -> [u32; TAB]
     requires { ⌜ t ≤ 32 ⌝ }
     requires { ⌜ pinsBefore t nets ≤ 128 ⌝ }
     ensures { λ r. ⌜ NetsIn d nets pins r (entryCount r) t ⌝ }
 {
-    let mut tab = [0u32; 1024];
+    let mut tab = [0u32; TAB];
     let e = put_nets(nets, t, pins, d, &mut tab);
     tab[512 + t] = narrow(e as u64);
     tab[896] = narrow(t as u64);

@@ -9,7 +9,9 @@ use crate::limits::bound_of;
 use crate::limits::greater;
 use bounds::Slot;
 use model::Chip;
+use model::Mac;
 use model::Net;
+use model::Pin;
 use slots::Direction;
 ghost use mathlib.Core.Path.{_≡_};
 ghost use Prim.Native.Nat.{_≤_};
@@ -17,14 +19,19 @@ ghost use Rattle.chip.specs.Valid.{pinsBefore};
 ghost use Rattle.half_tables.specs.Tables.{withBound};
 ghost use Rattle.half_tables.specs.Made.{NetsFit, ArraysFor};
 
+// The lengths of the arrays, which are those of half_test.
+pub const TAB: usize = half_test::TAB;
+
+pub const ARCS: usize = half_test::ARCS;
+
 // The nets of a direction as entries, and the bounds between its nodes, held higher by 2^24.
 pub struct Arrays {
-    pub tab: [u32; 1024],
-    pub arcs: [u32; 128],
+    pub tab: [u32; TAB],
+    pub arcs: [u32; ARCS],
 }
 
 // The bounds with the slot's bound among them. Its nodes are read modulo 9, and its numbers count up to 1,000,000.
-pub fn with_bound(arcs: [u32; 128], s: Slot) -> [u32; 128]
+pub fn with_bound(arcs: [u32; ARCS], s: Slot) -> [u32; ARCS]
     ensures { λ r. ⌜ r ≡ withBound arcs s ⌝ }
 {
     let mut with = arcs;
@@ -38,14 +45,14 @@ pub fn with_bound(arcs: [u32; 128], s: Slot) -> [u32; 128]
 fn nets_fit(nets: [Net; Net::COUNT], t: usize) -> bool
     ensures { λ r. ⌜ NetsFit r nets t ⌝ }
 {
-    if 32 < t {
+    if Net::COUNT < t {
         return false;
     }
     let mut q: usize = 0;
     let mut j: usize = 0;
     while j < t {
         let net = nets[j];
-        if 128 - q < net.pins {
+        if Pin::COUNT - q < net.pins {
             return false;
         }
         q += net.pins;
@@ -71,8 +78,8 @@ fn held_arrays(c: Chip, d: Direction) -> Arrays
 
 fn blank_arrays() -> Arrays {
     Arrays {
-        tab: [0u32; 1024],
-        arcs: [0u32; 128],
+        tab: [0u32; TAB],
+        arcs: [0u32; ARCS],
     }
 }
 
@@ -80,7 +87,7 @@ fn blank_arrays() -> Arrays {
 pub fn arrays_of(c: Chip, d: Direction) -> Arrays
     ensures { λ r. ⌜ ArraysFor c d (r .tab) (r .arcs) ⌝ }
 {
-    if 8 < c.n {
+    if Mac::COUNT < c.n {
         return blank_arrays();
     }
     let nets = c.nets;

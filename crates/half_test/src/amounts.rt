@@ -2,6 +2,9 @@
 ghost use Rattle.half_test.specs.State.{flowAt, hiAt, loAt};
 ghost use Rattle.half_test.specs.Amounts.{Passes};
 ghost use Rattle.half_test.specs.Tests.{Says, Small, Level, Given, WorthSums};
+use crate::ARCS;
+use crate::POOL;
+use crate::TAB;
 use crate::gather::OfBounds;
 use crate::gather::OfEntries;
 use crate::gather::of_bounds;
@@ -30,7 +33,7 @@ fn balances(e: OfEntries, b: OfBounds) -> bool
     true
 }
 
-fn gives_weights(tab: &[u32; 1024], e: OfEntries) -> bool
+fn gives_weights(tab: &[u32; TAB], e: OfEntries) -> bool
     ensures { λ r. ⌜ Says r (Given (now (tab .entry)) (e .hi) (e .lo) 32) ⌝ }
 {
     let mut j: usize = 0;
@@ -48,7 +51,7 @@ fn gives_weights(tab: &[u32; 1024], e: OfEntries) -> bool
 }
 
 // The worth of the amounts of state o, and whether they balance and give each net its weight at hi and at lo.
-pub(crate) fn worth_of(tab: &[u32; 1024], arcs: &[u32; 128], st: &[u32; 2560], o: usize) -> Worth
+pub(crate) fn worth_of(tab: &[u32; TAB], arcs: &[u32; ARCS], st: &[u32; POOL], o: usize) -> Worth
     ensures { λ r. ⌜ WorthSums (now (tab .entry)) (now (arcs .entry)) (now (st .entry)) o (r .more) (r .less) ⌝ }
     ensures { λ r. ⌜ Says (r .passes) (Passes (now (tab .entry)) (flowAt (now (st .entry)) o) (hiAt (now (st .entry)) o) (loAt (now (st .entry)) o)) ⌝ }
 {

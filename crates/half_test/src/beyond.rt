@@ -2,13 +2,16 @@
 ghost use Rattle.bounds.specs.Half.{AboveOn};
 ghost use Rattle.half_test.specs.Arrays.{axisOn};
 ghost use Rattle.half_test.specs.Tests.{Says};
+use crate::ARCS;
+use crate::POOL;
+use crate::TAB;
 use crate::amounts::worth_of;
 
 // Whether the amounts of state o show that the half fit is above the room or does not exist.
 pub fn shows_beyond(
-    tab: &[u32; 1024],
-    arcs: &[u32; 128],
-    st: &[u32; 2560],
+    tab: &[u32; TAB],
+    arcs: &[u32; ARCS],
+    st: &[u32; POOL],
     o: usize,
     room: u64,
 ) -> bool

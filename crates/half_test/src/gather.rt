@@ -1,6 +1,9 @@
 // What amounts give, in one pass over the entries and one over the bounds.
 ghost use Rattle.half_test.specs.Arrays.{entryCount};
 ghost use Rattle.half_test.specs.Tests.{EntrySums, FlowSums};
+use crate::ARCS;
+use crate::POOL;
+use crate::TAB;
 use crate::read::FLOWS;
 use crate::read::HIGHS;
 use crate::read::LOWS;
@@ -31,7 +34,7 @@ pub(crate) struct OfBounds {
     pub by: u64,
 }
 
-pub(crate) fn of_entries(tab: &[u32; 1024], st: &[u32; 2560], o: usize) -> OfEntries
+pub(crate) fn of_entries(tab: &[u32; TAB], st: &[u32; POOL], o: usize) -> OfEntries
     ensures { λ r. ⌜ EntrySums (now (tab .entry)) (now (st .entry)) o (entryCount (now (tab .entry))) (r .high) (r .low) (r .hi) (r .lo) (r .up) (r .down) ⌝ }
 {
     let mut high = [0u64; 9];
@@ -67,7 +70,7 @@ pub(crate) fn of_entries(tab: &[u32; 1024], st: &[u32; 2560], o: usize) -> OfEnt
     }
 }
 
-pub(crate) fn of_bounds(arcs: &[u32; 128], st: &[u32; 2560], o: usize) -> OfBounds
+pub(crate) fn of_bounds(arcs: &[u32; ARCS], st: &[u32; POOL], o: usize) -> OfBounds
     ensures { λ r. ⌜ FlowSums (now (arcs .entry)) (now (st .entry)) o 81 (r .into) (r .out) (r .all) (r .by) ⌝ }
 {
     let mut into = [0u64; 9];

@@ -5,6 +5,7 @@ ghost use Rattle.bounds.specs.Axis.{netsLength};
 ghost use Rattle.half_test.specs.Arrays.{entryCount, netsFrom};
 ghost use Rattle.half_test.specs.State.{limited};
 ghost use Rattle.half_test.specs.Tests.{Values, macros, NetEnds};
+use crate::TAB;
 use crate::read::entries;
 use crate::read::least;
 use crate::read::most;
@@ -38,7 +39,7 @@ fn smaller(a: u64, b: u64) -> u64
     a
 }
 
-fn ends_of(tab: &[u32; 1024], x: &[u64; 9]) -> Ends
+fn ends_of(tab: &[u32; TAB], x: &[u64; 9]) -> Ends
     requires { ⌜ Values (now x) ⌝ }
     ensures { λ r. ⌜ NetEnds (now (tab .entry)) (macros (now (x .entry))) (entryCount (now (tab .entry))) (r .top) (r .bottom) ⌝ }
 {
@@ -59,7 +60,7 @@ fn ends_of(tab: &[u32; 1024], x: &[u64; 9]) -> Ends
     Ends { top, bottom }
 }
 
-pub(crate) fn length_at(tab: &[u32; 1024], x: &[u64; 9]) -> u64
+pub(crate) fn length_at(tab: &[u32; TAB], x: &[u64; 9]) -> u64
     requires { ⌜ Values (now x) ⌝ }
     ensures { λ r. ⌜ r ≡ netsLength (macros (now (x .entry))) (netsFrom (now (tab .entry)) 0 32) ⌝ }
 {
@@ -76,7 +77,7 @@ pub(crate) fn length_at(tab: &[u32; 1024], x: &[u64; 9]) -> u64
 }
 
 // The length of all nets at the macros' coordinates, each taken modulo the die's side.
-pub fn half_length(tab: &[u32; 1024], at: [u64; Axis::MACROS]) -> u64
+pub fn half_length(tab: &[u32; TAB], at: [u64; Axis::MACROS]) -> u64
     ensures { λ r. ⌜ r ≡ netsLength (limited at) (netsFrom (now (tab .entry)) 0 32) ⌝ }
 {
     let x = values_of(at);

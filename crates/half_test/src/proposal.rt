@@ -1,6 +1,9 @@
 // The test of a proposed half fit: coordinates, amounts worth their length, and a reason for each macro's coordinate.
 ghost use Rattle.half_test.specs.State.{coordinates};
 ghost use Rattle.half_test.specs.Answer.{ShownOk};
+use crate::ARCS;
+use crate::POOL;
+use crate::TAB;
 use crate::amounts::worth_of;
 use crate::keeps::keeps_bounds;
 use crate::length::length_at;
@@ -15,7 +18,7 @@ pub enum Shown {
 }
 
 // Whether what state o proposes is the half fit of the arrays.
-pub fn test_fit(tab: &[u32; 1024], arcs: &[u32; 128], st: &[u32; 2560], o: usize) -> Shown
+pub fn test_fit(tab: &[u32; TAB], arcs: &[u32; ARCS], st: &[u32; POOL], o: usize) -> Shown
     ensures { λ r. ⌜ ShownOk (now (tab .entry)) (now (arcs .entry)) (coordinates (now (st .entry)) o) r ⌝ }
 {
     let z = coordinates_of(st, o);

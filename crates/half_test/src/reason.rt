@@ -3,6 +3,9 @@ ghost use Prim.Native.Nat.{_<_};
 ghost use Rattle.half_test.specs.State.{flowAt, hiAt, loAt, rankAt};
 ghost use Rattle.half_test.specs.Reasons.{TightAt, Beside, HighAt, LowAt, Follows, Reason, Reasons};
 ghost use Rattle.half_test.specs.Tests.{Says, Values, macros};
+use crate::ARCS;
+use crate::POOL;
+use crate::TAB;
 use crate::read::FLOWS;
 use crate::read::HIGHS;
 use crate::read::LOWS;
@@ -17,7 +20,7 @@ use crate::read::parent;
 use crate::read::rank;
 use crate::read::way;
 
-fn tight(arcs: &[u32; 128], x: &[u64; 9], p: usize, k: usize) -> bool
+fn tight(arcs: &[u32; ARCS], x: &[u64; 9], p: usize, k: usize) -> bool
     requires { ⌜ Values (now x) × (p < 9) × (k < 9) ⌝ }
     ensures { λ r. ⌜ Says r (TightAt (now (arcs .entry)) (macros (now (x .entry))) p k) ⌝ }
 {
@@ -26,7 +29,7 @@ fn tight(arcs: &[u32; 128], x: &[u64; 9], p: usize, k: usize) -> bool
 }
 
 // Whether entries i on node p and j on node k are on one net.
-fn beside(tab: &[u32; 1024], p: usize, k: usize, i: usize, j: usize) -> bool
+fn beside(tab: &[u32; TAB], p: usize, k: usize, i: usize, j: usize) -> bool
     ensures { λ r. ⌜ Says r (Beside (now (tab .entry)) p k i j) ⌝ }
 {
     let m = entries(tab);
@@ -46,8 +49,8 @@ fn beside(tab: &[u32; 1024], p: usize, k: usize, i: usize, j: usize) -> bool
 }
 
 fn high(
-    tab: &[u32; 1024],
-    st: &[u32; 2560],
+    tab: &[u32; TAB],
+    st: &[u32; POOL],
     o: usize,
     x: &[u64; 9],
     p: usize,
@@ -71,8 +74,8 @@ fn high(
 }
 
 fn low(
-    tab: &[u32; 1024],
-    st: &[u32; 2560],
+    tab: &[u32; TAB],
+    st: &[u32; POOL],
     o: usize,
     x: &[u64; 9],
     p: usize,
@@ -97,9 +100,9 @@ fn low(
 
 // Whether node k has its value from node p.
 fn follows(
-    tab: &[u32; 1024],
-    arcs: &[u32; 128],
-    st: &[u32; 2560],
+    tab: &[u32; TAB],
+    arcs: &[u32; ARCS],
+    st: &[u32; POOL],
     o: usize,
     x: &[u64; 9],
     p: usize,
@@ -126,9 +129,9 @@ fn follows(
 
 // Whether node k has its value from its parent, and that a lower rank.
 fn has_reason(
-    tab: &[u32; 1024],
-    arcs: &[u32; 128],
-    st: &[u32; 2560],
+    tab: &[u32; TAB],
+    arcs: &[u32; ARCS],
+    st: &[u32; POOL],
     o: usize,
     x: &[u64; 9],
     k: usize,
@@ -146,9 +149,9 @@ fn has_reason(
 }
 
 pub(crate) fn reasons(
-    tab: &[u32; 1024],
-    arcs: &[u32; 128],
-    st: &[u32; 2560],
+    tab: &[u32; TAB],
+    arcs: &[u32; ARCS],
+    st: &[u32; POOL],
     o: usize,
     x: &[u64; 9],
 ) -> bool

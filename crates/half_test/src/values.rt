@@ -1,17 +1,18 @@
 // The coordinates of a state, and the values of the nodes.
+use crate::POOL;
 use bounds::Axis;
 ghost use mathlib.Core.Path.{_≡_};
 ghost use Rattle.half_test.specs.State.{coordinateAt, coordinates, limited};
 ghost use Rattle.half_test.specs.Tests.{ValuesOf};
 
-fn coordinate(st: &[u32; 2560], o: usize, k: usize) -> u64
+fn coordinate(st: &[u32; POOL], o: usize, k: usize) -> u64
     ensures { λ r. ⌜ r ≡ coordinateAt (now (st .entry)) o k ⌝ }
 {
     (st[o % 4 * 608 + 544 + k % 16] % 8192) as u64
 }
 
 // The macros' coordinates in state o.
-pub fn coordinates_of(st: &[u32; 2560], o: usize) -> [u64; Axis::MACROS]
+pub fn coordinates_of(st: &[u32; POOL], o: usize) -> [u64; Axis::MACROS]
     ensures { λ r. ⌜ r ≡ coordinates (now (st .entry)) o ⌝ }
 {
     let a = coordinate(st, o, 1);

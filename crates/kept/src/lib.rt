@@ -5,6 +5,9 @@ ghost use Prim.Native.Nat.{_<_};
 ghost use lib.ListN.{set};
 ghost use Rattle.kept.specs.Differences.{limited, Limited, heldBound, contrary, boundIn, raisedAt, Adds, Follows, Starts, excluded, contradicts};
 
+// How many numbers a table has: one for each two of nine nodes, the rest is not used.
+pub const CELLS: usize = 128;
+
 // A bound is held higher by this.
 const RAISED: u64 = 16777216;
 
@@ -30,7 +33,7 @@ fn held(s: Slot) -> u64
 }
 
 // The bound at place c, read modulo 2^25.
-fn bound(e: &[u32; 128], c: usize) -> u64
+fn bound(e: &[u32; CELLS], c: usize) -> u64
     requires { ⌜ c < 81 ⌝ }
     ensures { λ r. ⌜ r ≡ boundIn (now (e .entry)) c ⌝ }
 {
@@ -38,7 +41,7 @@ fn bound(e: &[u32; 128], c: usize) -> u64
 }
 
 // The bound w less 2^24 at place c, if it is above the one that stands.
-fn raise(e: &mut [u32; 128], c: usize, w: u64)
+fn raise(e: &mut [u32; CELLS], c: usize, w: u64)
     requires { ⌜ c < 81 ⌝ }
     ensures { λ _. ⌜ now (e .exit) ≡ raisedAt (now (e .entry)) c w ⌝ }
 {
@@ -50,7 +53,7 @@ fn raise(e: &mut [u32; 128], c: usize, w: u64)
 }
 
 // The sums of the bound t from p to v and those from v on.
-fn raise_row(e: &mut [u32; 128], p: usize, v: usize, t: u64)
+fn raise_row(e: &mut [u32; CELLS], p: usize, v: usize, t: u64)
     requires { ⌜ (p < 9) × (v < 9) × (t < 4294967296) ⌝ }
     ensures { λ _. ⌜ Follows (now (e .entry)) p v t (now (e .exit)) ⌝ }
 {
@@ -63,7 +66,7 @@ fn raise_row(e: &mut [u32; 128], p: usize, v: usize, t: u64)
 }
 
 // The sums of the bounds into u with b from u to v, in row p.
-fn raise_from(e: &mut [u32; 128], p: usize, u: usize, v: usize, b: u64)
+fn raise_from(e: &mut [u32; CELLS], p: usize, u: usize, v: usize, b: u64)
     requires { ⌜ (p < 9) × (u < 9) × (v < 9) × (b < 33554432) ⌝ }
     ensures { λ _. ⌜ Follows (now (e .entry)) u v b (now (e .exit)) ⌝ }
 {
@@ -74,7 +77,7 @@ fn raise_from(e: &mut [u32; 128], p: usize, u: usize, v: usize, b: u64)
 }
 
 // The sums of all ways over the bound b from u to v.
-fn raise_all(e: &mut [u32; 128], u: usize, v: usize, b: u64)
+fn raise_all(e: &mut [u32; CELLS], u: usize, v: usize, b: u64)
     requires { ⌜ (u < 9) × (v < 9) × (b < 33554432) ⌝ }
     ensures { λ _. ⌜ Follows (now (e .entry)) u v b (now (e .exit)) ⌝ }
 {
@@ -86,7 +89,7 @@ fn raise_all(e: &mut [u32; 128], u: usize, v: usize, b: u64)
 }
 
 // A table that nothing keeps.
-fn shut(e: [u32; 128]) -> [u32; 128]
+fn shut(e: [u32; CELLS]) -> [u32; CELLS]
     ensures { λ r. ⌜ r ≡ set e 0 16777217 ⌝ }
 {
     let mut r = e;
@@ -95,7 +98,7 @@ fn shut(e: [u32; 128]) -> [u32; 128]
 }
 
 // Whether the bound the other way is too large.
-fn against(e: &[u32; 128], a: Slot) -> bool
+fn against(e: &[u32; CELLS], a: Slot) -> bool
     requires { ⌜ Limited a ⌝ }
     ensures { λ r. ⌜ r ≡ excluded (now (e .entry)) a ⌝ }
 {
@@ -103,7 +106,7 @@ fn against(e: &[u32; 128], a: Slot) -> bool
 }
 
 // One difference more.
-fn add(e: [u32; 128], a: Slot) -> [u32; 128]
+fn add(e: [u32; CELLS], a: Slot) -> [u32; CELLS]
     requires { ⌜ Limited a ⌝ }
     ensures { λ r. ⌜ Adds e a r ⌝ }
 {
@@ -123,28 +126,28 @@ fn add(e: [u32; 128], a: Slot) -> [u32; 128]
 }
 
 // Whether nothing can keep the table and the slot's bound, as the bound the other way shows.
-pub fn excludes(e: &[u32; 128], s: Slot) -> bool
+pub fn excludes(e: &[u32; CELLS], s: Slot) -> bool
     ensures { λ r. ⌜ r ≡ excluded (now (e .entry)) (limited s) ⌝ }
 {
     against(e, limit(s))
 }
 
 // Whether the table is known to contradict itself.
-pub fn is_shut(e: &[u32; 128]) -> bool
+pub fn is_shut(e: &[u32; CELLS]) -> bool
     ensures { λ r. ⌜ r ≡ contradicts (now (e .entry)) ⌝ }
 {
     RAISED < bound(e, 0)
 }
 
 // One difference more.
-pub fn keep(e: [u32; 128], s: Slot) -> [u32; 128]
+pub fn keep(e: [u32; CELLS], s: Slot) -> [u32; CELLS]
     ensures { λ r. ⌜ Adds e (limited s) r ⌝ }
 {
     add(e, limit(s))
 }
 
 // The opposite of a difference: one track the other way.
-pub fn keep_opposite(e: [u32; 128], s: Slot) -> [u32; 128]
+pub fn keep_opposite(e: [u32; CELLS], s: Slot) -> [u32; CELLS]
     ensures { λ r. ⌜ Adds e (contrary (limited s)) r ⌝ }
 {
     let a = limit(s);
@@ -160,7 +163,7 @@ pub fn keep_opposite(e: [u32; 128], s: Slot) -> [u32; 128]
 }
 
 // The bounds of a table with their sums over the die corner, and 0 from each node to itself.
-pub fn closed(e: [u32; 128]) -> [u32; 128]
+pub fn closed(e: [u32; CELLS]) -> [u32; CELLS]
     ensures { λ r. ⌜ Starts e r ⌝ }
 {
     let mut r = e;

@@ -1,5 +1,8 @@
 // The search: each call decides one further pair.
 use bounds::Slot;
+use half_fit::HELP;
+use half_fit::POOL;
+use half_fit::TAB;
 use half_tables::with_bound;
 use model::Record;
 use search_close::next_step;
@@ -73,17 +76,17 @@ fn next_node(node: Node, left: Left, s: usize, i: usize, t: Slot) -> Node
 
 // The best so far or a better one: not after any legal placement under the node's letters that keeps its differences.
 pub(crate) fn search(
-    cs: &[u64; 640],
+    cs: &[u64; chip_array::CELLS],
     parts: Parts,
     p: usize,
-    tx: &[u32; 1024],
-    hx: &[u32; 4352],
-    ty: &[u32; 1024],
-    hy: &[u32; 4352],
+    tx: &[u32; TAB],
+    hx: &[u32; HELP],
+    ty: &[u32; TAB],
+    hy: &[u32; HELP],
     node: Node,
-    sx: &[u32; 2560],
+    sx: &[u32; POOL],
     ix: usize,
-    sy: &[u32; 2560],
+    sy: &[u32; POOL],
     iy: usize,
     best: Record,
 ) -> Record
@@ -97,7 +100,7 @@ pub(crate) fn search(
     }
     let s = turn.s;
     let at = turn.at;
-    let mut pool = [0u32; 2560];
+    let mut pool = [0u32; POOL];
     let mut left = try_letters(
         cs,
         parts,

@@ -40,12 +40,12 @@ fn coordinate(p: Spot, d: Direction) -> u64
 }
 
 // The corners' coordinates in a direction.
-fn coordinates(spots: [Spot; Mac::COUNT], d: Direction) -> [u64; 8]
+fn coordinates(spots: [Spot; Mac::COUNT], d: Direction) -> [u64; Mac::COUNT]
     ensures { λ r. ⌜ r ≡ cornersOn d spots ⌝ }
 {
-    let mut at = [0u64; 8];
+    let mut at = [0u64; Mac::COUNT];
     let mut i: usize = 0;
-    while i < 8 {
+    while i < Mac::COUNT {
         at[i] = coordinate(spots[i], d);
         i += 1;
     }
@@ -53,7 +53,7 @@ fn coordinates(spots: [Spot; Mac::COUNT], d: Direction) -> [u64; 8]
 }
 
 // A placement with x 0 and the given y, of length l.
-fn upright(cs: &[u64; 640], at: [u64; 8], l: u64) -> Record
+fn upright(cs: &[u64; chip_array::CELLS], at: [u64; Mac::COUNT], l: u64) -> Record
     ensures { λ r. ⌜ r ≡ record { outcome = Outcome.Least l (chipIn (now (cs .entry)) .n); spots = uprightSpots at } ⌝ }
     ensures { λ r. ⌜ length (r .spots) ≡ 8 ⌝ }
 {
@@ -64,7 +64,13 @@ fn upright(cs: &[u64; 640], at: [u64; 8], l: u64) -> Record
 }
 
 // The fit of dots from its two half fits, of which the vertical one has coordinates at and length l.
-fn from_halves(cs: &[u64; 640], p: usize, fx: HalfFit, at: [u64; 8], l: u64) -> Record
+fn from_halves(
+    cs: &[u64; chip_array::CELLS],
+    p: usize,
+    fx: HalfFit,
+    at: [u64; Mac::COUNT],
+    l: u64,
+) -> Record
     requires { ⌜ Passed (chipIn (now cs)) × Lettered (chipIn (now cs)) dots p × HalfSaid (chipOf (chipIn (now cs))) (lettersIn dots p) Direction.Horizontal 4000000000 (fx .outcome) (fx .at) × HalfSaid (chipOf (chipIn (now cs))) (lettersIn dots p) Direction.Vertical 4000000000 (HalfOutcome.Fit l) at ⌝ }
     ensures { λ r. ⌜ ChildHeld (chipIn (now (cs .entry))) dots p noRecord r ⌝ }
 {
@@ -83,7 +89,7 @@ fn from_halves(cs: &[u64; 640], p: usize, fx: HalfFit, at: [u64; 8], l: u64) -> 
 }
 
 // The fit of dots from its two half fits; where one is not shown, the fit that is sold.
-pub(crate) fn first_fit(cs: &[u64; 640], p: usize, fx: HalfFit, fy: HalfFit) -> Record
+pub(crate) fn first_fit(cs: &[u64; chip_array::CELLS], p: usize, fx: HalfFit, fy: HalfFit) -> Record
     requires { ⌜ Passed (chipIn (now cs)) × Lettered (chipIn (now cs)) dots p × HalfSaid (chipOf (chipIn (now cs))) (lettersIn dots p) Direction.Horizontal 4000000000 (fx .outcome) (fx .at) × HalfSaid (chipOf (chipIn (now cs))) (lettersIn dots p) Direction.Vertical 4000000000 (fy .outcome) (fy .at) ⌝ }
     ensures { λ r. ⌜ FitHeld (chipIn (now (cs .entry))) dots p r ⌝ }
 {

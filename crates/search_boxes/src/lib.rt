@@ -11,7 +11,7 @@ ghost use Rattle.search_boxes.specs.Boxes.{overlaps, boxOf, secondOf};
 pub fn box_at(macs: [Mac; Mac::COUNT], spots: [Spot; Mac::COUNT], i: usize) -> Fix
     ensures { λ r. ⌜ r ≡ boxOf macs spots i ⌝ }
 {
-    if 8 <= i {
+    if Mac::COUNT <= i {
         return Fix {
             x: 0,
             y: 0,
@@ -40,7 +40,7 @@ pub fn second_box(
     ensures { λ r. ⌜ r ≡ secondOf macs fixes spots fix j ⌝ }
 {
     if fix {
-        if j < 8 {
+        if j < Fix::COUNT {
             return fixes[j];
         }
         return Fix {

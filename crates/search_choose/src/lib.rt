@@ -3,6 +3,7 @@ mod open;
 mod score;
 
 use crate::score::pair_score;
+use kept::CELLS;
 use model::Fix;
 use model::Mac;
 use model::Spot;
@@ -23,10 +24,10 @@ pub struct Choice {
 fn is_laid(n: usize, k: usize, p: usize) -> bool
     ensures { λ r. ⌜ LaidBy r n k p ⌝ }
 {
-    if 8 < n {
+    if Mac::COUNT < n {
         return false;
     }
-    if 8 < k {
+    if Fix::COUNT < k {
         return false;
     }
     p == letter_count(n, k)
@@ -39,9 +40,9 @@ fn choose_pair(
     fixes: [Fix; Fix::COUNT],
     k: usize,
     p: usize,
-    weights: [u64; 8],
-    kx: &[u32; 128],
-    ky: &[u32; 128],
+    weights: [u64; Mac::COUNT],
+    kx: &[u32; CELLS],
+    ky: &[u32; CELLS],
     found: bool,
     spots: [Spot; Mac::COUNT],
 ) -> Choice
@@ -79,9 +80,9 @@ pub fn choose(
     fixes: [Fix; Fix::COUNT],
     k: usize,
     p: usize,
-    weights: [u64; 8],
-    kx: &[u32; 128],
-    ky: &[u32; 128],
+    weights: [u64; Mac::COUNT],
+    kx: &[u32; CELLS],
+    ky: &[u32; CELLS],
     found: bool,
     spots: [Spot; Mac::COUNT],
 ) -> Choice

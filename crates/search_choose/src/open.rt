@@ -1,5 +1,6 @@
 // The letters of a pair that the differences leave open. They guide the choice of the pair and nothing else, so nothing is promised of them.
 use bounds::Slot;
+use kept::CELLS;
 use model::Fix;
 use model::Mac;
 use pairs::Cursor;
@@ -16,15 +17,15 @@ pub(crate) struct Open {
 }
 
 // Whether the differences leave the letter of a slot open.
-fn is_open(k: &[u32; 128], s: Slot) -> bool {
+fn is_open(k: &[u32; CELLS], s: Slot) -> bool {
     !kept::excludes(k, s)
 }
 
 pub(crate) fn open_letters(
     macs: [Mac; Mac::COUNT],
     fixes: [Fix; Fix::COUNT],
-    kx: &[u32; 128],
-    ky: &[u32; 128],
+    kx: &[u32; CELLS],
+    ky: &[u32; CELLS],
     at: Cursor,
 ) -> Open {
     Open {

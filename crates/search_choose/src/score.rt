@@ -2,6 +2,7 @@
 use crate::open::Open;
 use crate::open::open_letters;
 use crate::open::urgency;
+use kept::CELLS;
 use model::Fix;
 use model::Mac;
 use model::Spot;
@@ -93,7 +94,7 @@ fn earliness(fix: bool, i: usize, j: usize) -> u64
 }
 
 // The weight of the nets of a pair: the lesser of its macros' weights.
-fn pair_weight(weights: [u64; 8], fix: bool, i: usize, j: usize) -> u64
+fn pair_weight(weights: [u64; Mac::COUNT], fix: bool, i: usize, j: usize) -> u64
     ensures { λ r. ⌜ r ≤ 32000 ⌝ }
 {
     let w = lesser(weights[i % 8], HEAVY);
@@ -108,9 +109,9 @@ pub(crate) fn pair_score(
     macs: [Mac; Mac::COUNT],
     fixes: [Fix; Fix::COUNT],
     spots: [Spot; Mac::COUNT],
-    weights: [u64; 8],
-    kx: &[u32; 128],
-    ky: &[u32; 128],
+    weights: [u64; Mac::COUNT],
+    kx: &[u32; CELLS],
+    ky: &[u32; CELLS],
     found: bool,
     at: Cursor,
 ) -> u64

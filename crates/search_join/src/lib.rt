@@ -42,7 +42,7 @@ fn fit_record(c: Chip, letters: [u8; LETTERS], p: usize) -> Record
 }
 
 // The same of a chip that is lent as an array.
-pub fn fit_again(cs: &[u64; 640], letters: [u8; LETTERS], p: usize) -> Record
+pub fn fit_again(cs: &[u64; chip_array::CELLS], letters: [u8; LETTERS], p: usize) -> Record
     ensures { λ r. ⌜ FitFor (chipIn (now (cs .entry))) letters p r ⌝ }
 {
     let c = chip_in(cs);
@@ -60,12 +60,16 @@ fn spot_with(d: Direction, v: u64, p: Spot) -> Spot
 }
 
 // The corners with other coordinates in a direction.
-pub fn spots_with(d: Direction, at: [u64; 8], spots: [Spot; Mac::COUNT]) -> [Spot; Mac::COUNT]
+pub fn spots_with(
+    d: Direction,
+    at: [u64; Mac::COUNT],
+    spots: [Spot; Mac::COUNT],
+) -> [Spot; Mac::COUNT]
     ensures { λ r. ⌜ r ≡ spotsWith d at spots ⌝ }
 {
     let mut r = spots;
     let mut i: usize = 0;
-    while i < 8 {
+    while i < Mac::COUNT {
         r[i] = spot_with(d, at[i], spots[i]);
         i += 1;
     }
@@ -90,7 +94,7 @@ fn sum(a: u64, b: u64) -> u64
 
 // The fit of the letters: one half is f, the other that of the fit before, of length other.
 pub fn joined(
-    cs: &[u64; 640],
+    cs: &[u64; chip_array::CELLS],
     p: usize,
     letters: [u8; LETTERS],
     here: Record,

@@ -1,6 +1,7 @@
 // What is left of a branch once some letters of a pair are closed: the fits of the others, and the differences kept.
 use best::replaces_best;
 use bounds::Slot;
+use kept::CELLS;
 use model::Record;
 use search_node::no_record;
 ghost use mathlib.Core.Path.{_≡_};
@@ -13,8 +14,8 @@ pub struct Left {
     pub r: Record,
     pub b: Record,
     pub a: Record,
-    pub kx: [u32; 128],
-    pub ky: [u32; 128],
+    pub kx: [u32; CELLS],
+    pub ky: [u32; CELLS],
 }
 
 // Child i; none past the four.

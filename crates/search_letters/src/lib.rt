@@ -1,6 +1,10 @@
 // The four letters of a pair, tried: each is excluded by the differences, closed by its fit, or left with it.
 use best::replaces_best;
 use bounds::Slot;
+use half_fit::ARCS;
+use half_fit::HELP;
+use half_fit::POOL;
+use half_fit::TAB;
 use half_tables::with_bound;
 use model::Record;
 use pairs::Cursor;
@@ -22,22 +26,22 @@ ghost use Rattle.search_letters.specs.Turns.{Untried, ChildOn, ChildOf, 
 
 // The fit of a branch with letter i for pair s, from the half fit of the letter's direction; its bounds there are `before`, the length of the other half is `other`, the letter's slot is t. The half fit's state goes into the pool.
 fn child_on(
-    cs: &[u64; 640],
+    cs: &[u64; chip_array::CELLS],
     p: usize,
     d: Direction,
-    tab: &[u32; 1024],
-    help: &[u32; 4352],
+    tab: &[u32; TAB],
+    help: &[u32; HELP],
     letters: [u8; LETTERS],
-    before: [u32; 128],
+    before: [u32; ARCS],
     here: Record,
     other: u64,
-    state: &[u32; 2560],
+    state: &[u32; POOL],
     k: usize,
     s: usize,
     i: usize,
     t: Slot,
     best: Record,
-    pool: &mut [u32; 2560],
+    pool: &mut [u32; POOL],
 ) -> Record
     ensures { λ r. ⌜ ChildOn (chipIn (now (cs .entry))) p d (now (tab .entry)) letters before here other s i t best r ⌝ }
 {
@@ -59,22 +63,22 @@ fn child_on(
 
 // Letter i of pair s, whose slot is t. Its state goes into the pool.
 fn child(
-    cs: &[u64; 640],
+    cs: &[u64; chip_array::CELLS],
     p: usize,
-    tx: &[u32; 1024],
-    hx: &[u32; 4352],
-    ty: &[u32; 1024],
-    hy: &[u32; 4352],
+    tx: &[u32; TAB],
+    hx: &[u32; HELP],
+    ty: &[u32; TAB],
+    hy: &[u32; HELP],
     node: Node,
-    sx: &[u32; 2560],
+    sx: &[u32; POOL],
     ix: usize,
-    sy: &[u32; 2560],
+    sy: &[u32; POOL],
     iy: usize,
     s: usize,
     i: usize,
     t: Slot,
     best: Record,
-    pool: &mut [u32; 2560],
+    pool: &mut [u32; POOL],
 ) -> Record
     ensures { λ r. ⌜ ChildOf (chipIn (now (cs .entry))) p (now (tx .entry)) (now (ty .entry)) node s i t best r ⌝ }
 {
@@ -140,24 +144,24 @@ fn untried(node: Node) -> Left
 
 // Letter i of pair s is tried: excluded by the differences, closed, or left with its fit.
 fn try_letter(
-    cs: &[u64; 640],
+    cs: &[u64; chip_array::CELLS],
     parts: Parts,
     p: usize,
-    tx: &[u32; 1024],
-    hx: &[u32; 4352],
-    ty: &[u32; 1024],
-    hy: &[u32; 4352],
+    tx: &[u32; TAB],
+    hx: &[u32; HELP],
+    ty: &[u32; TAB],
+    hy: &[u32; HELP],
     node: Node,
-    sx: &[u32; 2560],
+    sx: &[u32; POOL],
     ix: usize,
-    sy: &[u32; 2560],
+    sy: &[u32; POOL],
     iy: usize,
     s: usize,
     at: Cursor,
     i: usize,
     best: Record,
     left: Left,
-    pool: &mut [u32; 2560],
+    pool: &mut [u32; POOL],
 ) -> Left
     ensures { λ r. ⌜ TriedOne (chipIn (now (cs .entry))) parts p (now (tx .entry)) (now (ty .entry)) node s at i best left r ⌝ }
 {
@@ -191,22 +195,22 @@ fn try_letter(
 
 // The four letters of pair s are tried.
 pub fn try_letters(
-    cs: &[u64; 640],
+    cs: &[u64; chip_array::CELLS],
     parts: Parts,
     p: usize,
-    tx: &[u32; 1024],
-    hx: &[u32; 4352],
-    ty: &[u32; 1024],
-    hy: &[u32; 4352],
+    tx: &[u32; TAB],
+    hx: &[u32; HELP],
+    ty: &[u32; TAB],
+    hy: &[u32; HELP],
     node: Node,
-    sx: &[u32; 2560],
+    sx: &[u32; POOL],
     ix: usize,
-    sy: &[u32; 2560],
+    sy: &[u32; POOL],
     iy: usize,
     s: usize,
     at: Cursor,
     best: Record,
-    pool: &mut [u32; 2560],
+    pool: &mut [u32; POOL],
 ) -> Left
     ensures { λ r. ⌜ Tried (chipIn (now (cs .entry))) parts p (now (tx .entry)) (now (ty .entry)) node s at 4 best r ⌝ }
 {

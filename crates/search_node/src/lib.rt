@@ -1,5 +1,7 @@
 // A branch of the search: its letters, bounds, differences and fit; the four letters of a pair and the slots that they ask.
 use bounds::Slot;
+use half_tables::ARCS;
+use kept::CELLS;
 use model::Fix;
 use model::Mac;
 use model::Outcome;
@@ -24,16 +26,16 @@ pub struct Parts {
     pub k: usize,
     pub macs: [Mac; Mac::COUNT],
     pub fixes: [Fix; Fix::COUNT],
-    pub weights: [u64; 8],
+    pub weights: [u64; Mac::COUNT],
 }
 
 // The letters; in each direction the greatest bounds between nodes, the differences kept and the length of the half fit; the fit.
 pub struct Node {
     pub letters: [u8; LETTERS],
-    pub ax: [u32; 128],
-    pub ay: [u32; 128],
-    pub kx: [u32; 128],
-    pub ky: [u32; 128],
+    pub ax: [u32; ARCS],
+    pub ay: [u32; ARCS],
+    pub kx: [u32; CELLS],
+    pub ky: [u32; CELLS],
     pub lx: u64,
     pub ly: u64,
     pub here: Record,

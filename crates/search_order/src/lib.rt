@@ -1,5 +1,6 @@
 // Equal macros: the earlier one does not lie further right, kept as differences.
 use bounds::Slot;
+use kept::CELLS;
 use model::Chip;
 ghost use mathlib.Core.Path.{_≡_};
 ghost use mathlib.Core.Bool.{true};
@@ -8,7 +9,7 @@ ghost use Rattle.model.specs.Meaning.{chipOf};
 ghost use Rattle.search_order.specs.Order.{OrderKept};
 
 // The differences with that of macros i and j, counted from 0, if they are equal: the earlier one, i, does not lie further right.
-fn with_order(c: Chip, e: [u32; 128], i: usize, j: usize) -> [u32; 128]
+fn with_order(c: Chip, e: [u32; CELLS], i: usize, j: usize) -> [u32; CELLS]
     requires { ⌜ (i < j) × (j < 8) ⌝ }
     ensures { λ r. ⌜ OrderKept (chipOf c) e r ⌝ }
 {
@@ -37,7 +38,7 @@ fn is_pair(n: usize, i: usize, j: usize) -> bool
 }
 
 // The differences with those of all equal macros.
-pub fn ordered(c: Chip, e: [u32; 128]) -> [u32; 128]
+pub fn ordered(c: Chip, e: [u32; CELLS]) -> [u32; CELLS]
     ensures { λ r. ⌜ OrderKept (chipOf c) e r ⌝ }
 {
     let n = c.n;
