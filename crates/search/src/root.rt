@@ -112,7 +112,7 @@ pub(crate) fn root(c: Chip, p: usize, x: Arrays, y: Arrays, here: Record) -> Nod
     requires { ⌜ Passed c × (p ≡ letterTotal (c .n) (c .k)) × Hold c Direction.Horizontal (x .tab) (x .arcs) × Hold c Direction.Vertical (y .tab) (y .arcs) × FitHeld c dots p here ⌝ }
     ensures { λ r. ⌜ RootOk c p r ⌝ }
 {
-    let letters = [46u8; LETTERS];
+    let letters = [46; LETTERS];
     let spots = here.spots;
     let tx = x.tab;
     let ty = y.tab;
