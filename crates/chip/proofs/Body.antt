@@ -8,9 +8,8 @@ use Rattle.model.specs.declared.Die.{Die}
 use Rattle.model.specs.declared.Fix.{Fix}
 use Rattle.model.specs.declared.Mac.{Mac}
 use Rattle.model.specs.Meaning.{Pin, Net, Chip}
-use Rattle.grammar.specs.Words.{Item}
 use Rattle.chip.specs.Kind.{addPin, withDie, withFix, withMac, withNet, withPin}
-use Rattle.chip.specs.Text.{dieItem, fixItem, macItem, netItem, pinItem, endItem, netItems, chipItems}
+use Rattle.chip.specs.Text.{Item, dieItem, fixItem, macItem, netItem, pinItem, endItem, netItems, chipItems}
 
 abbrev pub body : Chip → List Item
 body c = dieItem (c .die) ∷ (map fixItem (c .fixes) ++ (map macItem (c .macs) ++ netItems (c .nets)))

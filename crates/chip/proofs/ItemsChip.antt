@@ -2,15 +2,15 @@
 -- From the last line to the first, each line puts its part before the parts of the lines after it; pins wait for their net.
 use mathlib.Core.Path.{_≡_, refl, sym, ap, _∙_}
 use mathlib.Core.List.{List, [], _∷_, _++_, map, append-nil, append-assoc}
-use lib.IntN.{ℤ}
 use Rattle.model.specs.declared.Fix.{Fix}
 use Rattle.model.specs.declared.Mac.{Mac}
 use Rattle.model.specs.Meaning.{Pin, Net, Chip}
-use Rattle.model.specs.declared.Word.{Word}
-use Rattle.model.specs.declared.Word.the-variants as word
-use Rattle.grammar.specs.Words.{Item, size}
+use Rattle.chip.specs.declared.ChipWord.{ChipWord}
+use Rattle.chip.specs.declared.ChipWord.the-variants as word
+use Rattle.grammar.specs.Line.{Value}
+use Rattle.grammar.specs.Words.{size}
 use Rattle.chip.specs.Kind.{start, dieOf, fixOf, macOf, pinOf, withDie}
-use Rattle.chip.specs.Text.{fixItem, macItem, netItem, pinItem, endItem, netItems, chipItems}
+use Rattle.chip.specs.Text.{Item, fixItem, macItem, netItem, pinItem, endItem, netItems, chipItems}
 
 -- what lines say: pins before the first net, and a chip
 record Said : Type 0 where
@@ -32,18 +32,13 @@ withMacs ms r = record { pins = r .pins; chip = record { die = r .chip .die; fix
 abbrev withFixes : List Fix → Said → Said
 withFixes fs r = record { pins = r .pins; chip = record { die = r .chip .die; fixes = fs ++ r .chip .fixes; macs = r .chip .macs; nets = r .chip .nets } }
 
-abbrev put : Word → List ℤ → Said → Said
-put word.Nothing zs r = r
-put word.Die zs r = record { pins = r .pins; chip = withDie (r .chip) (dieOf zs) }
-put word.Fix zs r = withFixes (fixOf zs ∷ []) r
-put word.Mac zs r = withMacs (macOf zs ∷ []) r
-put word.Net zs r = withNets (record { weight = size zs 0; pins = r .pins } ∷ []) r
-put word.Pin zs r = withPins (pinOf zs ∷ []) r
-put word.End zs r = r
-put word.Least zs r = r
-put word.None zs r = r
-put word.At zs r = r
-put word.Done zs r = r
+abbrev put : ChipWord → List Value → Said → Said
+put word.Die vs r = record { pins = r .pins; chip = withDie (r .chip) (dieOf vs) }
+put word.Fix vs r = withFixes (fixOf vs ∷ []) r
+put word.Mac vs r = withMacs (macOf vs ∷ []) r
+put word.Net vs r = withNets (record { weight = size vs 0; pins = r .pins } ∷ []) r
+put word.Pin vs r = withPins (pinOf vs ∷ []) r
+put word.End vs r = r
 
 abbrev said : List Item → Said
 said [] = nothing

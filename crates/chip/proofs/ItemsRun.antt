@@ -5,36 +5,38 @@ use Prim.{tt}
 use Prim.Native.Nat.{_≤_}
 use lib.ListN.{length}
 use Rattle.model.specs.Meaning.{Net, Chip}
-use Rattle.grammar.specs.Words.{Item, same, wordIn, chipWords}
 use Rattle.grammar.specs.Reading.{readLines}
 use Rattle.grammar.specs.Line.{lines}
+use Rattle.grammar.proofs.FieldsText.{suits, shaped}
 use Rattle.grammar.proofs.Every.{every-append, every-map}
 use Rattle.grammar.proofs.Items.{Formed, WellFormed, runItems, read-items, read-text-short}
 use Rattle.chip.specs.Kind.{start, chipKind}
-use Rattle.chip.specs.Text.{fixItem, macItem, pinItem, netItems, chipItems, chipRead, readChip, chipText}
+use Rattle.chip.proofs.Told.{words-told}
+use Rattle.chip.specs.Words.{chipWords}
+use Rattle.chip.specs.Text.{Item, fixItem, macItem, pinItem, netItems, chipItems, chipRead, readChip, chipText}
 
 -- the items of a list of parts, and items after them
 many-formed : {A : Type 0} (item : A → Item) → ((a : A) → Formed chipWords (item a)) → (s : List A) (is : List Item) → WellFormed chipKind is → WellFormed chipKind (map item s ++ is)
 many-formed item f s is g = every-append (Formed chipWords) (map item s) is (every-map (Formed chipWords) item f s) g
 
 nets-formed : (ts : List Net) → WellFormed chipKind (netItems ts)
-unfolding netItems wordIn same
+unfolding netItems suits shaped
 nets-formed [] = tt
-nets-formed (t ∷ ts) = (record { found = refl; count = refl }, many-formed pinItem (λ p. record { found = refl; count = refl }) (t .pins) (netItems ts) (nets-formed ts))
+nets-formed (t ∷ ts) = (refl, many-formed pinItem (λ p. refl) (t .pins) (netItems ts) (nets-formed ts))
 
 pub items-formed : (c : Chip) → WellFormed chipKind (chipItems c)
-unfolding chipItems wordIn same
+unfolding chipItems suits shaped
 items-formed c = (
-  record { found = refl; count = refl },
-  many-formed fixItem (λ f. record { found = refl; count = refl }) (c .fixes) _
-      (many-formed macItem (λ m. record { found = refl; count = refl }) (c .macs) _
-      (every-append (Formed chipWords) (netItems (c .nets)) _ (nets-formed (c .nets)) (record { found = refl; count = refl }, tt))),
+  refl,
+  many-formed fixItem (λ f. refl) (c .fixes) _
+      (many-formed macItem (λ m. refl) (c .macs) _
+      (every-append (Formed chipWords) (netItems (c .nets)) _ (nets-formed (c .nets)) (refl, tt))),
 )
 
 module _ (c : Chip) where
   pub lines-run : readLines chipKind start 1 (lines (chipText c)) ≡ runItems chipKind start 1 (chipItems c)
   unfolding chipText
-  lines-run = read-items chipKind start 1 (chipItems c) (items-formed c)
+  lines-run = read-items chipKind words-told start 1 (chipItems c) (items-formed c)
 
   pub chip-run : length (chipText c) ≤ 16384 → readChip (chipText c) ≡ chipRead (runItems chipKind start 1 (chipItems c))
   unfolding readChip

@@ -1,3 +1,4 @@
+pub mod Told
 pub mod Fixes
 pub mod Body
 pub mod Staged

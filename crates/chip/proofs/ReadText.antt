@@ -10,6 +10,7 @@ use Rattle.grammar.proofs.Left.{text-too-long}
 use Rattle.grammar.proofs.Meaning as meaning
 use Rattle.chip.specs.Kind.{Part, start, chipKind}
 use Rattle.chip.specs.Text.{chipRead, readChip, chipItems, chipText}
+use Rattle.chip.proofs.Told.{words-told}
 use Rattle.chip.proofs.Staged.{run-items}
 
 pub chip-accepted : (r : Reading Part) (c : Chip) → chipRead r ≡ accepted c → (s : Part) × (r ≡ accepted s) × (s .chip ≡ c)
@@ -17,7 +18,7 @@ chip-accepted (accepted s) c e = (s, refl, cc)
 chip-accepted (refused n l) c e = no-refusal e
 
 pub chip-means : meaning.Means chipKind start chipRead chipItems
-chip-means = record { meaning = λ s. s .chip; back = chip-accepted; run = run-items }
+chip-means = record { told = words-told; meaning = λ s. s .chip; back = chip-accepted; run = run-items }
 
 -- a text of more than 16,384 bytes is refused
 pub too-long : (t : List ℕ) → 16384 < length t → refused 1 0 ≡ readChip t

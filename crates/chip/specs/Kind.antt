@@ -4,39 +4,48 @@ use mathlib.Core.List.{List, [], _∷_, _++_}
 use mathlib.Core.Bool.{Bool, true, not, _&&_, _||_}
 use lib.Dec.{leb, ltb}
 use lib.ListN.{length}
-use lib.IntN.{ℤ}
 use Rattle.model.specs.declared.Die.{Die}
 use Rattle.model.specs.declared.Fix.{Fix}
 use Rattle.model.specs.declared.Mac.{Mac}
 use Rattle.model.specs.Meaning.{Pin, Net, Chip}
-use Rattle.model.specs.declared.Word.{Word}
-use Rattle.model.specs.declared.Word.the-variants as word
-use Rattle.model.specs.Limits.{mostFixes, mostMacs, mostNets, mostPins}
-use Rattle.grammar.specs.Words.{isWord, isIn, chipWords, value, size}
-use Rattle.grammar.specs.Reading.{Kind, Step, next, fault, check}
+use Rattle.model.specs.Limits.{mostBytes, mostFixes, mostMacs, mostNets, mostPins}
+use Rattle.grammar.specs.Line.{Value}
+use Rattle.grammar.specs.Words.{isWord, value, size}
+use Rattle.grammar.specs.Reading.{Kind, Last, before, after, isLast, Step, next, check}
+use Rattle.chip.specs.declared.ChipWord.{ChipWord}
+use Rattle.chip.specs.declared.ChipWord.the-variants as word
+use Rattle.chip.specs.Words.{chipWords}
 
--- what has been read: the word of the last line (`Nothing` before the first) and the chip so far
+-- what has been read: the word of the last line, and the chip so far
 pub record Part : Type 0 where
-  pub last : Word
+  pub last : Last ChipWord
   pub chip : Chip
 
--- before the first line: no word, and a chip with nothing in it
+-- before the first line: a chip with nothing in it
 abbrev pub start : Part
-start = record { last = word.Nothing; chip = record { die = record { w = 0; h = 0 }; fixes = []; macs = []; nets = [] } }
+start = record { last = before; chip = record { die = record { w = 0; h = 0 }; fixes = []; macs = []; nets = [] } }
 
--- the words that may stand after a word: the order is die, fixes, macros, nets each with its pins, end. (A net or the end right after a net is refusal 7 and not 5.)
-abbrev pub followers : Word → List Word
-followers word.Nothing = word.Die ∷ []
-followers word.Die = word.Fix ∷ word.Mac ∷ word.Net ∷ word.End ∷ []
-followers word.Fix = word.Fix ∷ word.Mac ∷ word.Net ∷ word.End ∷ []
-followers word.Mac = word.Mac ∷ word.Net ∷ word.End ∷ []
-followers word.Net = word.Net ∷ word.Pin ∷ word.End ∷ []
-followers word.Pin = word.Net ∷ word.Pin ∷ word.End ∷ []
-followers word.End = []
-followers word.Least = []
-followers word.None = []
-followers word.At = []
-followers word.Done = []
+-- the words that may stand after a word: the order is die, fixes, macros, nets each with its pins, end. (A net or the end right after a net is refusal 7
+-- and not 5.)
+abbrev pub followers : Last ChipWord → List ChipWord
+followers before = word.Die ∷ []
+followers (after word.Die) = word.Fix ∷ word.Mac ∷ word.Net ∷ word.End ∷ []
+followers (after word.Fix) = word.Fix ∷ word.Mac ∷ word.Net ∷ word.End ∷ []
+followers (after word.Mac) = word.Mac ∷ word.Net ∷ word.End ∷ []
+followers (after word.Net) = word.Net ∷ word.Pin ∷ word.End ∷ []
+followers (after word.Pin) = word.Net ∷ word.Pin ∷ word.End ∷ []
+followers (after word.End) = []
+
+-- how many fixes, macros, nets and pins a chip has at most
+pub record Counts : Type 0 where
+  pub fixes : ℕ
+  pub macs : ℕ
+  pub nets : ℕ
+  pub pins : ℕ
+
+-- those of document 01
+abbrev pub counts : Counts
+counts = record { fixes = mostFixes; macs = mostMacs; nets = mostNets; pins = mostPins }
 
 -- the number of pins in all nets
 unfoldable pub pinCount : List Net → ℕ
@@ -44,22 +53,17 @@ pinCount [] = 0
 pinCount (t ∷ ts) = length (t .pins) + pinCount ts
 
 -- there is room for one more of the kind
-abbrev pub room : Chip → Word → Bool
-room c word.Nothing = true
-room c word.Die = true
-room c word.Fix = ltb (length (c .fixes)) mostFixes
-room c word.Mac = ltb (length (c .macs)) mostMacs
-room c word.Net = ltb (length (c .nets)) mostNets
-room c word.Pin = ltb (pinCount (c .nets)) mostPins
-room c word.End = true
-room c word.Least = true
-room c word.None = true
-room c word.At = true
-room c word.Done = true
+abbrev pub room : Counts → Chip → ChipWord → Bool
+room n c word.Die = true
+room n c word.Fix = ltb (length (c .fixes)) (n .fixes)
+room n c word.Mac = ltb (length (c .macs)) (n .macs)
+room n c word.Net = ltb (length (c .nets)) (n .nets)
+room n c word.Pin = ltb (pinCount (c .nets)) (n .pins)
+room n c word.End = true
 
 -- the net above, if the last line is one, has a pin: this line is a pin
-abbrev pub pinned : Word → Word → Bool
-pinned last w = not (isWord last word.Net) || isWord w word.Pin
+abbrev pub pinned : Last ChipWord → ChipWord → Bool
+pinned last w = not (isLast chipWords last word.Net) || isWord chipWords w word.Pin
 
 -- a fix lies in the die
 abbrev pub fixInDie : Die → Fix → Bool
@@ -80,21 +84,21 @@ addPin p [] = []
 addPin p (t ∷ []) = record { weight = t .weight; pins = t .pins ++ (p ∷ []) } ∷ []
 addPin p (t ∷ (u ∷ ts)) = t ∷ addPin p (u ∷ ts)
 
--- the die, fix, macro, net without pins, and pin with the values zs of its line
-abbrev pub dieOf : List ℤ → Die
-dieOf zs = record { w = size zs 0; h = size zs 1 }
+-- the die, fix, macro, net without pins, and pin with the values vs of its line
+abbrev pub dieOf : List Value → Die
+dieOf vs = record { w = size vs 0; h = size vs 1 }
 
-abbrev pub fixOf : List ℤ → Fix
-fixOf zs = record { x = size zs 0; y = size zs 1; w = size zs 2; h = size zs 3 }
+abbrev pub fixOf : List Value → Fix
+fixOf vs = record { x = size vs 0; y = size vs 1; w = size vs 2; h = size vs 3 }
 
-abbrev pub macOf : List ℤ → Mac
-macOf zs = record { w = size zs 0; h = size zs 1 }
+abbrev pub macOf : List Value → Mac
+macOf vs = record { w = size vs 0; h = size vs 1 }
 
-abbrev pub netOf : List ℤ → Net
-netOf zs = record { weight = size zs 0; pins = [] }
+abbrev pub netOf : List Value → Net
+netOf vs = record { weight = size vs 0; pins = [] }
 
-abbrev pub pinOf : List ℤ → Pin
-pinOf zs = record { m = size zs 0; x = value zs 1; y = value zs 2 }
+abbrev pub pinOf : List Value → Pin
+pinOf vs = record { m = size vs 0; x = value vs 1; y = value vs 2 }
 
 -- the chip with one more part: its die, or a last fix, macro, net, or pin
 abbrev pub withDie : Chip → Die → Chip
@@ -113,39 +117,39 @@ abbrev pub withPin : Chip → Pin → Chip
 withPin c p = record { die = c .die; fixes = c .fixes; macs = c .macs; nets = addPin p (c .nets) }
 
 -- the chip c has been read, and w is the word of the last line
-abbrev pub after : Word → Chip → Step Part
-after w c = next (record { last = w; chip = c })
+abbrev pub readTo : ChipWord → Chip → Step Part
+readTo w c = next (record { last = after w; chip = c })
 
 -- what a fix adds, and its last tests: fix leaves the die 9; fix overlaps an earlier fix 10
 abbrev pub addFix : Part → Fix → Step Part
 addFix s f =
     check (fixInDie (s .chip .die) f) 9
     (check (clearOf f (s .chip .fixes)) 10
-    (after word.Fix (withFix (s .chip) f)))
+    (readTo word.Fix (withFix (s .chip) f)))
 
--- what a line with that word and the values zs adds, and its last tests: those of a fix; no such macro 8
-abbrev pub add : Part → Word → List ℤ → Step Part
-add s word.Nothing zs = fault 2
-add s word.Die zs = after word.Die (withDie (s .chip) (dieOf zs))
-add s word.Fix zs = addFix s (fixOf zs)
-add s word.Mac zs = after word.Mac (withMac (s .chip) (macOf zs))
-add s word.Net zs = after word.Net (withNet (s .chip) (netOf zs))
-add s word.Pin zs =
-    check (leb (size zs 0) (length (s .chip .macs))) 8
-    (after word.Pin (withPin (s .chip) (pinOf zs)))
-add s word.End zs = after word.End (s .chip)
-add s word.Least zs = fault 2
-add s word.None zs = fault 2
-add s word.At zs = fault 2
-add s word.Done zs = fault 2
+-- what a line with that word and the values vs adds, and its last tests: those of a fix; no such macro 8
+abbrev pub add : Part → ChipWord → List Value → Step Part
+add s word.Die vs = readTo word.Die (withDie (s .chip) (dieOf vs))
+add s word.Fix vs = addFix s (fixOf vs)
+add s word.Mac vs = readTo word.Mac (withMac (s .chip) (macOf vs))
+add s word.Net vs = readTo word.Net (withNet (s .chip) (netOf vs))
+add s word.Pin vs =
+    check (leb (size vs 0) (length (s .chip .macs))) 8
+    (readTo word.Pin (withPin (s .chip) (pinOf vs)))
+add s word.End vs = readTo word.End (s .chip)
 
--- chip files as a kind of text; `end` is the last line
-abbrev pub chipKind : Kind Part
-chipKind = record {
+-- chip files with these counts as a kind of text; `end` is the last line
+abbrev pub kindOf : Counts → Kind ChipWord Part
+kindOf n = record {
   words = chipWords;
-  inPlace = λ s w. isIn w (followers (s .last));
-  hasRoom = λ s w. room (s .chip) w;
+  mostBytes = mostBytes;
+  followers = λ s. followers (s .last);
+  hasRoom = λ s w. room n (s .chip) w;
   hasPin = λ s w. pinned (s .last) w;
   add = add;
-  complete = λ s. isWord (s .last) word.End;
+  complete = λ s. isLast chipWords (s .last) word.End;
 }
+
+-- the chip files of document 01
+abbrev pub chipKind : Kind ChipWord Part
+chipKind = kindOf counts

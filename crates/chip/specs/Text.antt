@@ -6,10 +6,14 @@ use Rattle.model.specs.declared.Die.{Die}
 use Rattle.model.specs.declared.Fix.{Fix}
 use Rattle.model.specs.declared.Mac.{Mac}
 use Rattle.model.specs.Meaning.{Pin, Net, Chip}
-use Rattle.model.specs.declared.Word.the-variants as word
-use Rattle.grammar.specs.Words.{Item, itemsText}
+use Rattle.grammar.specs.Line.{number}
+use Rattle.grammar.specs.Words as grammar
+use Rattle.grammar.specs.Words.{itemsText}
 use Rattle.grammar.specs.Reading.{Reading, accepted, refused, readText}
 use Rattle.grammar.specs.Writing.{Written, writeText}
+use Rattle.chip.specs.declared.ChipWord.{ChipWord}
+use Rattle.chip.specs.declared.ChipWord.the-variants as word
+use Rattle.chip.specs.Words.{chipWords}
 use Rattle.chip.specs.Kind.{Part, start, chipKind}
 
 -- the chip that the lines of a text lead to, or their refusal
@@ -23,21 +27,25 @@ readChip text = chipRead (readText chipKind start text)
 
 -- ---- the lines of a chip
 
+-- a line of a chip
+abbrev pub Item : Type 0
+Item = grammar.Item ChipWord
+
 -- the line of a die, a fix, a macro, a pin and a net, and the last line
 abbrev pub dieItem : Die → Item
-dieItem d = record { word = word.Die; values = pos (d .w) ∷ pos (d .h) ∷ [] }
+dieItem d = record { word = word.Die; values = number (pos (d .w)) ∷ number (pos (d .h)) ∷ [] }
 
 abbrev pub fixItem : Fix → Item
-fixItem f = record { word = word.Fix; values = pos (f .x) ∷ pos (f .y) ∷ pos (f .w) ∷ pos (f .h) ∷ [] }
+fixItem f = record { word = word.Fix; values = number (pos (f .x)) ∷ number (pos (f .y)) ∷ number (pos (f .w)) ∷ number (pos (f .h)) ∷ [] }
 
 abbrev pub macItem : Mac → Item
-macItem m = record { word = word.Mac; values = pos (m .w) ∷ pos (m .h) ∷ [] }
+macItem m = record { word = word.Mac; values = number (pos (m .w)) ∷ number (pos (m .h)) ∷ [] }
 
 abbrev pub pinItem : Pin → Item
-pinItem p = record { word = word.Pin; values = pos (p .m) ∷ p .x ∷ p .y ∷ [] }
+pinItem p = record { word = word.Pin; values = number (pos (p .m)) ∷ number (p .x) ∷ number (p .y) ∷ [] }
 
 abbrev pub netItem : Net → Item
-netItem t = record { word = word.Net; values = pos (t .weight) ∷ [] }
+netItem t = record { word = word.Net; values = number (pos (t .weight)) ∷ [] }
 
 abbrev pub endItem : Item
 endItem = record { word = word.End; values = [] }
@@ -53,7 +61,7 @@ chipItems c = dieItem (c .die) ∷ (map fixItem (c .fixes) ++ (map macItem (c .m
 
 -- the one text of a chip
 unfoldable pub chipText : Chip → List ℕ
-chipText c = itemsText (chipItems c)
+chipText c = itemsText chipWords (chipItems c)
 
 -- a chip held as a value is tested first as its text would be, then written
 abbrev pub writeChip : Chip → List ℕ → Written

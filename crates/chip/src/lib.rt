@@ -7,6 +7,16 @@ ghost use lib.ListN.{take};
 ghost use lib.Dec.{leb};
 ghost use Rattle.chip.specs.Kind.{fixInDie, fixesApart, clearOf};
 
+// The words of chip files.
+pub enum ChipWord {
+    Die,
+    Fix,
+    Mac,
+    Net,
+    Pin,
+    End,
+}
+
 // Whether a + size is at most end, also where that sum is too large to be held.
 fn ends_by(a: u64, size: u64, end: u64) -> bool
     ensures { λ r. ⌜ r ≡ leb (a + size) end ⌝ }

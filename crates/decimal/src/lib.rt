@@ -7,6 +7,9 @@ ghost use Rattle.decimal.specs.Number.{numeralOf, digits, numberText};
 ghost use Rattle.decimal.specs.Held.{cap, heldNumber, Wrote};
 ghost use Rattle.decimal.specs.Steps.{push, heldNatural};
 
+// The greatest magnitude that is told apart; a number above it is read as it.
+pub const MOST: u64 = 1000000000;
+
 // What a field holds: a sign (true: negative) and a magnitude, at most 1,000,000,000; or no number.
 pub enum Number {
     Value(bool, u64),
@@ -20,7 +23,7 @@ fn with_digit(v: u64, b: u8) -> u64
 {
     let d = (b - 48) as u64;
     let w = v * 10 + d;
-    if w < 1000000000 { w } else { 1000000000 }
+    if w < MOST { w } else { MOST }
 }
 
 // The number in a text that has no sign.

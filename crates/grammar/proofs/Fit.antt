@@ -11,8 +11,8 @@ use borrow.Author.Tests.{lt-leb, le-leb}
 use Rattle.decimal.specs.Held.{Wrote}
 use Rattle.grammar.specs.Writing.{wrote, refuse, fit}
 
--- a text of at most 16,384 bytes whose length n writing into any buffer has told
-module _ (text x y b : List ℕ) (n : ℕ) (short : length text ≤ 16384) (told : Wrote x y text 0 n) where
+-- a text of at most 65,536 bytes whose length n writing into any buffer has told
+module _ (text x y b : List ℕ) (n : ℕ) (short : length text ≤ 65536) (told : Wrote x y text 0 n) where
   pub too-short : length b < n → refuse 15 0 b ≡ fit (leb (length text) (length b)) text b
   too-short h = rw (lt-leb (length text) (length b) (omega (arith, told .place)))
 

@@ -10,20 +10,20 @@ use Rattle.grammar.specs.Reading.{Kind, Step, next, fault, refused, step
 use Rattle.grammar.specs.Steps.{lineEnd, lineAt}
 use Rattle.grammar.proofs.LineAt.{lines-from}
 
-module _ {S : Type 0} (k : Kind S) (start : S) (text : List ℕ) where
+module _ {W S : Type 0} (k : Kind W S) (start : S) (text : List ℕ) where
   -- s is what the lines before `line` say, and the text from a on is left to read
   pub record Left (s : S) (a line : ℕ) : Type 0 where
     pub rest : readText k start text ≡ readLines k s line (lines (drop a text))
 
   -- ---- before the first line
 
-  pub text-too-long : 16384 < length text → refused 1 0 ≡ readText k start text
+  pub text-too-long : k .mostBytes < length text → refused 1 0 ≡ readText k start text
   unfolding readText
-  text-too-long h = rw (lt-leb (length text) 16384 h)
+  text-too-long h = rw (lt-leb (length text) (k .mostBytes) h)
 
-  pub text-left : length text ≤ 16384 → Left start 0 1
+  pub text-left : length text ≤ k .mostBytes → Left start 0 1
   unfolding readText
-  text-left h = record { rest = rw (le-leb (length text) 16384 h) }
+  text-left h = record { rest = rw (le-leb (length text) (k .mostBytes) h) }
 
   module _ (s : S) (a line : ℕ) (left : Left s a line) where
     -- ---- a line

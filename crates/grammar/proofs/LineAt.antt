@@ -33,7 +33,7 @@ module _ (text : List ℕ) (a : ℕ) (h : a ≤ length text) where
 -- ---- what it leads to, and the lines after it
 
 module _ (text : List ℕ) (a z : ℕ) (end : z ≡ lineEnd text a) where
-  module _ {S : Type 0} (k : Kind S) (s : S) where
+  module _ {W S : Type 0} (k : Kind W S) (s : S) where
     pub step-open : z ≡ length text → fault 2 ≡ stepLine k s (lineAt text a z)
     step-open q = rw (le-ltb z (length text) (omega arith))
 

@@ -1,45 +1,37 @@
 -- Accepted runs of items, for any kind of text: what a step has passed (`step-passed`), and what every step keeps (`run-keeps`).
 use mathlib.Core.Path.{_≡_, refl, ap, _∙_}
-use mathlib.Core.Bool.{Bool, true, false, not}
+use mathlib.Core.Bool.{Bool, true, false}
 use mathlib.Core.List.{List, [], _∷_, _++_, append-nil}
 use Prim.Native.Nat.{ℕ, suc}
-use lib.ListN.{length}
 use lib.Seq.{append-snoc}
-use Rattle.model.specs.declared.Word.{Word}
-use Rattle.model.specs.declared.Word.the-variants.{Nothing}
 use Rattle.grammar.specs.Line.{Fields, got, faulty}
-use Rattle.grammar.specs.Words.{isWord, rules, Item}
-use Rattle.grammar.specs.Reading.{Kind, next, accepted, stepFields, ending}
-use Rattle.grammar.proofs.FieldsText.{ranges, ranges-same}
-use Rattle.grammar.proofs.Items.{Formed, Within, WellFormed, itemStep, runItems, no-fault, no-refusal, check-next, onward-accepted}
+use Rattle.grammar.specs.Words.{Item}
+use Rattle.grammar.specs.Reading.{Kind, next, accepted, inPlace, stepFields, ending}
+use Rattle.grammar.proofs.FieldsText.{judged, judged-same}
+use Rattle.grammar.proofs.Items.{Formed, Within, WellFormed, itemStep, runItems, no-fault, no-refusal, word-next, onward-accepted}
 
-module _ {S : Type 0} (k : Kind S) where
+module _ {W S : Type 0} (k : Kind W S) where
   -- what an item has passed that leads from s to s′
-  pub record Passed (s s′ : S) (i : Item) : Type 0 where
-    pub in-place : k .inPlace s (i .word) ≡ true
-    pub within : Within i
+  pub record Passed (s s′ : S) (i : Item W) : Type 0 where
+    pub in-place : inPlace k s (i .word) ≡ true
+    pub within : Within (k .words) i
     pub added : k .add s (i .word) (i .values) ≡ next s′
 
-  fields-passed : (s s′ : S) (i : Item) (f : Fields) → k .inPlace s (i .word) ≡ true → length (i .values) ≡ length (rules (i .word)) → ranges (rules (i .word)) (i .values) ≡ f → stepFields k s (i .word) f ≡ next s′ → Passed s s′ i
-  fields-passed s s′ i (got ys) p h q e = let y : ys ≡ i .values = ranges-same (rules (i .word)) (i .values) ys h q in record { in-place = p; within = q ∙ ap got y; added = rw y at e }
+  fields-passed : (s s′ : S) (i : Item W) (f : Fields) → inPlace k s (i .word) ≡ true → Formed (k .words) i → judged (k .words .form (i .word)) (i .values) ≡ f → stepFields k s (i .word) f ≡ next s′ → Passed s s′ i
+  fields-passed s s′ i (got ys) p h q e = let y = judged-same (k .words .form (i .word)) (i .values) ys h q in record { in-place = p; within = q ∙ ap got y; added = rw y at e }
   fields-passed s s′ i (faulty n) p h q e = no-fault e
 
-  pub step-passed : (s s′ : S) (i : Item) → Formed (k .words) i → itemStep k s i ≡ next s′ → Passed s s′ i
+  pub step-passed : (s s′ : S) (i : Item W) → Formed (k .words) i → itemStep k s i ≡ next s′ → Passed s s′ i
   unfolding itemStep
-  step-passed s s′ i f e =
-      let w : Word = i .word in
-      let c = check-next (not (isWord w Nothing)) 2 _ s′ e in
-      let d = check-next (k .inPlace s w) 5 _ s′ (c .1) in
-      let g = check-next (k .hasRoom s w) 6 _ s′ (d .1) in
-      fields-passed s s′ i _ (d .0) (f .count) refl (check-next (k .hasPin s w) 7 _ s′ (g .1) .1)
+  step-passed s s′ i f e = let c = word-next k s (i .word) _ s′ e in fields-passed s s′ i _ (c .0) f refl (c .1)
 
   ending-accepted : (b : Bool) (s s′ : S) (n : ℕ) → ending k b s n ≡ accepted s′ → (s ≡ s′) × (b ≡ true)
   ending-accepted true s s′ n e = (cc, refl)
   ending-accepted false s s′ n e = no-refusal e
 
   -- P of the state and of the items that led to it
-  module _ (P : S → List Item → Type 0) (step : (s s′ : S) (js : List Item) (i : Item) → Formed (k .words) i → Passed s s′ i → P s js → P s′ (js ++ (i ∷ []))) where
-    pub run-keeps : (s s′ : S) (n : ℕ) (js is : List Item) → WellFormed k is → runItems k s n is ≡ accepted s′ → P s js → P s′ (js ++ is) × (k .complete s′ ≡ true)
+  module _ (P : S → List (Item W) → Type 0) (step : (s s′ : S) (js : List (Item W)) (i : Item W) → Formed (k .words) i → Passed s s′ i → P s js → P s′ (js ++ (i ∷ []))) where
+    pub run-keeps : (s s′ : S) (n : ℕ) (js is : List (Item W)) → WellFormed k is → runItems k s n is ≡ accepted s′ → P s js → P s′ (js ++ is) × (k .complete s′ ≡ true)
     unfolding runItems
     run-keeps s s′ n js [] f e p = let q = ending-accepted (k .complete s) s s′ n e in rw (append-nil, ← q .0) (p, q .1)
     run-keeps s s′ n js (i ∷ is) f e p =

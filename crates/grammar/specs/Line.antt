@@ -1,11 +1,14 @@
--- Lines and their fields. Document 01, "The chip file": lines end with LF; each line is a word, then each value after its field name, in fixed order, parted by commas.
+-- Lines and their fields. Document 01, "The chip file": lines end with LF; each line is a word, then each value after its field name,
+-- in fixed order, parted by commas.
 use Prim.Native.Nat.{ℕ}
 use mathlib.Core.List.{List, [], _∷_, _++_}
-use mathlib.Core.Bool.{Bool, true, false, _&&_}
-use lib.Dec.{eqb}
+use mathlib.Core.Bool.{Bool, true, false, _&&_, _||_}
+use lib.Dec.{eqb, leb}
+use lib.ListN.{length}
 use lib.IntN.{ℤ}
-use lib.Signed.{leZ}
-use Rattle.decimal.specs.Number.{Numeral, number, noNumber, numeralOf, numberText}
+use Rattle.decimal.specs.Number.{Numeral, noNumber, numeralOf, numberText, allOf}
+use Rattle.decimal.specs.Number as decimal
+use Rattle.model.specs.Limits.{Range, isWithin}
 
 -- the byte `,`
 abbrev pub comma : ℕ
@@ -45,15 +48,80 @@ unfoldable pub from : ℕ → List ℕ → List ℕ
 from d [] = []
 from d (b ∷ s) = elim (eqb b d) [ true ↦ b ∷ s | false ↦ from d s ]
 
--- a field: its mark, which is its name between two commas, and the range of its value
+-- ---- what a field holds
+
+-- a number of a range, or a string of bytes from a set, from so many to so many bytes long
+pub data Sort : Type 0 where
+  numbers : Range → Sort
+  strings : List ℕ → ℕ → ℕ → Sort
+
+-- the value of a field; `absent` stands for a field that a line may have and has not
+pub data Value : Type 0 where
+  number : ℤ → Value
+  string : List ℕ → Value
+  absent : Value
+
+-- the value of a field, or the number of its fault
+pub data Valued : Type 0 where
+  value : Value → Valued
+  noValue : ℕ → Valued
+
+-- a string that passes its test; another one is fault 3
+abbrev pub tested : Bool → List ℕ → Valued
+tested true s = value (string s)
+tested false s = noValue 3
+
+-- a number within its range; one outside it is fault 4
+abbrev pub ranged : Bool → ℤ → Valued
+ranged true z = value (number z)
+ranged false z = noValue 4
+
+-- a number of the range; no number is fault 3
+abbrev pub numbered : Numeral → Range → Valued
+numbered (decimal.number z) r = ranged (isWithin r z) z
+numbered noNumber r = noValue 3
+
+-- b is one of the bytes of a set
+unfoldable pub isOf : List ℕ → ℕ → Bool
+isOf [] b = false
+isOf (a ∷ set) b = eqb b a || isOf set b
+
+-- s has bytes of the set only, and a length from lo to hi
+abbrev pub isString : List ℕ → ℕ → ℕ → List ℕ → Bool
+isString set lo hi s = allOf (isOf set) s && (leb lo (length s) && leb (length s) hi)
+
+-- the value that the bytes s are
+abbrev pub valueOf : Sort → List ℕ → Valued
+valueOf (numbers r) s = numbered (numeralOf s) r
+valueOf (strings set lo hi) s = tested (isString set lo hi s) s
+
+-- the text of a value
+abbrev pub valueText : Value → List ℕ
+valueText (number z) = numberText z
+valueText (string s) = s
+valueText absent = []
+
+-- ---- the fields of a line
+
+-- a field: its mark, which is its name between two commas, and what it holds
 pub record Rule : Type 0 where
   pub mark : List ℕ
-  pub least : ℤ
-  pub most : ℤ
+  pub sort : Sort
 
--- a field with that name, whose values go from lo to hi
-abbrev pub field : List ℕ → ℤ → ℤ → Rule
-field name lo hi = record { mark = comma ∷ (name ++ (comma ∷ [])); least = lo; most = hi }
+-- a field with that name
+abbrev pub field : List ℕ → Sort → Rule
+field name s = record { mark = comma ∷ (name ++ (comma ∷ [])); sort = s }
+
+-- the fields of a line, from the left: no more; a field and those after it; or, where the name of the field stands here, the field and the
+-- first of two ways to go on, else the second
+pub data Form : Type 0 where
+  over : Form
+  one : Rule → Form → Form
+  either : Rule → Form → Form → Form
+
+-- a field with that name that holds a number of the range, and the fields after it
+abbrev pub named : List ℕ → Range → Form → Form
+named name r more = one (field name (numbers r)) more
 
 -- what follows a mark at the front of some bytes, or that the mark is not there
 pub data Rest : Type 0 where
@@ -68,41 +136,45 @@ strip (a ∷ m) (b ∷ s) = elim (eqb b a) [ true ↦ strip m s | false ↦ noMa
 
 -- the values of a line's fields, or the number of its first fault
 pub data Fields : Type 0 where
-  got : List ℤ → Fields
+  got : List Value → Fields
   faulty : ℕ → Fields
 
--- the value z in front of the values of the further fields
-abbrev pub andThen : ℤ → Fields → Fields
-andThen z (got zs) = got (z ∷ zs)
-andThen z (faulty n) = faulty n
+-- the value v in front of the values of the further fields
+abbrev pub andThen : Value → Fields → Fields
+andThen v (got vs) = got (v ∷ vs)
+andThen v (faulty n) = faulty n
 
--- the value z and the further fields; a value outside its range is fault 4
-abbrev pub ranged : Bool → ℤ → Fields → Fields
-ranged true z more = andThen z more
-ranged false z more = faulty 4
+-- a field's value and the further fields, or its fault
+abbrev pub valued : Valued → Fields → Fields
+valued (value v) more = andThen v more
+valued (noValue n) more = faulty n
 
--- z is in the range of the field
-abbrev pub inRange : Rule → ℤ → Bool
-inRange r z = leZ (r .least) z && leZ z (r .most)
+-- the field after its mark and the further fields; where the mark is not there, something else
+abbrev pub marked : Rest → Rule → (List ℕ → Fields) → Fields → Fields
+marked (rest s) r more else = valued (valueOf (r .sort) (upTo comma s)) (more (from comma s))
+marked noMark r more else = else
 
--- the number of a field and the further fields; no number is fault 3
-abbrev pub formed : Numeral → Rule → Fields → Fields
-formed (number z) r more = ranged (inRange r z) z more
-formed noNumber r more = faulty 3
+-- the fields of a line in the bytes after its word: a missing comma or name is fault 2, and so are leftover bytes
+unfoldable pub fields : Form → List ℕ → Fields
+fields over [] = got []
+fields over (b ∷ s) = faulty 2
+fields (one r f) s = marked (strip (r .mark) s) r (λ t. fields f t) (faulty 2)
+fields (either r f g) s = marked (strip (r .mark) s) r (λ t. fields f t) (andThen absent (fields g s))
 
--- the field after its mark and the further fields; a missing comma or name is fault 2
-abbrev pub marked : Rest → Rule → (List ℕ → Fields) → Fields
-marked (rest s) r more = formed (numeralOf (upTo comma s)) r (more (from comma s))
-marked noMark r more = faulty 2
+-- the text of a field, its mark and its value, and of those after it
+abbrev pub fieldText : Rule → Value → List ℕ → List ℕ
+fieldText r v more = r .mark ++ (valueText v ++ more)
 
--- the fields of a line, from the left, in the bytes after its word; leftover bytes are fault 2
-unfoldable pub fields : List Rule → List ℕ → Fields
-fields [] [] = got []
-fields [] (b ∷ s) = faulty 2
-fields (r ∷ rs) s = marked (strip (r .mark) s) r (λ t. fields rs t)
+-- a where the value is absent, else b
+abbrev pub ifAbsent : {A : Type 0} → Value → A → A → A
+ifAbsent absent a b = a
+ifAbsent (number z) a b = b
+ifAbsent (string s) a b = b
 
--- the text of fields with the values zs
-unfoldable pub fieldsText : List Rule → List ℤ → List ℕ
-fieldsText [] zs = []
-fieldsText (r ∷ rs) [] = []
-fieldsText (r ∷ rs) (z ∷ zs) = r .mark ++ (numberText z ++ fieldsText rs zs)
+-- the text of fields with the values vs
+unfoldable pub fieldsText : Form → List Value → List ℕ
+fieldsText over vs = []
+fieldsText (one r f) [] = []
+fieldsText (one r f) (v ∷ vs) = fieldText r v (fieldsText f vs)
+fieldsText (either r f g) [] = []
+fieldsText (either r f g) (v ∷ vs) = ifAbsent v (fieldsText g vs) (fieldText r v (fieldsText f vs))

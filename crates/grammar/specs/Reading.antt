@@ -1,15 +1,13 @@
--- Reading a text line by line. Document 01, "Refusal table": 1; then lines from the top, the first faulty line counting; in a line: missing LF 2, word 2, place 5, count 6, 7, then fields from the left, leftover bytes 2, then 8, 9, 10. A text over without its last line is 5, at the line number after the last.
+-- Reading a text line by line. Document 01, "Refusal table": 1; then lines from the top, the first faulty line counting; in a line: missing LF 2,
+-- word 2, place 5, count 6, 7, then fields from the left, leftover bytes 2, then 8, 9, 10. A text over without its last line is 5, at the line number
+-- after the last.
 use Prim.Native.Nat.{ℕ, suc}
 use mathlib.Core.List.{List, [], _∷_}
-use mathlib.Core.Bool.{Bool, true, false, not}
+use mathlib.Core.Bool.{Bool, true, false}
 use lib.Dec.{leb}
 use lib.ListN.{length}
-use lib.IntN.{ℤ}
-use Rattle.model.specs.declared.Word.{Word}
-use Rattle.model.specs.declared.Word.the-variants.{Nothing}
-use Rattle.model.specs.Limits.{mostBytes}
-use Rattle.grammar.specs.Line.{Line, lines, upTo, from, comma, Fields, got, faulty, fields}
-use Rattle.grammar.specs.Words.{isWord, wordIn, rules}
+use Rattle.grammar.specs.Line.{Line, lines, upTo, from, comma, Value, Fields, got, faulty, fields}
+use Rattle.grammar.specs.Words.{Words, Found, known, unknown, isWord, isIn, wordIn}
 
 -- what a line leads to: more reading, or the number of its fault
 pub data Step (S : Type 0) : Type 0 where
@@ -26,35 +24,53 @@ pub data Reading (A : Type 0) : Type 0 where
   accepted : A → Reading A
   refused : ℕ → ℕ → Reading A
 
--- a kind of text: its words and, by what has been read so far (S), whether a line of that word may stand here, whether there is room for one more of its kind,
--- whether the net above it has a pin, what the line with its values adds or its fault (8, 9, 10), and whether the last line has been read
-pub record Kind (S : Type 0) : Type 0 where
-  pub words : List Word
-  pub inPlace : S → Word → Bool
-  pub hasRoom : S → Word → Bool
-  pub hasPin : S → Word → Bool
-  pub add : S → Word → List ℤ → Step S
+-- the word of the last line that was read, or that there was none yet
+pub data Last (W : Type 0) : Type 0 where
+  before : Last W
+  after : W → Last W
+
+-- the last line has the word w
+abbrev pub isLast : {W : Type 0} → Words W → Last W → W → Bool
+isLast d before w = false
+isLast d (after v) w = isWord d v w
+
+-- a kind of text: its words, the greatest length of a text and, by what has been read so far (S), the words that may stand here, whether there is room
+-- for one more of a word's kind, whether the net above it has a pin, what a line with its values adds or its fault (8, 9, 10), and whether the last line
+-- has been read
+pub record Kind (W S : Type 0) : Type 0 where
+  pub words : Words W
+  pub mostBytes : ℕ
+  pub followers : S → List W
+  pub hasRoom : S → W → Bool
+  pub hasPin : S → W → Bool
+  pub add : S → W → List Value → Step S
   pub complete : S → Bool
 
-module _ {S : Type 0} (k : Kind S) where
+module _ {W S : Type 0} (k : Kind W S) where
   -- what a line adds once its fields are read, or their fault
-  abbrev pub stepFields : S → Word → Fields → Step S
-  stepFields s w (got zs) = k .add s w zs
+  abbrev pub stepFields : S → W → Fields → Step S
+  stepFields s w (got vs) = k .add s w vs
   stepFields s w (faulty n) = fault n
 
-  -- the tests before the fields: word 2, place 5, count 6, 7 (a net without a pin, on the line after it)
-  abbrev pub stepWord : S → Word → Step S → Step S
+  -- a word may stand here: place
+  abbrev pub inPlace : S → W → Bool
+  inPlace s w = isIn (k .words) w (k .followers s)
+
+  -- the tests before the fields: place 5, count 6, 7 (a net without a pin, on the line after it)
+  abbrev pub stepWord : S → W → Step S → Step S
   stepWord s w more =
-      check (not (isWord w Nothing)) 2
-      (check (k .inPlace s w) 5
+      check (inPlace s w) 5
       (check (k .hasRoom s w) 6
-      (check (k .hasPin s w) 7 more)))
+      (check (k .hasPin s w) 7 more))
+
+  -- what a line leads to by its word and the bytes after it; an unknown word is fault 2
+  abbrev pub stepFound : S → Found W → List ℕ → Step S
+  stepFound s (known w) b = stepWord s w (stepFields s w (fields (k .words .form w) b))
+  stepFound s unknown b = fault 2
 
   -- what a line leads to that has its LF
   unfoldable pub stepBytes : S → List ℕ → Step S
-  stepBytes s b =
-      let w = wordIn (k .words) (upTo comma b) in
-      stepWord s w (stepFields s w (fields (rules w) (from comma b)))
+  stepBytes s b = stepFound s (wordIn (k .words) (k .words .all) (upTo comma b)) (from comma b)
 
   -- what a line leads to; a missing LF is fault 2
   abbrev pub stepLine : S → Line → Step S
@@ -82,4 +98,4 @@ module _ {S : Type 0} (k : Kind S) where
 
   -- a whole text, from what is known at the start
   unfoldable pub readText : S → List ℕ → Reading S
-  readText start text = sized (leb (length text) mostBytes) (readLines start 1 (lines text))
+  readText start text = sized (leb (length text) (k .mostBytes)) (readLines start 1 (lines text))

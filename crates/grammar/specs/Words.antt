@@ -1,51 +1,11 @@
--- The words of chip files and records, their spelling and their fields (document 01, "The chip file", "The search and its record").
+-- The words of a kind of text: their spelling and the fields of their lines; lines as items.
 use Prim.Native.Nat.{ℕ}
 use mathlib.Core.List.{List, [], _∷_, _++_}
 use mathlib.Core.Bool.{Bool, true, false, _&&_, _||_}
 use lib.Dec.{eqb}
 use lib.ListN.{getD}
 use lib.IntN.{ℤ, pos, natAbs}
-use Rattle.model.specs.Limits.{Range, dieSide, fixCorner, fixSide, macSide, netWeight, pinMacro, pinPlace, recordLength, placedMacro, placedCorner}
-use Rattle.model.specs.declared.Word.{Word}
-use Rattle.model.specs.declared.Word.the-variants.{Nothing, Die, Fix, Mac, Net, Pin, End, Least, None, At, Done}
-use Rattle.grammar.specs.Line.{Rule, field, lineFeed, fieldsText}
-
--- the words spelled out in bytes; `Nothing` is no word
-abbrev pub spell : Word → List ℕ
-spell Nothing = []
-spell Die = 100 ∷ 105 ∷ 101 ∷ []
-spell Fix = 102 ∷ 105 ∷ 120 ∷ []
-spell Mac = 109 ∷ 97 ∷ 99 ∷ []
-spell Net = 110 ∷ 101 ∷ 116 ∷ []
-spell Pin = 112 ∷ 105 ∷ 110 ∷ []
-spell End = 101 ∷ 110 ∷ 100 ∷ []
-spell Least = 108 ∷ 101 ∷ 97 ∷ 115 ∷ 116 ∷ []
-spell None = 110 ∷ 111 ∷ 110 ∷ 101 ∷ []
-spell At = 97 ∷ 116 ∷ []
-spell Done = 100 ∷ 111 ∷ 110 ∷ 101 ∷ []
-
--- a number for each word, to tell words apart
-abbrev pub rank : Word → ℕ
-rank Nothing = 0
-rank Die = 1
-rank Fix = 2
-rank Mac = 3
-rank Net = 4
-rank Pin = 5
-rank End = 6
-rank Least = 7
-rank None = 8
-rank At = 9
-rank Done = 10
-
--- a and b are the same word
-abbrev pub isWord : Word → Word → Bool
-isWord a b = eqb (rank a) (rank b)
-
--- w is among the words ws
-unfoldable pub isIn : Word → List Word → Bool
-isIn w [] = false
-isIn w (a ∷ ws) = isWord w a || isIn w ws
+use Rattle.grammar.specs.Line.{Value, number, string, absent, Form, lineFeed, fieldsText}
 
 -- two texts are the same bytes
 unfoldable pub same : List ℕ → List ℕ → Bool
@@ -54,73 +14,55 @@ same [] (b ∷ t) = false
 same (a ∷ s) [] = false
 same (a ∷ s) (b ∷ t) = eqb a b && same s t
 
--- the word among ws that the bytes s spell, or `Nothing`
-unfoldable pub wordIn : List Word → List ℕ → Word
-wordIn [] s = Nothing
-wordIn (w ∷ ws) s = elim (same (spell w) s) [ true ↦ w | false ↦ wordIn ws s ]
+-- the words of a kind of text: all of them, the bytes of each, and the fields of a line that begins with it
+pub record Words (W : Type 0) : Type 0 where
+  pub all : List W
+  pub spell : W → List ℕ
+  pub form : W → Form
 
--- the words of chip files
-abbrev pub chipWords : List Word
-chipWords = Die ∷ Fix ∷ Mac ∷ Net ∷ Pin ∷ End ∷ []
-
--- the words of records
-abbrev pub recordWords : List Word
-recordWords = Least ∷ None ∷ At ∷ Done ∷ []
-
--- the field names w, h, x, y, m and wl
-abbrev pub byW : List ℕ
-byW = 119 ∷ []
-
-abbrev pub byH : List ℕ
-byH = 104 ∷ []
-
-abbrev pub byX : List ℕ
-byX = 120 ∷ []
-
-abbrev pub byY : List ℕ
-byY = 121 ∷ []
-
-abbrev pub byM : List ℕ
-byM = 109 ∷ []
-
-abbrev pub byWl : List ℕ
-byWl = 119 ∷ 108 ∷ []
-
--- a field with that name and range
-abbrev pub limited : List ℕ → Range → Rule
-limited name r = field name (r .least) (r .most)
-
--- the fields of each line with their ranges
-abbrev pub rules : Word → List Rule
-rules Nothing = []
-rules Die = limited byW dieSide ∷ limited byH dieSide ∷ []
-rules Fix = limited byX fixCorner ∷ limited byY fixCorner ∷ limited byW fixSide ∷ limited byH fixSide ∷ []
-rules Mac = limited byW macSide ∷ limited byH macSide ∷ []
-rules Net = limited byW netWeight ∷ []
-rules Pin = limited byM pinMacro ∷ limited byX pinPlace ∷ limited byY pinPlace ∷ []
-rules End = []
-rules Least = limited byWl recordLength ∷ []
-rules None = []
-rules At = limited byM placedMacro ∷ limited byX placedCorner ∷ limited byY placedCorner ∷ []
-rules Done = []
+-- the word that some bytes spell, or that there is none
+pub data Found (W : Type 0) : Type 0 where
+  known : W → Found W
+  unknown : Found W
 
 -- a line as a word and the values of its fields
-pub record Item : Type 0 where
-  pub word : Word
-  pub values : List ℤ
+pub record Item (W : Type 0) : Type 0 where
+  pub word : W
+  pub values : List Value
 
--- value i of a line's values zs, and the same of a field that can't be negative
-abbrev pub value : List ℤ → ℕ → ℤ
-value zs i = getD zs i (pos 0)
+module _ {W : Type 0} (d : Words W) where
+  -- a and b are the same word
+  abbrev pub isWord : W → W → Bool
+  isWord a b = same (d .spell a) (d .spell b)
 
-abbrev pub size : List ℤ → ℕ → ℕ
-size zs i = natAbs (value zs i)
+  -- w is among the words ws
+  unfoldable pub isIn : W → List W → Bool
+  isIn w [] = false
+  isIn w (a ∷ ws) = isWord w a || isIn w ws
 
--- the text of a line
-unfoldable pub itemText : Item → List ℕ
-itemText i = spell (i .word) ++ (fieldsText (rules (i .word)) (i .values) ++ (lineFeed ∷ []))
+  -- the first word of ws that the bytes s spell
+  unfoldable pub wordIn : List W → List ℕ → Found W
+  wordIn [] s = unknown
+  wordIn (w ∷ ws) s = elim (same (d .spell w) s) [ true ↦ known w | false ↦ wordIn ws s ]
 
--- the text of lines
-unfoldable pub itemsText : List Item → List ℕ
-itemsText [] = []
-itemsText (i ∷ is) = itemText i ++ itemsText is
+  -- the text of a line
+  unfoldable pub itemText : Item W → List ℕ
+  itemText i = d .spell (i .word) ++ (fieldsText (d .form (i .word)) (i .values) ++ (lineFeed ∷ []))
+
+  -- the text of lines
+  unfoldable pub itemsText : List (Item W) → List ℕ
+  itemsText [] = []
+  itemsText (i ∷ is) = itemText i ++ itemsText is
+
+-- the number that a value is
+abbrev pub numberIn : Value → ℤ
+numberIn (number z) = z
+numberIn (string s) = pos 0
+numberIn absent = pos 0
+
+-- value i of a line's values as a number, and the same of a field that can't be negative
+abbrev pub value : List Value → ℕ → ℤ
+value vs i = numberIn (getD vs i absent)
+
+abbrev pub size : List Value → ℕ → ℕ
+size vs i = natAbs (value vs i)

@@ -1,8 +1,8 @@
 pub mod Found
 pub mod Same
-pub mod Word
 pub mod Mark
 pub mod Laid
 pub mod Range
 pub mod OneField
 pub mod AllFields
+pub mod Limits

@@ -14,11 +14,11 @@ use Rattle.decimal.specs.declared.Number.{Number}
 use Rattle.decimal.specs.declared.Number.the-variants as held
 use Rattle.decimal.specs.Number.{Numeral, number, noNumber, numeralOf}
 use Rattle.decimal.specs.Held.{cap, heldNumber}
-use Rattle.grammar.specs.Line.{Fields, comma, upTo, strip, ranged, formed, marked}
+use Rattle.grammar.specs.Line.{Fields, faulty, comma, upTo, strip, ranged, numbered, valued, marked}
 use Rattle.line.specs.declared.Rule.{Rule as HeldRule}
 use Rattle.line.specs.declared.Field.{Field}
 use Rattle.line.specs.Held.{lowered}
-use Rattle.line.specs.Layout.{markOf, ruleOf, Sane}
+use Rattle.line.specs.Layout.{markOf, rangeOf, ruleOf, Sane}
 use Rattle.line.specs.Steps.{Starts, ifInRange, within, Faulty, FieldOk}
 use Rattle.grammar.proofs.Cut.{up-to-take, from-drop, up-to-short}
 use Rattle.line.proofs.Range.{never, no-number-held, positive-held, negative-held, below-held}
@@ -26,7 +26,7 @@ use Rattle.line.proofs.Range.{never, no-number-held, positive-held, neg
 -- ---- the answer
 
 module _ (text : List ℕ) (a : ℕ) (r : HeldRule) (l b v : ℕ) (h : b ≤ length text) where
-  answered : (t : Bool) (f : Field) → f ≡ ifInRange t v b l → ((more : List ℕ → Fields) → marked (strip (markOf r) (drop a text)) (ruleOf r) more ≡ ranged t (lowered (r .up) v) (more (drop b text))) → FieldOk text a r l f
+  answered : (t : Bool) (f : Field) → f ≡ ifInRange t v b l → ((more : List ℕ → Fields) → marked (strip (markOf r) (drop a text)) (ruleOf r) more (faulty 2) ≡ valued (ranged t (lowered (r .up) v)) (more (drop b text))) → FieldOk text a r l f
   answered true f e p = rw e (record { place = h; read = p })
   answered false f e p = rw e (record { at = refl; read = p })
 
@@ -60,7 +60,7 @@ module _ (text : List ℕ) (a : ℕ) (r : HeldRule) (t : Bool) (st : Starts (r .
       pub field-end-fits : length text < 2 ^ 64 → Fits w64 (past a r + n)
       field-end-fits f = let q = field-end in omega arith
 
-      read-number : (more : List ℕ → Fields) → marked (strip (markOf r) (drop a text)) (ruleOf r) more ≡ formed (numeralAt text (past a r) n) (ruleOf r) (more (drop (past a r + n) text))
+      read-number : (more : List ℕ → Fields) → marked (strip (markOf r) (drop a text)) (ruleOf r) more (faulty 2) ≡ valued (numbered (numeralAt text (past a r) n) (rangeOf r)) (more (drop (past a r + n) text))
       read-number more =
           let q : past a r + n - past a r ≡ length (upTo comma (drop (past a r) text)) = omega (arith, cut) in
           rw (st .left, not-false t y, drop-drop, q, ← up-to-take comma (drop (past a r) text), from-drop, ← cut, drop-drop)

@@ -11,11 +11,12 @@ use borrow.Author.Tests.{le-leb, lt-leb, lt-ltb, le-ltb}
 use Rattle.decimal.specs.declared.Number.the-variants as held
 use Rattle.decimal.specs.Number.{Numeral, number, noNumber}
 use Rattle.decimal.specs.Held.{cap, heldNumber}
-use Rattle.grammar.specs.Line.{Fields, faulty, inRange, ranged, formed}
+use Rattle.grammar.specs.Line.{Fields, faulty, ranged, numbered, valued}
+use Rattle.model.specs.Limits.{isWithin}
 use Rattle.line.specs.declared.Rule.{Rule as HeldRule}
 use Rattle.line.specs.declared.Field.the-variants as field
 use Rattle.line.specs.Held.{lowered}
-use Rattle.line.specs.Layout.{ruleOf}
+use Rattle.line.specs.Layout.{rangeOf}
 use Rattle.line.specs.Steps.{outOfRange, ifInRange, within}
 
 module _ (r : HeldRule) (v b l : ℕ) where
@@ -64,32 +65,32 @@ never e = absurd (true≢false e)
 -- ---- the range test of the program is that of the rule
 
 module _ (r : HeldRule) (k : r .most < cap) (more : Fields) where
-  held-range : (z : ℤ) (v : ℕ) → z ≡ lowered (r .up) v → ranged (inRange (ruleOf r) z) z more ≡ ranged (within r v) (lowered (r .up) v) more
+  held-range : (z : ℤ) (v : ℕ) → z ≡ lowered (r .up) v → valued (ranged (isWithin (rangeOf r) z) z) more ≡ valued (ranged (within r v) (lowered (r .up) v)) more
   held-range z v e = rw (e, lowered-order (r .up) (r .least) v, lowered-order (r .up) v (r .most))
 
   raised : (n : ℕ) → pos n ≡ lowered (r .up) (r .up + n)
   raised n = sym (lowered-above (r .up) (r .up + n) (omega arith) ∙ ap pos (omega arith))
 
   -- all numbers above the cap are out of range alike
-  cut-range : (n m : ℕ) → m ≡ min cap n → ranged (inRange (ruleOf r) (pos n)) (pos n) more ≡ ranged (within r (r .up + m)) (lowered (r .up) (r .up + m)) more
+  cut-range : (n m : ℕ) → m ≡ min cap n → valued (ranged (isWithin (rangeOf r) (pos n)) (pos n)) more ≡ valued (ranged (within r (r .up + m)) (lowered (r .up) (r .up + m))) more
   cut-range n m e = held-range (pos n) (r .up + n) (raised n) ∙ by (decLe n cap)
     where
-      by : Dec (n ≤ cap) → ranged (within r (r .up + n)) (lowered (r .up) (r .up + n)) more ≡ ranged (within r (r .up + m)) (lowered (r .up) (r .up + m)) more
-      by (yes h) = ap (λ (x : ℕ). ranged (within r (r .up + x)) (lowered (r .up) (r .up + x)) more) (omega arith)
+      by : Dec (n ≤ cap) → valued (ranged (within r (r .up + n)) (lowered (r .up) (r .up + n))) more ≡ valued (ranged (within r (r .up + m)) (lowered (r .up) (r .up + m))) more
+      by (yes h) = ap (λ (x : ℕ). valued (ranged (within r (r .up + x)) (lowered (r .up) (r .up + x))) more) (omega arith)
       by (no h) = rw (lt-leb (r .up + n) (r .most) (omega arith), lt-leb (r .up + m) (r .most) (omega arith)) (simp and-false)
 
-  pub no-number-held : (q : Numeral) → held.Bad ≡ heldNumber q → formed q (ruleOf r) more ≡ faulty 3
+  pub no-number-held : (q : Numeral) → held.Bad ≡ heldNumber q → valued (numbered q (rangeOf r)) more ≡ faulty 3
   no-number-held (number (pos n)) e = never (cc)
   no-number-held (number (negsuc n)) e = never (cc)
   no-number-held noNumber e = refl
 
-  pub positive-held : (q : Numeral) (m : ℕ) → held.Value false m ≡ heldNumber q → formed q (ruleOf r) more ≡ ranged (within r (r .up + m)) (lowered (r .up) (r .up + m)) more
+  pub positive-held : (q : Numeral) (m : ℕ) → held.Value false m ≡ heldNumber q → valued (numbered q (rangeOf r)) more ≡ valued (ranged (within r (r .up + m)) (lowered (r .up) (r .up + m))) more
   positive-held (number (pos n)) m e = cut-range n m (cc)
   positive-held (number (negsuc n)) m e = never (cc)
   positive-held noNumber m e = never (cc)
 
   -- a number below 0 that is held
-  pub negative-held : (q : Numeral) (m : ℕ) → held.Value true m ≡ heldNumber q → r .up ≤ 4096 → m ≤ r .up → formed q (ruleOf r) more ≡ ranged (within r (r .up - m)) (lowered (r .up) (r .up - m)) more
+  pub negative-held : (q : Numeral) (m : ℕ) → held.Value true m ≡ heldNumber q → r .up ≤ 4096 → m ≤ r .up → valued (numbered q (rangeOf r)) more ≡ valued (ranged (within r (r .up - m)) (lowered (r .up) (r .up - m))) more
   negative-held (number (pos n)) m e u h = never (cc)
   negative-held (number (negsuc n)) m e u h =
       let c : m ≡ min cap (suc n) = cc in
@@ -104,7 +105,7 @@ module _ (r : HeldRule) (k : r .most < cap) (more : Fields) where
       by (yes l) = rw (lowered-below (r .up) (r .least) l, lt-leb n (r .up - suc (r .least)) (omega arith))
       by (no l) = rw (lowered-above (r .up) (r .least) (omega arith))
 
-  pub below-held : (q : Numeral) (m : ℕ) → held.Value true m ≡ heldNumber q → r .up < m → formed q (ruleOf r) more ≡ faulty 4
+  pub below-held : (q : Numeral) (m : ℕ) → held.Value true m ≡ heldNumber q → r .up < m → valued (numbered q (rangeOf r)) more ≡ faulty 4
   below-held (number (pos n)) m e h = never (cc)
   below-held (number (negsuc n)) m e h = let c : m ≡ min cap (suc n) = cc in rw (far-below n (omega arith))
   below-held noNumber m e h = never (cc)

@@ -1,4 +1,3 @@
 pub mod Held
-pub mod Spelling
 pub mod Layout
 pub mod Steps

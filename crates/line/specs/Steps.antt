@@ -6,7 +6,7 @@ use mathlib.Core.Bool.{Bool, true, false, _&&_}
 use lib.Dec.{leb}
 use lib.ListN.{length, take, drop}
 use Rattle.model.specs.declared.Refusal.{Refusal}
-use Rattle.grammar.specs.Line.{Rest, rest, noMark, strip, Fields, faulty, andThen, marked}
+use Rattle.grammar.specs.Line.{number, Rest, rest, noMark, strip, Fields, faulty, andThen, marked}
 use Rattle.line.specs.declared.Rule.{Rule as HeldRule}
 use Rattle.line.specs.declared.Field.{Field}
 use Rattle.line.specs.declared.Field.the-variants as field
@@ -43,12 +43,12 @@ within r v = leb (r .least) v && leb v (r .most)
 -- the field with the rule r at a has the value v, and b is the place after it
 pub record Got (text : List ℕ) (a : ℕ) (r : HeldRule) (v b : ℕ) : Type 0 where
   pub place : b ≤ length text
-  pub read : (more : List ℕ → Fields) → marked (strip (markOf r) (drop a text)) (ruleOf r) more ≡ andThen (lowered (r .up) v) (more (drop b text))
+  pub read : (more : List ℕ → Fields) → marked (strip (markOf r) (drop a text)) (ruleOf r) more (faulty 2) ≡ andThen (number (lowered (r .up) v)) (more (drop b text))
 
 -- the field with the rule r at a is refused by f
 pub record Faulty (text : List ℕ) (a : ℕ) (r : HeldRule) (l : ℕ) (f : Refusal) : Type 0 where
   pub at : f .line ≡ l
-  pub read : (more : List ℕ → Fields) → marked (strip (markOf r) (drop a text)) (ruleOf r) more ≡ faulty (f .no)
+  pub read : (more : List ℕ → Fields) → marked (strip (markOf r) (drop a text)) (ruleOf r) more (faulty 2) ≡ faulty (f .no)
 
 -- the answer of the reader of one field, by its case
 abbrev pub FieldOk : List ℕ → ℕ → HeldRule → ℕ → Field → Type 0

@@ -1,23 +1,14 @@
 // One line of a text: where it ends, its word and its fields.
 use decimal::Number;
-use model::Die;
-use model::Fix;
-use model::Mac;
-use model::Net;
 use model::Pin;
-use model::Record;
 use model::Refusal;
-use model::Spot;
-use model::Word;
 ghost use mathlib.Core.Path.{_≡_};
 ghost use Prim.Native.Nat.{_<_, _≤_};
 ghost use lib.ListN.{length, take, drop};
 ghost use Rattle.grammar.specs.Line.{upTo};
 ghost use Rattle.grammar.specs.Steps.{lineEnd};
-ghost use Rattle.grammar.specs.Words.{same, wordIn, chipWords, recordWords};
-ghost use Rattle.line.specs.Held.{FieldsOk};
-ghost use Rattle.line.specs.Spelling.{spelling};
-ghost use Rattle.line.specs.Layout.{shortRule, layout, Sane, LayoutOk};
+ghost use Rattle.grammar.specs.Words.{same};
+ghost use Rattle.line.specs.Layout.{shortRule, noRule, Sane, isSane, isLayout, Laid, FieldsOk};
 ghost use Rattle.line.specs.Steps.{Starts, ifInRange, within, FieldOk};
 
 // The spelling of a word: five bytes, and how many of them are the word's; the others are 0.
@@ -59,7 +50,7 @@ pub enum Fields {
     Refused(Refusal),
 }
 
-// The answer with the values of the fields, as held; 0 past the last field, and after a refusal.
+// The answer with the values of the fields, x and y of a pin held 4,096 higher; 0 past the last field, and after a refusal.
 pub struct FieldsRead {
     pub answer: Fields,
     pub values: [u64; 4],
@@ -106,116 +97,18 @@ fn same_bytes(s: &[u8], t: &[u8]) -> bool
     true
 }
 
-// The spelling of a word. The table stands in the order of the words' ranks.
-pub fn spelling_of(w: Word) -> Spelling
-    ensures { λ r. ⌜ r ≡ spelling w ⌝ }
+// Whether the bytes s are the first `size` of those given.
+pub fn spells(bytes: [u8; 5], size: usize, s: &[u8]) -> bool
+    ensures { λ r. ⌜ r ≡ same (take size bytes) (now (s .entry)) ⌝ }
 {
-    let spellings = [
-        Spelling {
-            bytes: [0, 0, 0, 0, 0],
-            size: 0,
-        },
-        Spelling {
-            bytes: [b'd', b'i', b'e', 0, 0],
-            size: 3,
-        },
-        Spelling {
-            bytes: [b'f', b'i', b'x', 0, 0],
-            size: 3,
-        },
-        Spelling {
-            bytes: [b'm', b'a', b'c', 0, 0],
-            size: 3,
-        },
-        Spelling {
-            bytes: [b'n', b'e', b't', 0, 0],
-            size: 3,
-        },
-        Spelling {
-            bytes: [b'p', b'i', b'n', 0, 0],
-            size: 3,
-        },
-        Spelling {
-            bytes: [b'e', b'n', b'd', 0, 0],
-            size: 3,
-        },
-        Spelling {
-            bytes: [b'l', b'e', b'a', b's', b't'],
-            size: 5,
-        },
-        Spelling {
-            bytes: [b'n', b'o', b'n', b'e', 0],
-            size: 4,
-        },
-        Spelling {
-            bytes: [b'a', b't', 0, 0, 0],
-            size: 2,
-        },
-        Spelling {
-            bytes: [b'd', b'o', b'n', b'e', 0],
-            size: 4,
-        },
-    ];
-    spellings[grammar::rank_of(w)]
-}
-
-// The first of the first `count` words that s spells, or Nothing.
-fn word_among(s: &[u8], words: [Word; 6], count: usize) -> Word
-    requires { ⌜ count ≤ 6 ⌝ }
-    ensures { λ r. ⌜ r ≡ wordIn (take count words) (now (s .entry)) ⌝ }
-{
-    let mut i: usize = 0;
-    while i < count {
-        let w = words[i];
-        let p = spelling_of(w);
-        let bytes = p.bytes;
-        let size = p.size;
-        if same_bytes(&bytes[..size], s) {
-            return w;
-        }
-        i += 1;
+    if 5 < size {
+        return same_bytes(&bytes, s);
     }
-    Word::Nothing
-}
-
-// The word of a chip file that s spells.
-pub fn chip_word(s: &[u8]) -> Word
-    ensures { λ r. ⌜ r ≡ wordIn chipWords (now (s .entry)) ⌝ }
-{
-    word_among(
-        s,
-        [
-            Word::Die,
-            Word::Fix,
-            Word::Mac,
-            Word::Net,
-            Word::Pin,
-            Word::End,
-        ],
-        6,
-    )
-}
-
-// The word of a record that s spells.
-pub fn record_word(s: &[u8]) -> Word
-    ensures { λ r. ⌜ r ≡ wordIn recordWords (now (s .entry)) ⌝ }
-{
-    word_among(
-        s,
-        [
-            Word::Least,
-            Word::None,
-            Word::At,
-            Word::Done,
-            Word::Nothing,
-            Word::Nothing,
-        ],
-        4,
-    )
+    same_bytes(&bytes[..size], s)
 }
 
 // A field whose name is the byte `name`.
-fn short_rule(name: u8, up: u64, least: u64, most: u64) -> Rule
+pub fn short_rule(name: u8, up: u64, least: u64, most: u64) -> Rule
     ensures { λ r. ⌜ r ≡ shortRule name up least most ⌝ }
 {
     Rule {
@@ -227,97 +120,47 @@ fn short_rule(name: u8, up: u64, least: u64, most: u64) -> Rule
     }
 }
 
-// The fields of a line with that word; those past `count` are 0 throughout.
-pub fn layout_of(word: Word) -> Layout
-    ensures { λ r. ⌜ r ≡ layout word ⌝ }
-    ensures { λ r. ⌜ LayoutOk word (r .count) (r .rules) ⌝ }
+// The field past the last.
+pub fn no_rule() -> Rule
+    ensures { λ r. ⌜ r ≡ noRule ⌝ }
 {
-    let none = Rule {
+    Rule {
         mark: [0; 4],
         size: 0,
         up: 0,
         least: 0,
         most: 0,
-    };
-    let blank = Layout {
-        count: 0,
-        rules: [none, none, none, none],
-    };
-    match word {
-        Word::Die => Layout {
-            count: 2,
-            rules: [
-                short_rule(b'w', 0, Die::SIDE_LEAST, Die::SIDE_MOST),
-                short_rule(b'h', 0, Die::SIDE_LEAST, Die::SIDE_MOST),
-                none,
-                none,
-            ],
-        },
-        Word::Fix => Layout {
-            count: 4,
-            rules: [
-                short_rule(b'x', 0, 0, Fix::CORNER_MOST),
-                short_rule(b'y', 0, 0, Fix::CORNER_MOST),
-                short_rule(b'w', 0, Fix::SIDE_LEAST, Fix::SIDE_MOST),
-                short_rule(b'h', 0, Fix::SIDE_LEAST, Fix::SIDE_MOST),
-            ],
-        },
-        Word::Mac => Layout {
-            count: 2,
-            rules: [
-                short_rule(b'w', 0, Mac::SIDE_LEAST, Mac::SIDE_MOST),
-                short_rule(b'h', 0, Mac::SIDE_LEAST, Mac::SIDE_MOST),
-                none,
-                none,
-            ],
-        },
-        Word::Net => Layout {
-            count: 1,
-            rules: [
-                short_rule(b'w', 0, Net::WEIGHT_LEAST, Net::WEIGHT_MOST),
-                none,
-                none,
-                none,
-            ],
-        },
-        Word::Pin => Layout {
-            count: 3,
-            rules: [
-                short_rule(b'm', 0, 0, Mac::COUNT as u64),
-                short_rule(b'x', Pin::UP, Pin::LEAST_UP, Pin::MOST_UP),
-                short_rule(b'y', Pin::UP, Pin::LEAST_UP, Pin::MOST_UP),
-                none,
-            ],
-        },
-        Word::Least => Layout {
-            count: 1,
-            rules: [
-                Rule {
-                    mark: [44, 119, 108, 44],
-                    size: 4,
-                    up: 0,
-                    least: 0,
-                    most: Record::LENGTH_MOST,
-                },
-                none,
-                none,
-                none,
-            ],
-        },
-        Word::At => Layout {
-            count: 3,
-            rules: [
-                short_rule(b'm', 0, 1, Mac::COUNT as u64),
-                short_rule(b'x', 0, 0, Spot::MOST),
-                short_rule(b'y', 0, 0, Spot::MOST),
-                none,
-            ],
-        },
-        Word::Nothing => blank,
-        Word::End => blank,
-        Word::None => blank,
-        Word::Done => blank,
     }
+}
+
+// Whether a field is within the limits of reading and writing.
+fn is_sane(rule: Rule) -> bool
+    ensures { λ r. ⌜ r ≡ isSane rule ⌝ }
+{
+    if 4 < rule.size {
+        return false;
+    }
+    if Pin::UP < rule.up {
+        return false;
+    }
+    rule.most < decimal::MOST
+}
+
+// Whether a layout, the first `count` of the rules, is within the limits of reading and writing.
+pub fn is_layout(count: usize, rules: [Rule; 4]) -> bool
+    ensures { λ r. ⌜ r ≡ isLayout count rules ⌝ }
+{
+    if 4 < count {
+        return false;
+    }
+    let mut i: usize = 0;
+    while i < 4 {
+        if !is_sane(rules[i]) {
+            return false;
+        }
+        i += 1;
+    }
+    true
 }
 
 // Whether the first `size` bytes of the mark stand in the text from a on.
@@ -376,13 +219,11 @@ pub(crate) fn read_field(text: &[u8], a: usize, rule: Rule, line: usize) -> Fiel
     in_range(up + magnitude, b, rule, line)
 }
 
-// The fields of a line with that word, read from the bytes after the word.
-pub fn read_fields(text: &[u8], word: Word, line: usize) -> FieldsRead
-    ensures { λ r. ⌜ FieldsOk word line (now (text .entry)) r ⌝ }
+// The first `count` of the fields, read from the bytes after a line's word.
+fn read_laid(text: &[u8], count: usize, rules: [Rule; 4], line: usize) -> FieldsRead
+    requires { ⌜ Laid count rules ⌝ }
+    ensures { λ r. ⌜ FieldsOk count rules line (now (text .entry)) r ⌝ }
 {
-    let layout = layout_of(word);
-    let rules = layout.rules;
-    let count = layout.count;
     let mut values = [0u64; 4];
     let mut a: usize = 0;
     let mut j: usize = 0;
@@ -412,4 +253,19 @@ pub fn read_fields(text: &[u8], word: Word, line: usize) -> FieldsRead
         answer: Fields::Got,
         values,
     }
+}
+
+// The fields of a line with that layout, read from the bytes after its word; a layout beyond the limits is refused by 2.
+pub fn read_fields(text: &[u8], layout: Layout, line: usize) -> FieldsRead
+    ensures { λ r. ⌜ FieldsOk (layout .count) (layout .rules) line (now (text .entry)) r ⌝ }
+{
+    let rules = layout.rules;
+    let count = layout.count;
+    if !is_layout(count, rules) {
+        return FieldsRead {
+            answer: Fields::Refused(Refusal { no: 2, line }),
+            values: [0; 4],
+        };
+    }
+    read_laid(text, count, rules, line)
 }

@@ -1,14 +1,16 @@
 // Writing the lines of a text into a lent buffer.
+use line::Layout;
 use line::Rule;
-use model::Word;
+use line::Spelling;
 ghost use mathlib.Core.Path.{_≡_};
 ghost use mathlib.Core.List.{_++_};
 ghost use Rattle.decimal.specs.Number.{numberText};
 ghost use Rattle.decimal.specs.Held.{Wrote};
 ghost use Rattle.grammar.specs.Line.{fieldsText};
-ghost use Rattle.grammar.specs.Words.{spell, rules, itemText};
-ghost use Rattle.line.specs.Held.{lowered, valuesOf};
-ghost use Rattle.line.specs.Layout.{markOf, Sane};
+ghost use lib.ListN.{take};
+ghost use Rattle.line.specs.Held.{lowered};
+ghost use Rattle.line.specs.Layout.{markOf, formOf, valuesOf, Sane, Laid};
+ghost use Rattle.linewriter.specs.LineText.{lineText};
 ghost use Rattle.linewriter.specs.Shown.{shownOf};
 
 // How many items a count means, of an array of `capacity` items: one too many where it is above that.
@@ -22,13 +24,13 @@ pub fn shown(count: usize, capacity: usize) -> usize
     }
 }
 
-// Writes the spelling of a word from `at` on, as far as the buffer goes, and answers the place after it.
-fn put_word(out: &mut [u8], at: usize, w: Word) -> usize
-    ensures { λ r. ⌜ Wrote (now (out .entry)) (now (out .exit)) (spell w) at r ⌝ }
+// Writes the bytes of a spelling, the first `size` of those given, from `at` on, as far as the buffer goes, and answers the place after them.
+fn put_word(out: &mut [u8], at: usize, bytes: [u8; 5], size: usize) -> usize
+    ensures { λ r. ⌜ Wrote (now (out .entry)) (now (out .exit)) (take size bytes) at r ⌝ }
 {
-    let p = line::spelling_of(w);
-    let bytes = p.bytes;
-    let size = p.size;
+    if 5 < size {
+        return decimal::put_bytes(out, at, &bytes);
+    }
     decimal::put_bytes(out, at, &bytes[..size])
 }
 
@@ -43,13 +45,11 @@ fn put_field(out: &mut [u8], at: usize, rule: Rule, v: u64) -> usize
     decimal::put_number(out, a, v, rule.up)
 }
 
-// The same for the fields of a line with the word w and the values v, as held.
-fn put_fields(out: &mut [u8], at: usize, w: Word, v: [u64; 4]) -> usize
-    ensures { λ r. ⌜ Wrote (now (out .entry)) (now (out .exit)) (fieldsText (rules w) (valuesOf w v)) at r ⌝ }
+// The same for the first `count` fields with the values v, as held.
+fn put_fields(out: &mut [u8], at: usize, count: usize, rules: [Rule; 4], v: [u64; 4]) -> usize
+    requires { ⌜ Laid count rules ⌝ }
+    ensures { λ r. ⌜ Wrote (now (out .entry)) (now (out .exit)) (fieldsText (formOf count rules) (valuesOf count rules v)) at r ⌝ }
 {
-    let layout = line::layout_of(w);
-    let rules = layout.rules;
-    let count = layout.count;
     let mut a = at;
     let mut j: usize = 0;
     while j < count {
@@ -60,11 +60,19 @@ fn put_fields(out: &mut [u8], at: usize, w: Word, v: [u64; 4]) -> usize
     a
 }
 
-// Writes the line with the word w and the values v, as held, from `at` on, as far as the buffer goes, and answers the place after it.
-pub fn put_line(out: &mut [u8], at: usize, w: Word, v: [u64; 4]) -> usize
-    ensures { λ r. ⌜ Wrote (now (out .entry)) (now (out .exit)) (itemText (record { word = w; values = valuesOf w v })) at r ⌝ }
+// Writes the line with that word, that layout and the values v, as held, from `at` on, as far as the buffer goes, and answers the place after it.
+// Nothing is written for a layout beyond the limits.
+pub fn put_line(out: &mut [u8], at: usize, word: Spelling, layout: Layout, v: [u64; 4]) -> usize
+    ensures { λ r. ⌜ Wrote (now (out .entry)) (now (out .exit)) (lineText word (layout .count) (layout .rules) v) at r ⌝ }
 {
-    let a = put_word(out, at, w);
-    let b = put_fields(out, a, w, v);
+    let bytes = word.bytes;
+    let size = word.size;
+    let count = layout.count;
+    let rules = layout.rules;
+    if !line::is_layout(count, rules) {
+        return at;
+    }
+    let a = put_word(out, at, bytes, size);
+    let b = put_fields(out, a, count, rules, v);
     decimal::put_bytes(out, b, b"\n")
 }

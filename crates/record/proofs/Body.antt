@@ -6,8 +6,7 @@ use native.Mathlib.Omega.{arith}
 use lib.ListN.{length}
 use Rattle.model.specs.declared.Spot.{Spot}
 use Rattle.model.specs.Meaning.{Record, none, least}
-use Rattle.grammar.specs.Words.{Item}
-use Rattle.record.specs.Text.{leastItem, doneItem, atItem, atItems, body, recordItems}
+use Rattle.record.specs.Text.{Item, leastItem, doneItem, atItem, atItems, body, recordItems}
 
 pub body-done : (r : Record) → recordItems r ≡ body r ++ (doneItem ∷ [])
 unfolding recordItems

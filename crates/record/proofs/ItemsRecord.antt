@@ -1,23 +1,36 @@
 -- A record can be told from its lines: `same-items`.
 use mathlib.Core.Path.{_≡_, refl, sym, ap, _∙_}
-use mathlib.Core.Bool.{true, false}
 use mathlib.Core.List.{List, [], _∷_, _++_}
 use Prim.Native.Nat.{ℕ, suc}
 use Rattle.model.specs.declared.Spot.{Spot}
-use Rattle.model.specs.declared.Word.the-variants as word
+use Rattle.record.specs.declared.RecordWord.{RecordWord}
+use Rattle.record.specs.declared.RecordWord.the-variants as word
 use Rattle.model.specs.Meaning.{Record, none, least}
-use Rattle.grammar.specs.Words.{Item, isWord, size}
+use Rattle.grammar.specs.Line.{Value}
+use Rattle.grammar.specs.Words.{size}
 use Rattle.record.specs.Kind.{spotOf}
-use Rattle.record.specs.Text.{doneItem, atItems, recordItems}
+use Rattle.record.specs.Text.{Item, doneItem, atItems, recordItems}
 
--- the spots that lines say
+-- the spots that lines say, and the record
+abbrev spotFirst : RecordWord → List Value → List Spot → List Spot
+spotFirst word.Least vs ps = ps
+spotFirst word.None vs ps = ps
+spotFirst word.At vs ps = spotOf vs ∷ ps
+spotFirst word.Done vs ps = ps
+
 abbrev spots : List Item → List Spot
 spots [] = []
-spots (i ∷ is) = elim (isWord (i .word) word.At) [ true ↦ spotOf (i .values) ∷ spots is | false ↦ spots is ]
+spots (i ∷ is) = spotFirst (i .word) (i .values) (spots is)
+
+abbrev recordFirst : RecordWord → List Value → List Spot → Record
+recordFirst word.Least vs ps = least (size vs 0) ps
+recordFirst word.None vs ps = none
+recordFirst word.At vs ps = none
+recordFirst word.Done vs ps = none
 
 abbrev said : List Item → Record
 said [] = none
-said (i ∷ is) = elim (isWord (i .word) word.Least) [ true ↦ least (size (i .values) 0) (spots is) | false ↦ none ]
+said (i ∷ is) = recordFirst (i .word) (i .values) (spots is)
 
 said-spots : (m : ℕ) (ps : List Spot) → spots (atItems m ps ++ (doneItem ∷ [])) ≡ ps
 unfolding atItems

@@ -6,27 +6,28 @@ use Prim.Native.Nat.{ℕ, suc, _≤_}
 use lib.ListN.{length}
 use Rattle.model.specs.declared.Spot.{Spot}
 use Rattle.model.specs.Meaning.{Record, none, least}
-use Rattle.grammar.specs.Words.{same, wordIn}
 use Rattle.grammar.specs.Reading.{readLines}
 use Rattle.grammar.specs.Line.{lines}
+use Rattle.grammar.proofs.FieldsText.{suits, shaped}
 use Rattle.grammar.proofs.Items.{WellFormed, runItems, read-items, read-text-short}
 use Rattle.record.specs.Kind.{start, recordKind}
+use Rattle.record.proofs.Told.{words-told}
 use Rattle.record.specs.Text.{doneItem, atItems, recordItems, recordRead, readRecord, recordText}
 
 spots-formed : (m : ℕ) (ps : List Spot) → WellFormed recordKind (atItems m ps ++ (doneItem ∷ []))
-unfolding atItems wordIn same
-spots-formed m [] = (record { found = refl; count = refl }, tt)
-spots-formed m (p ∷ ps) = (record { found = refl; count = refl }, spots-formed (suc m) ps)
+unfolding atItems suits shaped
+spots-formed m [] = (refl, tt)
+spots-formed m (p ∷ ps) = (refl, spots-formed (suc m) ps)
 
 pub items-formed : (r : Record) → WellFormed recordKind (recordItems r)
-unfolding recordItems atItems wordIn same
-items-formed none = (record { found = refl; count = refl }, spots-formed 1 [])
-items-formed (least wl ps) = (record { found = refl; count = refl }, spots-formed 1 ps)
+unfolding recordItems atItems suits shaped
+items-formed none = (refl, spots-formed 1 [])
+items-formed (least wl ps) = (refl, spots-formed 1 ps)
 
 module _ (r : Record) where
   pub lines-run : readLines recordKind start 1 (lines (recordText r)) ≡ runItems recordKind start 1 (recordItems r)
   unfolding recordText
-  lines-run = read-items recordKind start 1 (recordItems r) (items-formed r)
+  lines-run = read-items recordKind words-told start 1 (recordItems r) (items-formed r)
 
   pub record-run : length (recordText r) ≤ 16384 → readRecord (recordText r) ≡ recordRead (runItems recordKind start 1 (recordItems r))
   unfolding readRecord

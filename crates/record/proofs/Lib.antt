@@ -1,3 +1,4 @@
+pub mod Told
 pub mod Body
 pub mod Staged
 pub mod ItemsRecord

@@ -10,6 +10,7 @@ use Rattle.grammar.proofs.Left.{text-too-long}
 use Rattle.grammar.proofs.Meaning as meaning
 use Rattle.record.specs.Kind.{Part, start, recordKind}
 use Rattle.record.specs.Text.{recordRead, readRecord, recordItems, recordText}
+use Rattle.record.proofs.Told.{words-told}
 use Rattle.record.proofs.Staged.{run-items}
 
 record-accepted : (x : Reading Part) (r : Record) → recordRead x ≡ accepted r → (s : Part) × (x ≡ accepted s) × (s .result ≡ r)
@@ -17,7 +18,7 @@ record-accepted (accepted s) r e = (s, refl, cc)
 record-accepted (refused n l) r e = no-refusal e
 
 pub record-means : meaning.Means recordKind start recordRead recordItems
-record-means = record { meaning = λ s. s .result; back = record-accepted; run = run-items }
+record-means = record { told = words-told; meaning = λ s. s .result; back = record-accepted; run = run-items }
 
 -- a text of more than 16,384 bytes is refused
 pub too-long : (t : List ℕ) → 16384 < length t → refused 1 0 ≡ readRecord t

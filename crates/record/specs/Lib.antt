@@ -1,2 +1,3 @@
+pub mod Words
 pub mod Kind
 pub mod Text

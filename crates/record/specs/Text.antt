@@ -3,11 +3,15 @@ use Prim.Native.Nat.{ℕ, suc}
 use mathlib.Core.List.{List, [], _∷_, _++_}
 use lib.IntN.{pos}
 use Rattle.model.specs.declared.Spot.{Spot}
-use Rattle.model.specs.declared.Word.the-variants as word
+use Rattle.record.specs.declared.RecordWord.{RecordWord}
+use Rattle.record.specs.declared.RecordWord.the-variants as word
 use Rattle.model.specs.Meaning.{Record, none, least}
-use Rattle.grammar.specs.Words.{Item, itemsText}
+use Rattle.grammar.specs.Line.{number}
+use Rattle.grammar.specs.Words as grammar
+use Rattle.grammar.specs.Words.{itemsText}
 use Rattle.grammar.specs.Reading.{Reading, accepted, refused, readText}
 use Rattle.grammar.specs.Writing.{Written, writeText}
+use Rattle.record.specs.Words.{recordWords}
 use Rattle.record.specs.Kind.{Part, start, recordKind}
 
 -- the record that the lines of a text lead to, or their refusal
@@ -21,9 +25,13 @@ readRecord text = recordRead (readText recordKind start text)
 
 -- ---- the lines of a record
 
+-- a line of a record
+abbrev pub Item : Type 0
+Item = grammar.Item RecordWord
+
 -- the first line of a record with a placement, or without one, and the last line
 abbrev pub leastItem : ℕ → Item
-leastItem wl = record { word = word.Least; values = pos wl ∷ [] }
+leastItem wl = record { word = word.Least; values = number (pos wl) ∷ [] }
 
 abbrev pub noneItem : Item
 noneItem = record { word = word.None; values = [] }
@@ -33,7 +41,7 @@ doneItem = record { word = word.Done; values = [] }
 
 -- the line of macro m with its corner at p
 abbrev pub atItem : ℕ → Spot → Item
-atItem m p = record { word = word.At; values = pos m ∷ pos (p .x) ∷ pos (p .y) ∷ [] }
+atItem m p = record { word = word.At; values = number (pos m) ∷ number (pos (p .x)) ∷ number (pos (p .y)) ∷ [] }
 
 -- the lines of macros m, m + 1 and so on
 unfoldable pub atItems : ℕ → List Spot → List Item
@@ -51,7 +59,7 @@ recordItems r = body r ++ (doneItem ∷ [])
 
 -- the one text of a record
 unfoldable pub recordText : Record → List ℕ
-recordText r = itemsText (recordItems r)
+recordText r = itemsText recordWords (recordItems r)
 
 -- a record held as a value is tested first as its text would be, then written
 abbrev pub writeRecord : Record → List ℕ → Written

@@ -1,1 +1,9 @@
-// Definitions and theorems only: what the text of a record means, and that a record has one text.
+// The record of a placement: its words, what its text means, and that a record has one text.
+
+// The words of records.
+pub enum RecordWord {
+    Least,
+    None,
+    At,
+    Done,
+}

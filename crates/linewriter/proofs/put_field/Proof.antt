@@ -1,14 +1,13 @@
--- A field of a line: its mark, then its value.
-use Rattle.linewriter.proofs.Fields.{mark-long, field-written}
+use Rattle.linewriter.proofs.Fields.{mark-few, mark-long, field-written}
 use borrow.Author.Needs.{needs}
 use Rattle.linewriter.proofs.put_field.Statement.{statement}
 use Rattle.linewriter.proofs.put_field.Tie as tie
 
 array-share-prefix-mark : tie.Need-array-share-prefix-mark
-array-share-prefix-mark c = search needs
+array-share-prefix-mark c = search (needs, mark-few)
 
 slice-aggregate-put-bytes : tie.Need-slice-aggregate-put-bytes
-slice-aggregate-put-bytes c = search mark-long
+slice-aggregate-put-bytes c = search (needs, mark-long)
 
 put-bytes-requires : tie.Need-put-bytes-requires
 put-bytes-requires c κs = search needs

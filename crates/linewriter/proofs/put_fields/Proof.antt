@@ -1,39 +1,35 @@
--- The fields of a line: the loop has written those before j.
 use borrow.Author.Needs.{needs}
 use Prim.Native.Nat.{_≤_, _-_}
 use Rattle.decimal.specs.Held.{Wrote}
 use Rattle.decimal.proofs.Wrote.{wrote-length}
-use Rattle.line.proofs.Laid.{rule-sane}
+use Rattle.line.proofs.Laid.{below-four, rule-sane}
 use Rattle.linewriter.proofs.Fields.{fieldsTo, no-field, field-more, fields-all}
 use Rattle.linewriter.proofs.put_fields.Statement.{statement}
 use Rattle.linewriter.proofs.put_fields.Tie as tie
 
 abbrev Inv-loop : tie.InvT-loop
-Inv-loop out₀ at v rules count a₀ j₀ out a j = (j ≤ count) × Wrote out₀ out (fieldsTo j rules v) at a
+Inv-loop out₀ at count rules v a₀ j₀ out a j = (j ≤ count) × Wrote out₀ out (fieldsTo j rules v) at a
 
 abbrev μ-loop : tie.MeasureT-loop
-μ-loop out₀ at v rules count a₀ j₀ out a j = count - j
-
-layout-of-requires : tie.Need-layout-of-requires Inv-loop μ-loop
-layout-of-requires c κs = search needs
+μ-loop out₀ at count rules v a₀ j₀ out a j = count - j
 
 loop-holds : tie.Need-loop-holds Inv-loop μ-loop
 loop-holds c = (search needs, search (needs, no-field))
 
 mul-rule : tie.Need-mul-rule Inv-loop μ-loop
-mul-rule c = search needs
+mul-rule c = search (needs, below-four)
 
 array-copy-out-rule : tie.Need-array-copy-out-rule Inv-loop μ-loop
-array-copy-out-rule c = search needs
+array-copy-out-rule c = search (needs, below-four)
 
 mul-put-field : tie.Need-mul-put-field Inv-loop μ-loop
-mul-put-field c = search needs
+mul-put-field c = search (needs, below-four)
 
 array-read-put-field : tie.Need-array-read-put-field Inv-loop μ-loop
-array-read-put-field c = search needs
+array-read-put-field c = search (needs, below-four)
 
 put-field-requires : tie.Need-put-field-requires Inv-loop μ-loop
-put-field-requires c κs = search rule-sane
+put-field-requires c κs = search (needs, rule-sane)
 
 add-j : tie.Need-add-j Inv-loop μ-loop
 add-j c = search needs
@@ -48,7 +44,7 @@ same-length : tie.Need-same-length Inv-loop μ-loop
 same-length c = search (needs, wrote-length)
 
 returns : tie.Need-returns Inv-loop μ-loop
-returns c = search fields-all
+returns c = search (needs, fields-all)
 
 pub put-fields-spec : {M : Type 1} → statement M
 put-fields-spec =
@@ -56,7 +52,6 @@ put-fields-spec =
     (tie.spec
     Inv-loop
     μ-loop
-    layout-of-requires
     loop-holds
     mul-rule
     array-copy-out-rule
