@@ -6,15 +6,15 @@ use native.Mathlib.Numerals.{add-one}
 use native.Mathlib.Omega.{arith}
 use borrow.Author.Tests.{le-ltb}
 use lib.IntN.{pos, subℕ}
-use lib.ListN.{length, getD, length-take}
+use lib.ListN.{length, getD, take}
+use lib.Seq.{take-all}
 use Rattle.decimal.specs.Number.{numberText}
 use Rattle.decimal.specs.Held.{Wrote}
 use Rattle.decimal.proofs.Wrote.{wrote-none, wrote-then}
 use Rattle.grammar.specs.Line.{fieldsText}
 use Rattle.line.specs.declared.Rule.{Rule as HeldRule}
 use Rattle.line.specs.Held.{lowered, loweredAll}
-use Rattle.line.specs.Layout.{markOf, rulesOf, upsOf, chain, blankRule, formOf, valuesOf, Sane, Laid}
-use Rattle.line.proofs.Laid.{few}
+use Rattle.line.specs.Layout.{markOf, chain, blankRule, formOf, valuesOf}
 
 -- ---- one field
 
@@ -26,14 +26,8 @@ lowered-sub (suc u) v = refl
 abbrev pub fieldText : HeldRule → ℕ → List ℕ
 fieldText r v = markOf r ++ numberText (lowered (r .up) v)
 
-pub mark-few : (r : HeldRule) → Sane r → r .size ≤ 4
-mark-few r s = s .name
-
-pub mark-long : (r : HeldRule) → Sane r → length (r .mark) ≡ 4 → r .size ≡ length (markOf r)
-mark-long r s l = let n = s .name in rw length-take (omega arith)
-
-pub field-written : (r : HeldRule) (b m a : List ℕ) (at k n v : ℕ) → length b < 2 ^ 64 → Wrote b m (markOf r) at k → Wrote m a (numberText (subℕ v (r .up))) k n → Wrote b a (fieldText r v) at n
-field-written r b m a at k n v h p q = rw (lowered-sub (r .up) v) (wrote-then b m a _ _ at k n h p q)
+pub field-written : (mark b m a : List ℕ) (size at k n u v : ℕ) → length b < 2 ^ 64 → Wrote b m (take size mark) at k → Wrote m a (numberText (subℕ v u)) k n → Wrote b a (take size mark ++ numberText (lowered u v)) at n
+field-written mark b m a size at k n u v h p q = rw (lowered-sub u v) (wrote-then b m a _ _ at k n h p q)
 
 -- ---- one more field
 
@@ -52,11 +46,14 @@ pub no-field : (rs : List HeldRule) (vs b : List ℕ) (at : ℕ) → at < 2 ^ 64
 unfolding fieldsText chain
 no-field rs vs b at h = wrote-none b at (omega arith)
 
-module _ (n j : ℕ) (rs : List HeldRule) (vs : List ℕ) (ok : Laid n rs) (all : length rs ≡ 4) (b a : List ℕ) (at : ℕ) where
-  pub field-more : (m : List ℕ) (k r : ℕ) → length b < 2 ^ 64 → length vs ≡ 4 → j < n → Wrote b m (fieldsTo j rs vs) at k → Wrote m a (fieldText (getD rs j blankRule) (getD vs j 0)) k r → Wrote b a (fieldsTo (j + 1) rs vs) at r
-  field-more m k r f l h p q =
-      let m = few n rs ok all in
-      rw (add-one, fields-snoc j rs vs (omega arith) (omega arith)) (wrote-then b _ a _ _ at k r f p q)
+module _ (j : ℕ) (rs : List HeldRule) (vs b a : List ℕ) (at : ℕ) (all : length rs ≡ 4) where
+  pub field-more : (m : List ℕ) (k r : ℕ) → length b < 2 ^ 64 → length vs ≡ 4 → j < 4 → Wrote b m (fieldsTo j rs vs) at k → Wrote m a (fieldText (getD rs j blankRule) (getD vs j 0)) k r → Wrote b a (fieldsTo (j + 1) rs vs) at r
+  field-more m k r f l h p q = rw (add-one, fields-snoc j rs vs (omega arith) (omega arith)) (wrote-then b m a _ _ at k r f p q)
 
-  pub fields-all : (r : ℕ) → j ≤ n → n ≤ j → Wrote b a (fieldsTo j rs vs) at r → Wrote b a (fieldsText (formOf n rs) (valuesOf n rs vs)) at r
-  fields-all r f g p = let e : n ≡ j = omega arith in rw e p
+  module _ (n r : ℕ) (few : j ≤ n) (p : Wrote b a (fieldsTo j rs vs) at r) where
+    pub fields-counted : n ≤ j → Wrote b a (fieldsText (formOf n rs) (valuesOf n rs vs)) at r
+    fields-counted h = let e : n ≡ j = omega arith in rw e p
+
+    -- past the four rules there is no more
+    pub fields-all : 4 ≤ j → Wrote b a (fieldsText (formOf n rs) (valuesOf n rs vs)) at r
+    fields-all h = rw (take-all n rs (omega arith), ← take-all j rs (omega arith)) p

@@ -9,7 +9,7 @@ ghost use Rattle.decimal.specs.Held.{Wrote};
 ghost use Rattle.grammar.specs.Line.{fieldsText};
 ghost use lib.ListN.{take};
 ghost use Rattle.line.specs.Held.{lowered};
-ghost use Rattle.line.specs.Layout.{markOf, formOf, valuesOf, Sane, Laid};
+ghost use Rattle.line.specs.Layout.{formOf, valuesOf};
 ghost use Rattle.linewriter.specs.LineText.{lineText};
 ghost use Rattle.linewriter.specs.Shown.{shownOf};
 
@@ -24,55 +24,56 @@ pub fn shown(count: usize, capacity: usize) -> usize
     }
 }
 
-// Writes the bytes of a spelling, the first `size` of those given, from `at` on, as far as the buffer goes, and answers the place after them.
-fn put_word(out: &mut [u8], at: usize, bytes: [u8; 5], size: usize) -> usize
-    ensures { λ r. ⌜ Wrote (now (out .entry)) (now (out .exit)) (take size bytes) at r ⌝ }
+// Writes the first `size` of the bytes, or all where there are fewer, from `at` on, as far as the buffer goes, and answers the place after them.
+fn put_first(out: &mut [u8], at: usize, bytes: &[u8], size: usize) -> usize
+    ensures { λ r. ⌜ Wrote (now (out .entry)) (now (out .exit)) (take size (now (bytes .entry))) at r ⌝ }
 {
-    if 5 < size {
-        return decimal::put_bytes(out, at, &bytes);
+    if bytes.len() < size {
+        return decimal::put_bytes(out, at, bytes);
     }
     decimal::put_bytes(out, at, &bytes[..size])
 }
 
-// The same for a field: its name between two commas, then its value v, as held.
-fn put_field(out: &mut [u8], at: usize, rule: Rule, v: u64) -> usize
-    requires { ⌜ Sane rule ⌝ }
-    ensures { λ r. ⌜ Wrote (now (out .entry)) (now (out .exit)) (markOf rule ++ numberText (lowered (rule .up) v)) at r ⌝ }
+// The same for the first `size` bytes of a spelling.
+fn put_word(out: &mut [u8], at: usize, bytes: [u8; 5], size: usize) -> usize
+    ensures { λ r. ⌜ Wrote (now (out .entry)) (now (out .exit)) (take size bytes) at r ⌝ }
 {
-    let mark = rule.mark;
-    let size = rule.size;
-    let a = decimal::put_bytes(out, at, &mark[..size]);
-    decimal::put_number(out, a, v, rule.up)
+    put_first(out, at, &bytes, size)
+}
+
+// The same for a field: the first `size` bytes of its mark, then its value v, held `up` higher.
+fn put_field(out: &mut [u8], at: usize, mark: [u8; 4], size: usize, up: u64, v: u64) -> usize
+    ensures { λ r. ⌜ Wrote (now (out .entry)) (now (out .exit)) (take size mark ++ numberText (lowered up v)) at r ⌝ }
+{
+    let a = put_first(out, at, &mark, size);
+    decimal::put_number(out, a, v, up)
 }
 
 // The same for the first `count` fields with the values v, as held.
 fn put_fields(out: &mut [u8], at: usize, count: usize, rules: [Rule; 4], v: [u64; 4]) -> usize
-    requires { ⌜ Laid count rules ⌝ }
     ensures { λ r. ⌜ Wrote (now (out .entry)) (now (out .exit)) (fieldsText (formOf count rules) (valuesOf count rules v)) at r ⌝ }
 {
     let mut a = at;
     let mut j: usize = 0;
-    while j < count {
+    while j < 4 {
+        if count <= j {
+            return a;
+        }
         let rule = rules[j];
-        a = put_field(out, a, rule, v[j]);
+        let mark = rule.mark;
+        a = put_field(out, a, mark, rule.size, rule.up, v[j]);
         j += 1;
     }
     a
 }
 
 // Writes the line with that word, that layout and the values v, as held, from `at` on, as far as the buffer goes, and answers the place after it.
-// Nothing is written for a layout beyond the limits.
 pub fn put_line(out: &mut [u8], at: usize, word: Spelling, layout: Layout, v: [u64; 4]) -> usize
-    ensures { λ r. ⌜ Wrote (now (out .entry)) (now (out .exit)) (lineText word (layout .count) (layout .rules) v) at r ⌝ }
+    ensures { λ r. ⌜ Wrote (now (out .entry)) (now (out .exit)) (lineText word layout v) at r ⌝ }
 {
     let bytes = word.bytes;
-    let size = word.size;
-    let count = layout.count;
     let rules = layout.rules;
-    if !line::is_layout(count, rules) {
-        return at;
-    }
-    let a = put_word(out, at, bytes, size);
-    let b = put_fields(out, a, count, rules, v);
+    let a = put_word(out, at, bytes, word.size);
+    let b = put_fields(out, a, layout.count, rules, v);
     decimal::put_bytes(out, b, b"\n")
 }
