@@ -13,3 +13,4 @@ pub mod Left
 pub mod Fit
 pub mod Entry
 pub mod OneLine
+pub mod Lengths

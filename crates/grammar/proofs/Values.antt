@@ -78,7 +78,7 @@ module _ {W : Type 0} (d : Words W) where
   grows w vs q e h = rw (e, h, q)
 
 -- each value passes the test of its field
-abbrev Passes : Sort → Value → Type 0
+abbrev pub Passes : Sort → Value → Type 0
 Passes (numbers r) (number z) = isWithin r z ≡ true
 Passes (numbers r) (string s) = ⊥
 Passes (numbers r) absent = ⊥
