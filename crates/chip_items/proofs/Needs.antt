@@ -1,0 +1,56 @@
+-- Tests one after the other, in the form of the needs of the functions that make them.
+use mathlib.Core.Path.{_≡_, refl, sym, ap, _∙_}
+use mathlib.Core.Bool.{Bool, true, false, not}
+use mathlib.Core.List.{List}
+use Prim.Native.Nat.{ℕ, zero, suc, _-_, _≤_, _<_}
+use native.Mathlib.Omega.{arith}
+use lib.Dec.{leb, ltb, eqb}
+use lib.ListN.{getD}
+use borrow.Author.Tests.{le-leb, lt-leb, lt-ltb, le-ltb, not-true, not-false}
+use Rattle.model.specs.declared.Net.{Net as HeldNet}
+use Rattle.model.specs.Meaning.{blankNet}
+use Rattle.model.specs.Made.{Made}
+use Rattle.grammar.specs.Steps.{need}
+use Rattle.chip_items.specs.Tests.{isMade, bareBefore}
+
+module _ (no more : ℕ) where
+  -- a constructor answers s, which means a thing or none
+  module _ {R A : Type 0} (meant : R → Made A) (m : Made A) (r s : R) (e : meant r ≡ m) (q : r ≡ s) where
+    is-made : isMade m ≡ isMade (meant s)
+    is-made = ap isMade (sym e ∙ ap meant q)
+
+    pub made-fails : isMade (meant s) ≡ false → no ≡ need (isMade m) no more
+    made-fails f = rw (is-made, f)
+
+    pub made-rest : (x : ℕ) → isMade (meant s) ≡ true → x ≡ more → x ≡ need (isMade m) no more
+    made-rest x f g = rw (is-made, f) g
+
+  module _ (p r : Bool) (e : r ≡ p) where
+    pub need-fails : not r ≡ true → no ≡ need p no more
+    need-fails h = rw (← e, not-true r h)
+
+    pub need-rest : (x : ℕ) → not r ≡ false → x ≡ more → x ≡ need p no more
+    need-rest x h f = rw (← e, not-false r h) f
+
+    pub bare-fails : r ≡ true → no ≡ need (not p) no more
+    bare-fails h = rw (← e, h)
+
+    pub bare-rest : (x : ℕ) → r ≡ false → x ≡ more → x ≡ need (not p) no more
+    bare-rest x h f = rw (← e, h) f
+
+  module _ (i count : ℕ) where
+    pub no-room : count ≤ i → no ≡ need (ltb i count) no more
+    no-room h = rw (le-ltb i count h)
+
+    pub room-rest : (x : ℕ) → i < count → x ≡ more → x ≡ need (ltb i count) no more
+    room-rest x h f = rw (lt-ltb i count h) f
+
+    pub no-such : count < i → no ≡ need (leb i count) no more
+    no-such h = rw (lt-leb i count h)
+
+    pub such-rest : (x : ℕ) → i ≤ count → x ≡ more → x ≡ need (leb i count) no more
+    such-rest x h f = rw (le-leb i count h) f
+
+pub net-before : (ts : List HeldNet) (j : ℕ) → (j ≡ 0 → ⊥) → eqb (getD ts (j - 1) blankNet .pins) 0 ≡ bareBefore ts j
+net-before ts zero h = absurd (h refl)
+net-before ts (suc j) h = let e : suc j - 1 ≡ j = omega arith in rw e
