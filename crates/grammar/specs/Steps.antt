@@ -5,7 +5,8 @@ use mathlib.Core.List.{List}
 use mathlib.Core.Bool.{Bool, true, false}
 use lib.Dec.{ltb}
 use lib.ListN.{length, take, drop}
-use Rattle.grammar.specs.Line.{Line, lineFeed, upTo}
+use Rattle.grammar.specs.Line.{Line, Value, got, fields, lineFeed, upTo}
+use Rattle.grammar.specs.Words.{Words}
 use Rattle.grammar.specs.Reading.{Kind, inPlace}
 
 -- a test, the number where it fails, and what follows where it passes
@@ -24,6 +25,11 @@ module _ {W S : Type 0} (k : Kind W S) (s : S) (w : W) where
   -- w passes the tests before the fields
   pub record Entered : Type 0 where
     pub clear : entryFault ≡ 0
+
+-- vs are the values that the fields of some line with the word w are read as
+pub record ReadAs {W : Type 0} (d : Words W) (w : W) (vs : List Value) : Type 0 where
+  pub bytes : List ℕ
+  pub read : fields (d .form w) bytes ≡ got vs
 
 -- the place of the first LF from a on, or the end of the text
 abbrev pub lineEnd : List ℕ → ℕ → ℕ

@@ -6,3 +6,5 @@ pub mod Range
 pub mod OneField
 pub mod AllFields
 pub mod Limits
+pub mod Find
+pub mod Layouts

@@ -68,3 +68,6 @@ module _ (bytes : List ℕ) (size : ℕ) (l : length bytes ≡ 5) where
 
   pub spelling-long : size ≤ 5 → size ≡ length (take size bytes)
   spelling-long h = rw length-take (omega arith)
+
+  pub whole-other : (s : List ℕ) (r : Bool) → 5 < size → r ≡ same s bytes → r ≡ same s (take size bytes)
+  whole-other s r h e = rw (take-all size bytes (omega arith)) e

@@ -5,6 +5,8 @@ use mathlib.Core.Path.{_≡_}
 use mathlib.Core.Bool.{Bool, true, false, _&&_}
 use lib.Dec.{leb, ltb, eqb}
 use lib.ListN.{length, take, replicate}
+use lib.IntN.{pos, natAbs}
+use lib.Signed.{leZ}
 use Rattle.model.specs.Limits.{Range}
 use Rattle.model.specs.Meaning.{pinUp}
 use Rattle.model.specs.Held.{filled, raised}
@@ -69,6 +71,31 @@ blankRule = record { mark = []; size = 0; up = 0; least = 0; most = 0 }
 -- the fields rs, then none up to four
 abbrev pub laidOut : List HeldRule → Layout
 laidOut rs = record { count = length rs; rules = filled 4 noRule rs }
+
+-- how much higher the numbers of a range are held, so that none is below 0
+abbrev pub upOf : Range → ℕ
+upOf r = elim (leZ (pos 0) (r .least)) [ true ↦ 0 | false ↦ natAbs (r .least) ]
+
+-- a field with that mark and a number of that range
+abbrev pub numberRule : List ℕ → Range → HeldRule
+numberRule m r = record { mark = filled 4 0 m; size = length m; up = upOf r; least = raised (upOf r) (r .least); most = raised (upOf r) (r .most) }
+
+abbrev pub heldRule : List ℕ → Sort → HeldRule
+heldRule m (numbers r) = numberRule m r
+heldRule m (strings set lo hi) = noRule
+
+-- the fields of a form without choices
+abbrev pub heldRules : Form → List HeldRule
+heldRules over = []
+heldRules (one r f) = heldRule (r .mark) (r .sort) ∷ heldRules f
+heldRules (either r f g) = heldRule (r .mark) (r .sort) ∷ heldRules f
+
+abbrev pub layoutFor : Form → Layout
+layoutFor f = laidOut (heldRules f)
+
+-- the values that the numbers vs, as held, are in a line of the form
+abbrev pub valuesIn : Form → List ℕ → List Value
+valuesIn f vs = valuesOf (layoutFor f .count) (layoutFor f .rules) vs
 
 -- ---- which layouts can be read and written
 

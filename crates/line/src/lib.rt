@@ -3,12 +3,13 @@ use decimal::Number;
 use model::Pin;
 use model::Refusal;
 ghost use mathlib.Core.Path.{_≡_};
+ghost use mathlib.Core.List.{[], _∷_};
 ghost use Prim.Native.Nat.{_<_, _≤_};
 ghost use lib.ListN.{length, take, drop};
 ghost use Rattle.grammar.specs.Line.{upTo};
 ghost use Rattle.grammar.specs.Steps.{lineEnd};
 ghost use Rattle.grammar.specs.Words.{same};
-ghost use Rattle.line.specs.Layout.{shortRule, noRule, Sane, isSane, isLayout, Laid, FieldsOk};
+ghost use Rattle.line.specs.Layout.{shortRule, noRule, laidOut, Sane, isSane, isLayout, Laid, FieldsOk};
 ghost use Rattle.line.specs.Steps.{Starts, ifInRange, within, FieldOk};
 
 // The spelling of a word: five bytes, and how many of them are the word's; the others are 0.
@@ -107,6 +108,16 @@ pub fn spells(bytes: [u8; 5], size: usize, s: &[u8]) -> bool
     same_bytes(&bytes[..size], s)
 }
 
+// Whether two spellings, the first bytes of those given, are the same.
+pub fn same_spelling(a: [u8; 5], n: usize, b: [u8; 5], m: usize) -> bool
+    ensures { λ r. ⌜ r ≡ same (take n a) (take m b) ⌝ }
+{
+    if 5 < m {
+        return spells(a, n, &b);
+    }
+    spells(a, n, &b[..m])
+}
+
 // A field whose name is the byte `name`.
 pub fn short_rule(name: u8, up: u64, least: u64, most: u64) -> Rule
     ensures { λ r. ⌜ r ≡ shortRule name up least most ⌝ }
@@ -130,6 +141,27 @@ pub fn no_rule() -> Rule
         up: 0,
         least: 0,
         most: 0,
+    }
+}
+
+// The layout of a line with one field, and of a line with none.
+pub fn one_field(rule: Rule) -> Layout
+    ensures { λ r. ⌜ r ≡ laidOut (rule ∷ []) ⌝ }
+{
+    let none = no_rule();
+    Layout {
+        count: 1,
+        rules: [rule, none, none, none],
+    }
+}
+
+pub fn no_fields() -> Layout
+    ensures { λ r. ⌜ r ≡ laidOut [] ⌝ }
+{
+    let none = no_rule();
+    Layout {
+        count: 0,
+        rules: [none, none, none, none],
     }
 }
 

@@ -1,0 +1,224 @@
+// The words of chips in code: which word some bytes spell, which word may follow which, and how a line is spelled and laid out.
+use chip::ChipWord;
+use line::Layout;
+use line::Spelling;
+use model::Die;
+use model::Fix;
+use model::Mac;
+use model::Net;
+use model::Pin;
+ghost use mathlib.Core.Path.{_≡_};
+ghost use mathlib.Core.List.{[], _∷_};
+ghost use Rattle.grammar.specs.Words.{isWord, isIn, wordIn};
+ghost use Rattle.grammar.specs.Reading.{isLast};
+ghost use Rattle.line.specs.Held.{spelled};
+ghost use Rattle.line.specs.Layout.{shortRule, laidOut, layoutFor};
+ghost use Rattle.chip.specs.Words.{spell, form, chipWords};
+ghost use Rattle.chip.specs.Kind.{followers};
+ghost use Rattle.chip_words.specs.Meant.{foundOf, lastOf};
+
+// The word that some bytes spell, or that there is none.
+pub enum ChipFound {
+    Known(ChipWord),
+    Unknown,
+}
+
+// The word of the last line, or that there was none yet.
+pub enum ChipLast {
+    Before,
+    After(ChipWord),
+}
+
+// The spelling of a word.
+pub fn spelling_of(w: ChipWord) -> Spelling
+    ensures { λ r. ⌜ r ≡ spelled (spell w) ⌝ }
+{
+    match w {
+        ChipWord::Die => Spelling {
+            bytes: [b'd', b'i', b'e', 0, 0],
+            size: 3,
+        },
+        ChipWord::Fix => Spelling {
+            bytes: [b'f', b'i', b'x', 0, 0],
+            size: 3,
+        },
+        ChipWord::Mac => Spelling {
+            bytes: [b'm', b'a', b'c', 0, 0],
+            size: 3,
+        },
+        ChipWord::Net => Spelling {
+            bytes: [b'n', b'e', b't', 0, 0],
+            size: 3,
+        },
+        ChipWord::Pin => Spelling {
+            bytes: [b'p', b'i', b'n', 0, 0],
+            size: 3,
+        },
+        ChipWord::End => Spelling {
+            bytes: [b'e', b'n', b'd', 0, 0],
+            size: 3,
+        },
+    }
+}
+
+// Whether two words are the same.
+pub fn same_word(a: ChipWord, b: ChipWord) -> bool
+    ensures { λ r. ⌜ r ≡ isWord chipWords a b ⌝ }
+{
+    let p = spelling_of(a);
+    let q = spelling_of(b);
+    let first = p.bytes;
+    let other = q.bytes;
+    line::same_spelling(first, p.size, other, q.size)
+}
+
+// The first of the words that s spells.
+fn word_in(s: &[u8], words: [ChipWord; 6]) -> ChipFound
+    ensures { λ r. ⌜ foundOf r ≡ wordIn chipWords words (now (s .entry)) ⌝ }
+{
+    let mut i: usize = 0;
+    while i < 6 {
+        let w = words[i];
+        let p = spelling_of(w);
+        let bytes = p.bytes;
+        if line::spells(bytes, p.size, s) {
+            return ChipFound::Known(w);
+        }
+        i += 1;
+    }
+    ChipFound::Unknown
+}
+
+// The word that s spells.
+pub fn word_of(s: &[u8]) -> ChipFound
+    ensures { λ r. ⌜ foundOf r ≡ wordIn chipWords (chipWords .all) (now (s .entry)) ⌝ }
+{
+    word_in(
+        s,
+        [
+            ChipWord::Die,
+            ChipWord::Fix,
+            ChipWord::Mac,
+            ChipWord::Net,
+            ChipWord::Pin,
+            ChipWord::End,
+        ],
+    )
+}
+
+// Whether w is among the words.
+fn is_in(w: ChipWord, words: [ChipWord; 4]) -> bool
+    ensures { λ r. ⌜ r ≡ isIn chipWords w words ⌝ }
+{
+    let mut i: usize = 0;
+    while i < 4 {
+        let v = words[i];
+        if same_word(w, v) {
+            return true;
+        }
+        i += 1;
+    }
+    false
+}
+
+// Place: whether w may stand after the last word. (Where fewer than four may, one of them is named again.)
+pub fn may_follow(last: ChipLast, w: ChipWord) -> bool
+    ensures { λ r. ⌜ r ≡ isIn chipWords w (followers (lastOf last)) ⌝ }
+{
+    let ChipLast::After(v) = last else {
+        return same_word(w, ChipWord::Die);
+    };
+    match v {
+        ChipWord::Die => is_in(
+            w,
+            [ChipWord::Fix, ChipWord::Mac, ChipWord::Net, ChipWord::End],
+        ),
+        ChipWord::Fix => is_in(
+            w,
+            [ChipWord::Fix, ChipWord::Mac, ChipWord::Net, ChipWord::End],
+        ),
+        ChipWord::Mac => is_in(
+            w,
+            [ChipWord::Mac, ChipWord::Net, ChipWord::End, ChipWord::End],
+        ),
+        ChipWord::Net => is_in(
+            w,
+            [ChipWord::Net, ChipWord::Pin, ChipWord::End, ChipWord::End],
+        ),
+        ChipWord::Pin => is_in(
+            w,
+            [ChipWord::Net, ChipWord::Pin, ChipWord::End, ChipWord::End],
+        ),
+        ChipWord::End => false,
+    }
+}
+
+// Whether the last line has the word w.
+pub fn is_last(last: ChipLast, w: ChipWord) -> bool
+    ensures { λ r. ⌜ r ≡ isLast chipWords (lastOf last) w ⌝ }
+{
+    let ChipLast::After(v) = last else {
+        return false;
+    };
+    same_word(v, w)
+}
+
+// The fields of a line of two sides.
+fn sides(least: u64, most: u64) -> Layout
+    ensures { λ r. ⌜ r ≡ laidOut (shortRule 119 0 least most ∷ shortRule 104 0 least most ∷ []) ⌝ }
+{
+    let w = line::short_rule(b'w', 0, least, most);
+    let h = line::short_rule(b'h', 0, least, most);
+    let none = line::no_rule();
+    Layout {
+        count: 2,
+        rules: [w, h, none, none],
+    }
+}
+
+// The fields of a fix.
+fn fix_fields() -> Layout
+    ensures { λ r. ⌜ r ≡ layoutFor (form ChipWord.Fix) ⌝ }
+{
+    let x = line::short_rule(b'x', 0, 0, Fix::CORNER_MOST);
+    let y = line::short_rule(b'y', 0, 0, Fix::CORNER_MOST);
+    let w = line::short_rule(b'w', 0, Fix::SIDE_LEAST, Fix::SIDE_MOST);
+    let h = line::short_rule(b'h', 0, Fix::SIDE_LEAST, Fix::SIDE_MOST);
+    Layout {
+        count: 4,
+        rules: [x, y, w, h],
+    }
+}
+
+// The fields of a pin; its place is held higher.
+fn pin_fields() -> Layout
+    ensures { λ r. ⌜ r ≡ layoutFor (form ChipWord.Pin) ⌝ }
+{
+    let m = line::short_rule(b'm', 0, 0, Mac::COUNT as u64);
+    let x = line::short_rule(b'x', Pin::UP, Pin::LEAST_UP, Pin::MOST_UP);
+    let y = line::short_rule(b'y', Pin::UP, Pin::LEAST_UP, Pin::MOST_UP);
+    let none = line::no_rule();
+    Layout {
+        count: 3,
+        rules: [m, x, y, none],
+    }
+}
+
+// The fields of a line with that word.
+pub fn layout_of(w: ChipWord) -> Layout
+    ensures { λ r. ⌜ r ≡ layoutFor (form w) ⌝ }
+{
+    match w {
+        ChipWord::Die => sides(Die::SIDE_LEAST, Die::SIDE_MOST),
+        ChipWord::Fix => fix_fields(),
+        ChipWord::Mac => sides(Mac::SIDE_LEAST, Mac::SIDE_MOST),
+        ChipWord::Net => line::one_field(line::short_rule(
+            b'w',
+            0,
+            Net::WEIGHT_LEAST,
+            Net::WEIGHT_MOST,
+        )),
+        ChipWord::Pin => pin_fields(),
+        ChipWord::End => line::no_fields(),
+    }
+}

@@ -1,0 +1,167 @@
+// The words of records in code: which word some bytes spell, which word may follow which, and how a line is spelled and laid out.
+use line::Layout;
+use line::Rule;
+use line::Spelling;
+use model::Mac;
+use model::Record;
+use model::Spot;
+use record::RecordWord;
+ghost use mathlib.Core.Path.{_≡_};
+ghost use Rattle.grammar.specs.Words.{isWord, isIn, wordIn};
+ghost use Rattle.grammar.specs.Reading.{isLast};
+ghost use Rattle.line.specs.Held.{spelled};
+ghost use Rattle.line.specs.Layout.{layoutFor};
+ghost use Rattle.record.specs.Words.{spell, form, recordWords};
+ghost use Rattle.record.specs.Kind.{followers};
+ghost use Rattle.record_words.specs.Meant.{foundOf, lastOf};
+
+// The word that some bytes spell, or that there is none.
+pub enum RecordFound {
+    Known(RecordWord),
+    Unknown,
+}
+
+// The word of the last line, or that there was none yet.
+pub enum RecordLast {
+    Before,
+    After(RecordWord),
+}
+
+// The spelling of a word.
+pub fn spelling_of(w: RecordWord) -> Spelling
+    ensures { λ r. ⌜ r ≡ spelled (spell w) ⌝ }
+{
+    match w {
+        RecordWord::Least => Spelling {
+            bytes: [b'l', b'e', b'a', b's', b't'],
+            size: 5,
+        },
+        RecordWord::None => Spelling {
+            bytes: [b'n', b'o', b'n', b'e', 0],
+            size: 4,
+        },
+        RecordWord::At => Spelling {
+            bytes: [b'a', b't', 0, 0, 0],
+            size: 2,
+        },
+        RecordWord::Done => Spelling {
+            bytes: [b'd', b'o', b'n', b'e', 0],
+            size: 4,
+        },
+    }
+}
+
+// Whether two words are the same.
+pub fn same_word(a: RecordWord, b: RecordWord) -> bool
+    ensures { λ r. ⌜ r ≡ isWord recordWords a b ⌝ }
+{
+    let p = spelling_of(a);
+    let q = spelling_of(b);
+    let first = p.bytes;
+    let other = q.bytes;
+    line::same_spelling(first, p.size, other, q.size)
+}
+
+// The first of the words that s spells.
+fn word_in(s: &[u8], words: [RecordWord; 4]) -> RecordFound
+    ensures { λ r. ⌜ foundOf r ≡ wordIn recordWords words (now (s .entry)) ⌝ }
+{
+    let mut i: usize = 0;
+    while i < 4 {
+        let w = words[i];
+        let p = spelling_of(w);
+        let bytes = p.bytes;
+        if line::spells(bytes, p.size, s) {
+            return RecordFound::Known(w);
+        }
+        i += 1;
+    }
+    RecordFound::Unknown
+}
+
+// The word that s spells.
+pub fn word_of(s: &[u8]) -> RecordFound
+    ensures { λ r. ⌜ foundOf r ≡ wordIn recordWords (recordWords .all) (now (s .entry)) ⌝ }
+{
+    word_in(
+        s,
+        [
+            RecordWord::Least,
+            RecordWord::None,
+            RecordWord::At,
+            RecordWord::Done,
+        ],
+    )
+}
+
+// Whether w is among the words.
+fn is_in(w: RecordWord, words: [RecordWord; 2]) -> bool
+    ensures { λ r. ⌜ r ≡ isIn recordWords w words ⌝ }
+{
+    let mut i: usize = 0;
+    while i < 2 {
+        let v = words[i];
+        if same_word(w, v) {
+            return true;
+        }
+        i += 1;
+    }
+    false
+}
+
+// Place: whether w may stand after the last word. (Where fewer than two may, one of them is named again.)
+pub fn may_follow(last: RecordLast, w: RecordWord) -> bool
+    ensures { λ r. ⌜ r ≡ isIn recordWords w (followers (lastOf last)) ⌝ }
+{
+    let RecordLast::After(v) = last else {
+        return is_in(w, [RecordWord::Least, RecordWord::None]);
+    };
+    match v {
+        RecordWord::Least => is_in(w, [RecordWord::At, RecordWord::Done]),
+        RecordWord::None => same_word(w, RecordWord::Done),
+        RecordWord::At => is_in(w, [RecordWord::At, RecordWord::Done]),
+        RecordWord::Done => false,
+    }
+}
+
+// Whether the last line has the word w.
+pub fn is_last(last: RecordLast, w: RecordWord) -> bool
+    ensures { λ r. ⌜ r ≡ isLast recordWords (lastOf last) w ⌝ }
+{
+    let RecordLast::After(v) = last else {
+        return false;
+    };
+    same_word(v, w)
+}
+
+// The fields of a macro's corner.
+fn at_fields() -> Layout
+    ensures { λ r. ⌜ r ≡ layoutFor (form RecordWord.At) ⌝ }
+{
+    let m = line::short_rule(b'm', 0, 1, Mac::COUNT as u64);
+    let x = line::short_rule(b'x', 0, 0, Spot::MOST);
+    let y = line::short_rule(b'y', 0, 0, Spot::MOST);
+    let none = line::no_rule();
+    Layout {
+        count: 3,
+        rules: [m, x, y, none],
+    }
+}
+
+// The fields of a line with that word.
+pub fn layout_of(w: RecordWord) -> Layout
+    ensures { λ r. ⌜ r ≡ layoutFor (form w) ⌝ }
+{
+    match w {
+        RecordWord::Least => line::one_field(Rule {
+            mark: [44, b'w', b'l', 44],
+            size: 4,
+            up: 0,
+            least: 0,
+            most: Record::LENGTH_MOST,
+        }),
+        RecordWord::None => line::no_fields(),
+        RecordWord::At => at_fields(),
+        RecordWord::Done => line::no_fields(),
+    }
+}
