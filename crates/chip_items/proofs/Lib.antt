@@ -1,2 +1,4 @@
 pub mod Needs
 pub mod Tests
+pub mod NetTests
+pub mod ItemsTests

@@ -8,23 +8,25 @@ use lib.Dec.{leb, ltb, eqb}
 use lib.ListN.{getD}
 use borrow.Author.Tests.{le-leb, lt-leb, lt-ltb, le-ltb, not-true, not-false}
 use Rattle.model.specs.declared.Net.{Net as HeldNet}
+use Rattle.model.specs.declared.Chip.{Chip as HeldChip}
 use Rattle.model.specs.Meaning.{blankNet}
 use Rattle.model.specs.Made.{Made}
 use Rattle.grammar.specs.Steps.{need}
-use Rattle.chip_items.specs.Tests.{isMade, bareBefore}
+use Rattle.chip_items.specs.declared.Row.{Row}
+use Rattle.chip_items.specs.Tests.{isMade, bareBefore, rowFault}
+
+-- a constructor answers s, which means a thing or none
+module _ {R A : Type 0} (meant : R → Made A) (no more : ℕ) (m : Made A) (r s : R) (e : meant r ≡ m) (q : r ≡ s) where
+  is-made : isMade m ≡ isMade (meant s)
+  is-made = ap isMade (sym e ∙ ap meant q)
+
+  pub made-fails : isMade (meant s) ≡ false → no ≡ need (isMade m) no more
+  made-fails f = rw (is-made, f)
+
+  pub made-rest : (x : ℕ) → isMade (meant s) ≡ true → x ≡ more → x ≡ need (isMade m) no more
+  made-rest x f g = rw (is-made, f) g
 
 module _ (no more : ℕ) where
-  -- a constructor answers s, which means a thing or none
-  module _ {R A : Type 0} (meant : R → Made A) (m : Made A) (r s : R) (e : meant r ≡ m) (q : r ≡ s) where
-    is-made : isMade m ≡ isMade (meant s)
-    is-made = ap isMade (sym e ∙ ap meant q)
-
-    pub made-fails : isMade (meant s) ≡ false → no ≡ need (isMade m) no more
-    made-fails f = rw (is-made, f)
-
-    pub made-rest : (x : ℕ) → isMade (meant s) ≡ true → x ≡ more → x ≡ need (isMade m) no more
-    made-rest x f g = rw (is-made, f) g
-
   module _ (p r : Bool) (e : r ≡ p) where
     pub need-fails : not r ≡ true → no ≡ need p no more
     need-fails h = rw (← e, not-true r h)
@@ -54,3 +56,7 @@ module _ (no more : ℕ) where
 pub net-before : (ts : List HeldNet) (j : ℕ) → (j ≡ 0 → ⊥) → eqb (getD ts (j - 1) blankNet .pins) 0 ≡ bareBefore ts j
 net-before ts zero h = absurd (h refl)
 net-before ts (suc j) h = let e : suc j - 1 ≡ j = omega arith in rw e
+
+-- the fault of an item of a known list
+pub row-as : (c : HeldChip) (w v : Row) (i r : ℕ) → w ≡ v → r ≡ rowFault c v i → r ≡ rowFault c w i
+row-as c w v i r e f = rw e f

@@ -7,10 +7,13 @@ use native.Mathlib.Numerals.{add-one}
 use native.Mathlib.Omega.{arith}
 use lib.Dec.{ltb}
 use borrow.Author.Tests.{le-ltb}
+use Rattle.model.specs.declared.Chip.{Chip as HeldChip}
 use Rattle.model.specs.declared.Tested.{Tested}
 use Rattle.model.specs.declared.Tested.the-variants as tested
 use Rattle.grammar.specs.Steps.{need}
-use Rattle.chip_items.specs.Tests.{onFault, tests}
+use Rattle.chip_items.specs.declared.Row.{Row}
+use Rattle.chip_items.specs.declared.Row.the-variants as row
+use Rattle.chip_items.specs.Tests.{rowFault, onFault, tests}
 
 pub refused-at : (a line : ℕ) (more : Tested) → (a ≡ 0 → ⊥) → tested.Refused (record { no = a; line = line }) ≡ onFault a line more
 refused-at zero line more h = absurd (h refl)
@@ -32,8 +35,11 @@ module _ (a count more : ℕ) where
   pub one-more : (i : ℕ) → a ≡ need (ltb i count) 6 more → a ≡ 0 → i + 1 ≤ count
   one-more i e z = let h = in-count i e z in omega arith
 
-  pub one-pin-more : (q i : ℕ) → a ≡ need (ltb (q + i) count) 6 more → a ≡ 0 → q + (i + 1) ≤ count
-  one-pin-more q i e z = let h = in-count (q + i) e z in omega arith
+-- an item without a fault is one of the greatest number of pins
+pub row-more : (c : HeldChip) (w : Row) (q i a : ℕ) → a ≡ rowFault c w (q + i) → a ≡ 0 → q + (i + 1) ≤ 128
+row-more c row.Fixes q i a e z = let h = in-count a 8 _ (q + i) e z in omega arith
+row-more c row.Macs q i a e z = let h = in-count a 8 _ (q + i) e z in omega arith
+row-more c row.Pins q i a e z = let h = in-count a 128 _ (q + i) e z in omega arith
 
 module _ (f : ℕ → ℕ) (line n : ℕ) where
   abbrev pub LeftFrom : ℕ → Type 0

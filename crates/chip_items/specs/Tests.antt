@@ -97,13 +97,13 @@ unfoldable pub tests : (ℕ → ℕ) → ℕ → ℕ → ℕ → Tested
 tests f line i zero = tested.Passed
 tests f line i (suc n) = onFault (f i) (line + i) (tests f line (suc i) n)
 
--- the pins of one net, `count` of them from pin q on, the first on the line given
-abbrev pub pinsTested : HeldChip → ℕ → ℕ → ℕ → Tested
-pinsTested c q line count = tests (λ i. rowFault c row.Pins (q + i)) line 0 count
+-- the items of a list of the chip, `count` of them from item q on, the first on the line given
+abbrev pub rowTested : HeldChip → Row → ℕ → ℕ → ℕ → Tested
+rowTested c w q line count = tests (λ i. rowFault c w (q + i)) line 0 count
 
 -- net j on the line given, with its pins from pin q on
 abbrev pub netTested : HeldChip → ℕ → ℕ → ℕ → Tested
-netTested c line q j = onFault (netFault (c .nets) j) line (pinsTested c q (line + 1) (getD (c .nets) j blankNet .pins))
+netTested c line q j = onFault (netFault (c .nets) j) line (rowTested c row.Pins q (line + 1) (getD (c .nets) j blankNet .pins))
 
 -- the nets from net j on, t of them, with their pins from pin q on, and the last line; net 0 stands on the line `first`
 unfoldable pub netsTested : HeldChip → ℕ → ℕ → ℕ → ℕ → Tested
@@ -116,6 +116,6 @@ netsTested c first q j (suc t) =
 unfoldable pub itemsTested : HeldChip → Tested
 itemsTested c =
     onFault (dieFault (c .die)) 1
-    (thenTested (tests (rowFault c row.Fixes) 2 0 (c .k))
-    (thenTested (tests (rowFault c row.Macs) (c .k + 2) 0 (c .n))
+    (thenTested (rowTested c row.Fixes 0 2 (c .k))
+    (thenTested (rowTested c row.Macs 0 (c .k + 2) (c .n))
     (netsTested c (c .k + 2 + c .n) 0 0 (c .t))))

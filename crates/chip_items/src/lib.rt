@@ -13,10 +13,10 @@ use model::PinMade;
 use model::Refusal;
 use model::Tested;
 ghost use mathlib.Core.Path.{_≡_};
-ghost use Prim.Native.Nat.{_+_, _≤_};
+ghost use Prim.Native.Nat.{_≤_};
 ghost use Rattle.model.specs.Limits.{mostNets, mostPins};
-ghost use Rattle.chip_items.specs.Tests.{dieFault, fixFault, macFault, bareBefore, netFault, pinFault, rowFault, tests};
-ghost use Rattle.chip_items.specs.Tests.{netTested, netsTested, itemsTested};
+ghost use Rattle.chip_items.specs.Tests.{dieFault, fixFault, macFault, bareBefore, netFault, pinFault, rowFault};
+ghost use Rattle.chip_items.specs.Tests.{rowTested, netTested, netsTested, itemsTested};
 
 // The fault of the die, or 0: range 4.
 fn die_fault(d: Die) -> usize
@@ -139,7 +139,7 @@ fn row_fault(c: Chip, row: Row, i: usize) -> usize
 // The items of a list, `count` of them from item q on, the first on the line given.
 fn test_row(c: Chip, row: Row, q: usize, count: usize, line: usize) -> Tested
     requires { ⌜ (q ≤ mostPins) × (line ≤ 200) ⌝ }
-    ensures { λ r. ⌜ r ≡ tests (λ i. rowFault c row (q + i)) line 0 count ⌝ }
+    ensures { λ r. ⌜ r ≡ rowTested c row q line count ⌝ }
 {
     let mut i: usize = 0;
     while i < count {

@@ -1,50 +1,42 @@
+use Rattle.chip_items.proofs.Tests.{LeftFrom, none-tested, item-refused, item-passed, all-tested, row-more}
+use Prim.Native.Nat.{_+_, _-_, _≤_}
+use Rattle.chip_items.specs.Tests.{rowFault}
+use borrow.Author.Needs.{needs}
 use Rattle.chip_items.proofs.test_row.Statement.{statement}
 use Rattle.chip_items.proofs.test_row.Tie as tie
-use Rattle.chip_items.proofs.test_row.Reads as reads
-use Rattle.chip_items.proofs.test_row.Lts as lts
-use Rattle.chip_items.proofs.row_fault.Reads as row-fault-reads
 
 abbrev Inv-loop : tie.InvT-loop
-Inv-loop c row q count line i₀ i = ?
+Inv-loop c row q count line i₀ i = (i ≤ count) × (q + i ≤ 128) × LeftFrom (λ x. rowFault c row (q + x)) line count i
 
 abbrev μ-loop : tie.MeasureT-loop
-μ-loop c row q count line i₀ i = ?
+μ-loop c row q count line i₀ i = count - i
 
--- src/lib.rt:145:5
 loop-holds : tie.Need-loop-holds Inv-loop μ-loop
-loop-holds c = ?
+loop-holds c = (search needs, search needs, search none-tested)
 
--- src/lib.rt:146:36
 add-row-fault : tie.Need-add-row-fault Inv-loop μ-loop
-add-row-fault c = ?
+add-row-fault c = search needs
 
--- src/lib.rt:146:13
 row-fault-requires : tie.Need-row-fault-requires Inv-loop μ-loop
-row-fault-requires c κs = ?
+row-fault-requires c κs = search needs
 
--- src/lib.rt:148:56
 add-t10 : tie.Need-add-t10 Inv-loop μ-loop
-add-t10 c = ?
+add-t10 c = search needs
 
--- src/lib.rt:148:13
 returns : tie.Need-returns Inv-loop μ-loop
-returns c = ?
+returns c = search item-refused
 
--- src/lib.rt:150:9
 add-i : tie.Need-add-i Inv-loop μ-loop
-add-i c = ?
+add-i c = search needs
 
--- src/lib.rt:145:5
 loop-less : tie.Need-loop-less Inv-loop μ-loop
-loop-less c = ?
+loop-less c = search needs
 
--- src/lib.rt:145:5
 loop-again : tie.Need-loop-again Inv-loop μ-loop
-loop-again c = ?
+loop-again c = (search needs, search row-more, search item-passed)
 
--- src/lib.rt:140:1
 returns-2 : tie.Need-returns-2 Inv-loop μ-loop
-returns-2 c = ?
+returns-2 c = search all-tested
 
 pub test-row-spec : {M : Type 1} → statement M
 test-row-spec =
