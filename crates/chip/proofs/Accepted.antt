@@ -12,7 +12,7 @@ use Rattle.grammar.specs.Reading.{Last, before, after, isLast, next, accepted, 
 use Rattle.grammar.proofs.Words.{is-word-equal}
 use Rattle.grammar.proofs.Items.{Formed, WellFormed, itemStep, runItems, no-refusal, check-next, onward-accepted, items-read, read-text-lines}
 use Rattle.grammar.proofs.Run.{step-passed}
-use Rattle.chip.specs.Kind.{Part, start, counts, room, pinned, chipKind}
+use Rattle.chip.specs.Kind.{Part, start, counts, countsOf, room, pinned, chipKind}
 use Rattle.grammar.specs.Words.{same}
 use Rattle.chip.specs.Words.{chipWords}
 use Rattle.chip.specs.Text.{Item, readChip}
@@ -29,7 +29,7 @@ sound-step s s′ i f e v =
     let w : ChipWord = i .word in
     let p = step-passed chipKind s s′ i f e in
     let d = check-next (inPlace chipKind s w) 5 _ s′ e in
-    let g = check-next (room counts (s .chip) w) 6 _ s′ (d .1) in
+    let g = check-next (room counts (countsOf (s .chip)) w) 6 _ s′ (d .1) in
     let h = check-next (pinned (s .last) w) 7 _ s′ (g .1) in
     sound-add s s′ v w (i .values) (item-ranges i f (p .within)) (p .in-place) (g .0) (h .0) (p .added)
 

@@ -16,7 +16,7 @@ use Rattle.grammar.specs.Words.{same, isWord, isIn, size}
 use Rattle.grammar.specs.Reading.{Last, before, after, isLast, next}
 use Rattle.grammar.proofs.Items.{check-next}
 use Rattle.chip.specs.Words.{chipWords}
-use Rattle.chip.specs.Kind.{Part, start, followers, counts, room, pinned, pinCount, fixInDie, clearOf, fixOf, macOf, netOf, pinOf, add}
+use Rattle.chip.specs.Kind.{Part, start, followers, counts, countsOf, room, pinned, pinCount, fixInDie, clearOf, fixOf, macOf, netOf, pinOf, add}
 use Rattle.chip.specs.Valid.{Between, ValidFix, ValidMac}
 use Rattle.chip.proofs.LineValues.{Ranges, die-valid, fix-valid, mac-valid, weight-valid, pin-valid}
 use Rattle.chip.proofs.NetsRead.{NetsRead, each-snoc, count-net, count-pin, length-pin, nets-more, net-read, pin-read}
@@ -68,7 +68,7 @@ module _ (s s′ : Part) (v : Sound s) where
   all-valid : (not (isLast chipWords (s .last) word.Net) || false) ≡ true → NetsRead (length (s .chip .macs)) false (s .chip .nets)
   all-valid e = rw (no-net (isLast chipWords (s .last) word.Net) e) at (v .nets)
 
-  pub sound-add : (w : ChipWord) (vs : List Value) → Ranges w vs → isIn chipWords w (followers (s .last)) ≡ true → room counts (s .chip) w ≡ true → pinned (s .last) w ≡ true → add s w vs ≡ next s′ → Sound s′
+  pub sound-add : (w : ChipWord) (vs : List Value) → Ranges w vs → isIn chipWords w (followers (s .last)) ≡ true → room counts (countsOf (s .chip)) w ≡ true → pinned (s .last) w ≡ true → add s w vs ≡ next s′ → Sound s′
   unfolding same
   sound-add word.Die vs r p h q a = sound-next a (record { die = λ e. die-valid vs r; fixCount = v .fixCount; macCount = v .macCount; netCount = v .netCount; pins = v .pins; fix = v .fix; mac = v .mac; nets = all-valid q })
   sound-add word.Fix vs r p h q a =

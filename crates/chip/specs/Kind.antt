@@ -52,13 +52,17 @@ unfoldable pub pinCount : List Net → ℕ
 pinCount [] = 0
 pinCount (t ∷ ts) = length (t .pins) + pinCount ts
 
--- there is room for one more of the kind
-abbrev pub room : Counts → Chip → ChipWord → Bool
+-- those that a chip has
+abbrev pub countsOf : Chip → Counts
+countsOf c = record { fixes = length (c .fixes); macs = length (c .macs); nets = length (c .nets); pins = pinCount (c .nets) }
+
+-- there is room for one more of the word's kind, beside c of at most n
+abbrev pub room : Counts → Counts → ChipWord → Bool
 room n c word.Die = true
-room n c word.Fix = ltb (length (c .fixes)) (n .fixes)
-room n c word.Mac = ltb (length (c .macs)) (n .macs)
-room n c word.Net = ltb (length (c .nets)) (n .nets)
-room n c word.Pin = ltb (pinCount (c .nets)) (n .pins)
+room n c word.Fix = ltb (c .fixes) (n .fixes)
+room n c word.Mac = ltb (c .macs) (n .macs)
+room n c word.Net = ltb (c .nets) (n .nets)
+room n c word.Pin = ltb (c .pins) (n .pins)
 room n c word.End = true
 
 -- the net above, if the last line is one, has a pin: this line is a pin
@@ -144,7 +148,7 @@ kindOf n = record {
   words = chipWords;
   mostBytes = mostBytes;
   followers = λ s. followers (s .last);
-  hasRoom = λ s w. room n (s .chip) w;
+  hasRoom = λ s w. room n (countsOf (s .chip)) w;
   hasPin = λ s w. pinned (s .last) w;
   add = add;
   complete = λ s. isLast chipWords (s .last) word.End;

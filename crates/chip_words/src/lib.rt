@@ -14,8 +14,8 @@ ghost use Rattle.grammar.specs.Reading.{isLast};
 ghost use Rattle.line.specs.Held.{spelled};
 ghost use Rattle.line.specs.Layout.{shortRule, laidOut, layoutFor};
 ghost use Rattle.chip.specs.Words.{spell, form, chipWords};
-ghost use Rattle.chip.specs.Kind.{followers};
-ghost use Rattle.chip_words.specs.Meant.{foundOf, lastOf};
+ghost use Rattle.chip.specs.Kind.{followers, counts, room, pinned};
+ghost use Rattle.chip_words.specs.Meant.{foundOf, lastOf, countsIn, chipEntry};
 
 // The word that some bytes spell, or that there is none.
 pub enum ChipFound {
@@ -27,6 +27,14 @@ pub enum ChipFound {
 pub enum ChipLast {
     Before,
     After(ChipWord),
+}
+
+// How many fixes, macros, nets and pins have been read.
+pub struct Counts {
+    pub fixes: usize,
+    pub macs: usize,
+    pub nets: usize,
+    pub pins: usize,
 }
 
 // The spelling of a word.
@@ -161,6 +169,49 @@ pub fn is_last(last: ChipLast, w: ChipWord) -> bool
         return false;
     };
     same_word(v, w)
+}
+
+// Count: whether there is room for one more of the word's kind.
+fn has_room(held: Counts, w: ChipWord) -> bool
+    ensures { λ r. ⌜ r ≡ room counts (countsIn held) w ⌝ }
+{
+    match w {
+        ChipWord::Die => true,
+        ChipWord::Fix => held.fixes < Fix::COUNT,
+        ChipWord::Mac => held.macs < Mac::COUNT,
+        ChipWord::Net => held.nets < Net::COUNT,
+        ChipWord::Pin => held.pins < Pin::COUNT,
+        ChipWord::End => true,
+    }
+}
+
+// Whether the net above, if the last line is one, has a pin: this line is a pin.
+fn is_pinned(last: ChipLast, w: ChipWord) -> bool
+    ensures { λ r. ⌜ r ≡ pinned (lastOf last) w ⌝ }
+{
+    if !is_last(last, ChipWord::Net) {
+        return true;
+    }
+    same_word(w, ChipWord::Pin)
+}
+
+// The first fault of a line before its fields: place 5, count 6, net without a pin 7; or 0.
+pub fn entry_fault(last: ChipLast, held: Counts, w: ChipWord) -> usize
+    ensures { λ r. ⌜ r ≡ chipEntry (lastOf last) (countsIn held) w ⌝ }
+{
+    let placed = may_follow(last, w);
+    let room = has_room(held, w);
+    let pinned = is_pinned(last, w);
+    if !placed {
+        return 5;
+    }
+    if !room {
+        return 6;
+    }
+    if !pinned {
+        return 7;
+    }
+    0
 }
 
 // The fields of a line of two sides.
