@@ -1,32 +1,26 @@
--- The items that a count stands for, one by one: as many as the array holds, and at most one blank item after them.
+-- The items that a count stands for: as many as the array holds, and at most one blank item after them.
 use mathlib.Core.Path.{_≡_, sym}
-use mathlib.Core.List.{List, [], _∷_, _++_}
-use Prim.Native.Nat.{ℕ, zero, suc, _+_, _≤_, _<_}
-use native.Mathlib.Numerals.{add-one}
+use mathlib.Core.List.{List, [], _∷_, map}
+use Prim.Native.Nat.{ℕ, zero, suc, _-_, _≤_, _<_}
+use native.Mathlib.Decide.{decLt}
 use native.Mathlib.Omega.{arith}
-use lib.ListN.{length, getD, take, List·getD-eq-default}
-use lib.Seq.{take-all, take-suc}
+use lib.ListN.{length, getD, drop, drop-of-length-le, List·getD-eq-default}
+use lib.Seq.{drop-cons}
 use Rattle.model.specs.Meaning.{firstOf}
-use Rattle.model.proofs.FirstOf.{getD-first}
 use Rattle.linewriter.specs.Shown.{shownOf}
+use Rattle.linewriter.specs.Run.{run}
 
-module _ {A : Type 0} (z : A) where
-  pub length-first-of : (k : ℕ) (s : List A) → length (firstOf z k s) ≡ shownOf k (length s)
-  unfolding firstOf
-  length-first-of zero s = omega arith
-  length-first-of (suc k) [] = omega arith
-  length-first-of (suc k) (a ∷ s) = let q = length-first-of k s in omega arith
-
+module _ {A : Type 0} (z : A) (s : List A) where
   -- past the array there are blank items
-  pub blank-past : (s : List A) (i n : ℕ) → length s ≡ n → n ≤ i → z ≡ getD s i z
-  blank-past s i n e h = sym (List·getD-eq-default s z (rw e h))
+  pub blank-past : (i n : ℕ) → length s ≡ n → n ≤ i → z ≡ getD s i z
+  blank-past i n e h = sym (List·getD-eq-default s z (rw e h))
 
-  -- a loop over the n items that the count k stands for, of an array s of c items
-  module _ (s : List A) (k c n : ℕ) (l : length s ≡ c) (e : n ≡ shownOf k c) where
-    pub take-more : (i : ℕ) (x : A) → i < n → x ≡ getD s i z → take (i + 1) (firstOf z k s) ≡ take i (firstOf z k s) ++ (x ∷ [])
-    take-more i x h y =
-        let g = length-first-of k s in
-        rw (add-one, y, ← getD-first z k s i (omega arith)) (take-suc (firstOf z k s) i z (omega arith))
-
-    pub take-every : (i : ℕ) → n ≤ i → take i (firstOf z k s) ≡ firstOf z k s
-    take-every i h = let g = length-first-of k s in take-all i (firstOf z k s) (omega arith)
+  -- the items that the count k means, of the array from number q on
+  pub first-run : {B : Type 0} (item : A → B) (k q : ℕ) → q ≤ length s → map item (firstOf z k (drop q s)) ≡ run (λ i. item (getD s i z)) q (shownOf k (length s - q))
+  unfolding firstOf run
+  first-run item zero q h = let e : shownOf 0 (length s - q) ≡ 0 = omega arith in rw e
+  first-run item (suc k) q h = by (decLt q (length s)) (first-run item k (suc q))
+    where
+      by : Dec (q < length s) → (suc q ≤ length s → map item (firstOf z k (drop (suc q) s)) ≡ run (λ i. item (getD s i z)) (suc q) (shownOf k (length s - suc q))) → map item (firstOf z (suc k) (drop q s)) ≡ run (λ i. item (getD s i z)) q (shownOf (suc k) (length s - q))
+      by (yes l) ih = let e : shownOf (suc k) (length s - q) ≡ suc (shownOf k (length s - suc q)) = omega arith in rw (drop-cons s q z l, e, ih (omega arith))
+      by (no l) ih = let e : shownOf (suc k) (length s - q) ≡ 1 = omega arith in rw (drop-of-length-le s {i = q} (omega arith), e, List·getD-eq-default s z {n = q} (omega arith))

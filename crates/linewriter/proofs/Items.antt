@@ -1,14 +1,36 @@
 -- Lines written one after the other.
-use mathlib.Core.Path.{_≡_, refl, sym}
+use mathlib.Core.Path.{_≡_, refl, sym, ap, _∙_}
 use mathlib.Core.List.{List, [], _∷_, _++_, append-assoc, append-nil}
-use Prim.Native.Nat.{ℕ, _<_, _^_}
+use Prim.Native.Nat.{ℕ, zero, suc, _+_, _<_, _^_}
+use native.Mathlib.Numerals.{add-one}
 use native.Mathlib.Omega.{arith}
 use lib.ListN.{length}
 use Rattle.decimal.specs.Held.{Wrote}
 use Rattle.decimal.proofs.Wrote.{wrote-none, wrote-then}
 use Rattle.grammar.specs.Words.{Words, Item, itemText, itemsText}
+use Rattle.line.specs.declared.Spelling.{Spelling}
+use Rattle.line.specs.declared.Layout.{Layout}
+use Rattle.line.specs.Held.{spelled}
+use Rattle.line.specs.Layout.{formOf, layoutFor, valuesIn}
+use Rattle.line.proofs.Find.{spelled-text}
+use Rattle.linewriter.specs.LineText.{lineText}
+use Rattle.linewriter.specs.Run.{run}
+
+run-last : {A : Type 0} (f : ℕ → A) (q i : ℕ) → run f q (suc i) ≡ run f q i ++ (f (q + i) ∷ [])
+unfolding run
+run-last f q zero = let e : q ≡ q + 0 = omega arith in ap (λ (n : ℕ). f n ∷ []) e
+run-last f q (suc i) = let e : suc q + i ≡ q + suc i = omega arith in ap (λ (t : List _). f q ∷ t) (run-last f (suc q) i ∙ ap (λ (n : ℕ). run f (suc q) i ++ (f n ∷ [])) e)
 
 module _ {W : Type 0} (d : Words W) where
+  -- the line of a word whose layout is its form
+  module _ (plain : (w : W) → formOf (layoutFor (d .form w) .count) (layoutFor (d .form w) .rules) ≡ d .form w) where
+    line-is : (w : W) (vs : List ℕ) → lineText (spelled (d .spell w)) (layoutFor (d .form w)) vs ≡ itemText d (record { word = w; values = valuesIn (d .form w) vs })
+    unfolding lineText itemText
+    line-is w vs = rw (spelled-text (d .spell w), plain w)
+
+    pub item-written : (w : W) (p : Spelling) (l : Layout) (vs b a : List ℕ) (at r : ℕ) (i : Item W) → p ≡ spelled (d .spell w) → l ≡ layoutFor (d .form w) → record { word = w; values = valuesIn (d .form w) vs } ≡ i → Wrote b a (lineText p l vs) at r → Wrote b a (itemText d i) at r
+    item-written w p l vs b a at r i e f g v = rw (← g, ← line-is w vs, ← e, ← f) v
+
   pub items-append : (is js : List (Item W)) → itemsText d (is ++ js) ≡ itemsText d is ++ itemsText d js
   unfolding itemsText
   items-append [] js = refl
@@ -28,3 +50,12 @@ module _ {W : Type 0} (d : Words W) where
 
     pub then-line : (i : Item W) → Wrote m a (itemText d i) k r → Wrote b a (itemsText d (is ++ (i ∷ []))) at r
     then-line i q = items-then (i ∷ []) (items-one m a i k r q)
+
+  -- items by their numbers
+  module _ (f : ℕ → Item W) (q : ℕ) (b : List ℕ) (at : ℕ) where
+    pub run-none : at < 2 ^ 64 → Wrote b b (itemsText d (run f q 0)) at at
+    unfolding run
+    run-none h = items-none b at h
+
+    pub run-more : (m a : List ℕ) (i k r : ℕ) → length b < 2 ^ 64 → Wrote b m (itemsText d (run f q i)) at k → Wrote m a (itemText d (f (q + i))) k r → Wrote b a (itemsText d (run f q (i + 1))) at r
+    run-more m a i k r h v w = rw (add-one, run-last f q i) (then-line b m a (run f q i) at k r h v (f (q + i)) w)
