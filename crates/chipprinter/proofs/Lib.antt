@@ -1,4 +1,3 @@
-pub mod Printed
-pub mod Pins
+pub mod Values
 pub mod Nets
 pub mod Parts

@@ -1,7 +1,7 @@
 -- Lines written one after the other.
 use mathlib.Core.Path.{_≡_, refl, sym, ap, _∙_}
 use mathlib.Core.List.{List, [], _∷_, _++_, append-assoc, append-nil}
-use Prim.Native.Nat.{ℕ, zero, suc, _+_, _<_, _^_}
+use Prim.Native.Nat.{ℕ, zero, suc, _+_, _≤_, _<_, _^_}
 use native.Mathlib.Numerals.{add-one}
 use native.Mathlib.Omega.{arith}
 use lib.ListN.{length}
@@ -16,7 +16,7 @@ use Rattle.line.proofs.Find.{spelled-text}
 use Rattle.linewriter.specs.LineText.{lineText}
 use Rattle.linewriter.specs.Run.{run}
 
-run-last : {A : Type 0} (f : ℕ → A) (q i : ℕ) → run f q (suc i) ≡ run f q i ++ (f (q + i) ∷ [])
+pub run-last : {A : Type 0} (f : ℕ → A) (q i : ℕ) → run f q (suc i) ≡ run f q i ++ (f (q + i) ∷ [])
 unfolding run
 run-last f q zero = let e : q ≡ q + 0 = omega arith in ap (λ (n : ℕ). f n ∷ []) e
 run-last f q (suc i) = let e : suc q + i ≡ q + suc i = omega arith in ap (λ (t : List _). f q ∷ t) (run-last f (suc q) i ∙ ap (λ (n : ℕ). run f (suc q) i ++ (f n ∷ [])) e)
@@ -59,3 +59,6 @@ module _ {W : Type 0} (d : Words W) where
 
     pub run-more : (m a : List ℕ) (i k r : ℕ) → length b < 2 ^ 64 → Wrote b m (itemsText d (run f q i)) at k → Wrote m a (itemText d (f (q + i))) k r → Wrote b a (itemsText d (run f q (i + 1))) at r
     run-more m a i k r h v w = rw (add-one, run-last f q i) (then-line b m a (run f q i) at k r h v (f (q + i)) w)
+
+    pub run-all : (a : List ℕ) (n i r : ℕ) → i ≤ n → n ≤ i → Wrote b a (itemsText d (run f q i)) at r → Wrote b a (itemsText d (run f q n)) at r
+    run-all a n i r g h w = let e : n ≡ i = omega arith in rw e w

@@ -1,8 +1,10 @@
-use Rattle.line.specs.Held.{loweredAll}
 use Rattle.chipprinter.proofs.Parts.{chip-written}
 use borrow.Author.Needs.{needs}
 use Rattle.chipprinter.proofs.put_chip.Statement.{statement}
 use Rattle.chipprinter.proofs.put_chip.Tie as tie
+
+chip-arrays-requires : tie.Need-chip-arrays-requires
+chip-arrays-requires c κs = search needs
 
 put-blocks-requires : tie.Need-put-blocks-requires
 put-blocks-requires c κs = search needs
@@ -10,17 +12,22 @@ put-blocks-requires c κs = search needs
 put-nets-requires : tie.Need-put-nets-requires
 put-nets-requires c κs = search needs
 
-put-line-requires : tie.Need-put-line-requires
-put-line-requires c κs = search needs
+put-item-requires : tie.Need-put-item-requires
+put-item-requires c κs = search needs
 
 same-length : tie.Need-same-length
 same-length c = search needs
 
 returns : tie.Need-returns
-unfolding loweredAll
 returns c = search (needs, chip-written)
 
 pub put-chip-spec : {M : Type 1} → statement M
 put-chip-spec =
     tie.close
-    (tie.spec put-blocks-requires put-nets-requires put-line-requires same-length returns)
+    (tie.spec
+    chip-arrays-requires
+    put-blocks-requires
+    put-nets-requires
+    put-item-requires
+    same-length
+    returns)

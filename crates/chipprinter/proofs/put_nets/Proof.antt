@@ -1,19 +1,17 @@
--- The nets: the loop has written the lines of those before j, with their pins; q is the place of the next net's pins.
-use borrow.Author.Needs.{needs}
+use Rattle.chipprinter.proofs.Nets.{pinsTo, netLines, pins-none, nets-none, pins-more, net-more, nets-all}
 use mathlib.Core.Path.{_≡_}
-use Prim.Native.Nat.{_≤_, _-_}
+use Prim.Native.Nat.{_-_, _≤_}
 use Rattle.decimal.specs.Held.{Wrote}
 use Rattle.decimal.proofs.Wrote.{wrote-length}
-use Rattle.line.specs.Held.{loweredAll}
-use Rattle.chipprinter.proofs.Nets.{netsTo, pinsTo, netLines, pins-none, nets-none, pins-more, net-more, nets-all}
+use borrow.Author.Needs.{needs}
 use Rattle.chipprinter.proofs.put_nets.Statement.{statement}
 use Rattle.chipprinter.proofs.put_nets.Tie as tie
 
 abbrev Inv-loop : tie.InvT-loop
-Inv-loop out₀ at nets t pins n a₀ q₀ j₀ out a q j = (j ≤ n) × (q ≡ pinsTo j t nets) × Wrote out₀ out (netLines (netsTo j t nets) pins) at a
+Inv-loop out₀ at c nets n a₀ q₀ j₀ out a q j = (j ≤ n) × (q ≡ pinsTo c j) × Wrote out₀ out (netLines c j) at a
 
 abbrev μ-loop : tie.MeasureT-loop
-μ-loop out₀ at nets t pins n a₀ q₀ j₀ out a q j = n - j
+μ-loop out₀ at c nets n a₀ q₀ j₀ out a q j = n - j
 
 shown-requires : tie.Need-shown-requires Inv-loop μ-loop
 shown-requires c κs = search needs
@@ -24,11 +22,8 @@ loop-holds c = (search needs, search pins-none, search (needs, nets-none))
 net-at-requires : tie.Need-net-at-requires Inv-loop μ-loop
 net-at-requires c κs = search needs
 
-put-line-requires : tie.Need-put-line-requires Inv-loop μ-loop
-put-line-requires c κs = search needs
-
-put-pins-requires : tie.Need-put-pins-requires Inv-loop μ-loop
-put-pins-requires c κs = search needs
+put-net-requires : tie.Need-put-net-requires Inv-loop μ-loop
+put-net-requires c κs = search needs
 
 past-requires : tie.Need-past-requires Inv-loop μ-loop
 past-requires c κs = search needs
@@ -40,7 +35,6 @@ loop-less : tie.Need-loop-less Inv-loop μ-loop
 loop-less c = search needs
 
 loop-again : tie.Need-loop-again Inv-loop μ-loop
-unfolding loweredAll
 loop-again c = (search needs, search (needs, pins-more), search (needs, net-more))
 
 same-length : tie.Need-same-length Inv-loop μ-loop
@@ -58,8 +52,7 @@ put-nets-spec =
     shown-requires
     loop-holds
     net-at-requires
-    put-line-requires
-    put-pins-requires
+    put-net-requires
     past-requires
     add-j
     loop-less
