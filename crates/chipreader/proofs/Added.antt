@@ -33,7 +33,6 @@ use Rattle.chip.specs.declared.ChipWord.{ChipWord}
 use Rattle.chip.specs.declared.ChipWord.the-variants as word
 use Rattle.chip.specs.Words.{chipWords}
 use Rattle.chip_words.specs.declared.ChipLast.the-variants as last
-use Rattle.chip_words.specs.Meant.{lastOf}
 use Rattle.chip.specs.Kind.{chipKind, addFix, add, readTo, fixInDie, clearOf, withDie, withMac, withNet}
 use Rattle.chipreader.specs.declared.State.{State}
 use Rattle.chipreader.specs.declared.Taken.{Taken}

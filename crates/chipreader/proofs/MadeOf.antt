@@ -22,7 +22,7 @@ use Rattle.model.specs.declared.PinMade.{PinMade}
 use Rattle.model.specs.declared.PinMade.the-variants as pin
 use Rattle.model.specs.Meaning.{pinOf}
 use Rattle.model.specs.Limits.{isWithin, dieSide, fixCorner, fixSide, macSide, netWeight, pinMacro, pinPlace}
-use Rattle.model.specs.Made.{Made, made, outOfRange, ifWithin, meantDie, makeDie, meantFix, makeFix, meantMac, makeMac, meantNet, makeNet, meantPin, remakePin}
+use Rattle.model.specs.Made.{Made, outOfRange, ifWithin, meantDie, makeDie, meantFix, makeFix, meantMac, makeMac, meantNet, makeNet, meantPin, remakePin}
 use Rattle.model.proofs.Tests.{refused, kept}
 use Rattle.grammar.specs.Steps.{ReadAs}
 use Rattle.grammar.proofs.FieldsText.{fields-written}

@@ -22,11 +22,8 @@ use Rattle.model.proofs.Nets.{taken-snoc, nets-snoc, nets-kept, pins-append}
 use Rattle.grammar.specs.Reading.{Step, fault, check}
 use Rattle.grammar.specs.Steps.{Entered}
 use Rattle.chipreader.proofs.MadeOf.{the-pin}
-use Rattle.chip.specs.declared.ChipWord.{ChipWord}
 use Rattle.chip.specs.declared.ChipWord.the-variants as word
-use Rattle.chip.specs.Words.{chipWords}
 use Rattle.chip_words.specs.declared.ChipLast.the-variants as last
-use Rattle.chip_words.specs.Meant.{lastOf}
 use Rattle.chip.specs.Kind.{Part, chipKind, add, addPin, readTo, withPin}
 use Rattle.chipreader.specs.declared.State.{State}
 use Rattle.line.specs.declared.Fault.the-variants as held

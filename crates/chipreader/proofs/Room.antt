@@ -1,7 +1,7 @@
 -- The counts of what is held against those of the chip that it means.
 use mathlib.Core.Path.{_≡_, refl, _∙_}
 use mathlib.Core.List.{List, [], _∷_}
-use Prim.Native.Nat.{ℕ, _-_, _≤_}
+use Prim.Native.Nat.{ℕ, _≤_}
 use native.Mathlib.Omega.{arith}
 use lib.ListN.{length, drop, length-drop}
 use Rattle.model.specs.declared.Net.{Net}
@@ -10,7 +10,7 @@ use Rattle.model.specs.Meaning.{chipOf, netsOf, firstOf, blankFix, blankMac, bl
 use Rattle.model.specs.Held.{Holds}
 use Rattle.model.proofs.FirstOf.{length-first}
 use Rattle.model.proofs.Nets.{length-nets, length-pins}
-use Rattle.chip.specs.Kind.{Counts, countsOf, pinCount}
+use Rattle.chip.specs.Kind.{countsOf, pinCount}
 use Rattle.chipreader.specs.declared.State.{State}
 use Rattle.chipreader.specs.State.{Sound}
 
