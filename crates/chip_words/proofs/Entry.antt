@@ -1,8 +1,6 @@
 -- The tests of a line before its fields, in their order; the first fault of them is the reader's.
-use mathlib.Core.Path.{_≡_, refl, sym, _∙_}
+use mathlib.Core.Path.{_≡_, refl}
 use mathlib.Core.Bool.{Bool, true, false, not}
-use Prim.Native.Nat.{ℕ}
-use lib.Dec.{ltb}
 use borrow.Author.Tests.{not-true, not-false}
 use Rattle.grammar.specs.Words.{isWord, isIn}
 use Rattle.grammar.specs.Reading.{Last, isLast}

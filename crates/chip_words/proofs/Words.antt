@@ -6,6 +6,7 @@ use Rattle.line.specs.declared.Rule.{Rule}
 use Rattle.line.specs.declared.Layout.{Layout}
 use Rattle.line.specs.Held.{spelled}
 use Rattle.line.specs.Layout.{chain, allSane, isLayout, formOf, shortRule, laidOut, layoutFor}
+use Rattle.line.proofs.Walk.{Laying}
 use Rattle.grammar.specs.Words.{isWord, isIn}
 use Rattle.grammar.specs.Reading.{isLast, before, after}
 use Rattle.chip.specs.declared.ChipWord.{ChipWord}
@@ -30,7 +31,7 @@ net-laid w e a r p q = q ∙ rw (p, e)
 
 -- ---- the layout of a word is its form, within the limits
 
-pub chain-of : (w : ChipWord) → formOf (layoutFor (form w) .count) (layoutFor (form w) .rules) ≡ form w
+chain-of : (w : ChipWord) → formOf (layoutFor (form w) .count) (layoutFor (form w) .rules) ≡ form w
 unfolding chain
 chain-of word.Die = refl
 chain-of word.Fix = refl
@@ -39,7 +40,7 @@ chain-of word.Net = refl
 chain-of word.Pin = refl
 chain-of word.End = refl
 
-pub layout-of : (w : ChipWord) → isLayout (layoutFor (form w) .count) (layoutFor (form w) .rules) ≡ true
+layout-of : (w : ChipWord) → isLayout (layoutFor (form w) .count) (layoutFor (form w) .rules) ≡ true
 unfolding allSane
 layout-of word.Die = refl
 layout-of word.Fix = refl
@@ -47,6 +48,9 @@ layout-of word.Mac = refl
 layout-of word.Net = refl
 layout-of word.Pin = refl
 layout-of word.End = refl
+
+pub laying : (w : ChipWord) → Laying (form w)
+laying w = record { means = chain-of w; fine = layout-of w }
 
 -- ---- the last word
 

@@ -19,8 +19,6 @@ use Rattle.model.specs.declared.Net.{Net as HeldNet}
 use Rattle.model.specs.declared.NetMade.{NetMade}
 use Rattle.model.specs.declared.NetMade.the-variants as made
 use Rattle.model.specs.declared.Chip.{Chip as HeldChip}
-use Rattle.model.specs.declared.Word.{Word}
-use Rattle.model.specs.declared.Word.the-variants as word
 use Rattle.model.specs.Meaning.{Net, chipOf, firstOf, pinsOf, blankFix, blankMac, blankNet, taken}
 use Rattle.model.specs.Made.{meantDie, makeDie, meantFix, makeFix, meantMac, makeMac, meantNet, makeNet}
 use Rattle.model.specs.Held.{Holds}
@@ -28,20 +26,23 @@ use Rattle.model.specs.Limits.{mostFixes, mostMacs}
 use Rattle.model.proofs.Holding.{holds-more, holds-all, fits-in}
 use Rattle.model.proofs.FirstOf.{first-take, first-set}
 use Rattle.model.proofs.Nets.{taken-snoc, nets-snoc}
-use Rattle.grammar.specs.Words.{isWord}
+use Rattle.grammar.specs.Words.{same, isWord}
 use Rattle.grammar.specs.Steps.{Entered}
-use Rattle.grammar.proofs.Made.{the-die, the-fix, the-mac, the-net}
-use Rattle.line.specs.Held.{valuesOf}
-use Rattle.chip.specs.Kind.{chipKind, addFix, add, after, fixInDie, clearOf, withDie, withMac, withNet}
+use Rattle.chipreader.proofs.MadeOf.{the-die, the-fix, the-mac, the-net}
+use Rattle.chip.specs.declared.ChipWord.{ChipWord}
+use Rattle.chip.specs.declared.ChipWord.the-variants as word
+use Rattle.chip.specs.Words.{chipWords}
+use Rattle.chip_words.specs.declared.ChipLast.the-variants as last
+use Rattle.chip.specs.Kind.{chipKind, addFix, add, readTo, fixInDie, clearOf, withDie, withMac, withNet}
 use Rattle.chipreader.specs.declared.State.{State}
 use Rattle.chipreader.specs.declared.Taken.{Taken}
-use Rattle.chipreader.specs.State.{Sound, partOf, withFault, withChip, TakenOk}
+use Rattle.chipreader.specs.State.{Sound, partOf, chipValues, withFault, withChip, TakenOk}
 use Rattle.chipreader.proofs.Values.{heldDie, heldMac, die-values, fix-values, mac-values, net-values}
 use Rattle.chipreader.proofs.Entry.{fix-fits, mac-fits, net-fits}
 
 -- a line of a word that opens no net keeps the nets
-module _ (s : State) (sound : Sound s) (w : Word) (e : (isWord w word.Net || isWord w word.Pin) ≡ false) (d : Die) where
-  pub kept-sound : {k n : ℕ} {fs : List Fix} {ms : List Mac} → Holds blankFix mostFixes k fs → Holds blankMac mostMacs n ms → Sound (record { last = w; pins = s .pins; chip = record { die = d; k = k; fixes = fs; n = n; macs = ms; t = s .chip .t; nets = s .chip .nets; pins = s .chip .pins } })
+module _ (s : State) (sound : Sound s) (w : ChipWord) (e : (isWord chipWords w word.Net || isWord chipWords w word.Pin) ≡ false) (d : Die) where
+  pub kept-sound : {k n : ℕ} {fs : List Fix} {ms : List Mac} → Holds blankFix mostFixes k fs → Holds blankMac mostMacs n ms → Sound (record { last = last.After w; pins = s .pins; chip = record { die = d; k = k; fixes = fs; n = n; macs = ms; t = s .chip .t; nets = s .chip .nets; pins = s .chip .pins } })
   kept-sound f m = record { fixes = f; macs = m; nets = sound .nets; pins = sound .pins; counted = sound .counted; opened = λ o. absurd (false≢true (sym e ∙ o)) }
 
 -- ---- the chip with one thing more
@@ -60,36 +61,33 @@ module _ (c : HeldChip) where
   holdNet t = record { die = c .die; k = c .k; fixes = c .fixes; n = c .n; macs = c .macs; t = c .t + 1; nets = set (c .nets) (c .t) t; pins = c .pins }
 
 module _ (s : State) (v : List ℕ) (four : length v ≡ 4) (sound : Sound s) (r : Taken) (l : ℕ) where
-  pub die-added : (m : DieMade) → meantDie m ≡ makeDie (getD v 0 0) (getD v 1 0) → (d : Die) → m ≡ die.Made d → r ≡ withChip s word.Die (holdDie (s .chip) d) → TakenOk r l (add (partOf s) word.Die (valuesOf word.Die v))
-  unfolding chipOf
+  pub die-added : (m : DieMade) → meantDie m ≡ makeDie (getD v 0 0) (getD v 1 0) → (d : Die) → m ≡ die.Made d → r ≡ withChip s word.Die (holdDie (s .chip) d) → TakenOk r l (add (partOf s) word.Die (chipValues word.Die v))
+  unfolding chipOf same
   die-added m o d q e =
       rw (e, the-die (getD v 0 0) (getD v 1 0) m o d q)
       (record {
-        meant = ap (λ (d : Die). after word.Die (withDie (chipOf (s .chip)) d)) (sym (die-values v four));
-        at = refl;
+        ok = record { meant = ap (λ (d : Die). readTo word.Die (withDie (chipOf (s .chip)) d)) (sym (die-values v four)); at = refl };
         sound = kept-sound s sound word.Die refl (heldDie v) (sound .fixes) (sound .macs);
       })
 
-  pub mac-added : Entered chipKind (partOf s) word.Mac → (m : MacMade) → meantMac m ≡ makeMac (getD v 0 0) (getD v 1 0) → (a : Mac) → m ≡ mac.Made a → r ≡ withChip s word.Mac (holdMac (s .chip) a) → TakenOk r l (add (partOf s) word.Mac (valuesOf word.Mac v))
-  unfolding chipOf
+  pub mac-added : Entered chipKind (partOf s) word.Mac → (m : MacMade) → meantMac m ≡ makeMac (getD v 0 0) (getD v 1 0) → (a : Mac) → m ≡ mac.Made a → r ≡ withChip s word.Mac (holdMac (s .chip) a) → TakenOk r l (add (partOf s) word.Mac (chipValues word.Mac v))
+  unfolding chipOf same
   mac-added p m o a q e =
       rw (e, the-mac (getD v 0 0) (getD v 1 0) m o a q)
       (record {
-        meant = rw (first-set blankMac (s .chip .n) (s .chip .macs) (heldMac v) (fits-in (sound .macs) fits)) (ap (λ (m : Mac). after word.Mac (withMac (chipOf (s .chip)) m)) (sym (mac-values v four)));
-        at = refl;
+        ok = record { meant = rw (first-set blankMac (s .chip .n) (s .chip .macs) (heldMac v) (fits-in (sound .macs) fits)) (ap (λ (m : Mac). readTo word.Mac (withMac (chipOf (s .chip)) m)) (sym (mac-values v four))); at = refl };
         sound = kept-sound s sound word.Mac refl (s .chip .die) (sound .fixes) (holds-more (sound .macs) (heldMac v) fits);
       })
     where
       fits : s .chip .n < 8
       fits = mac-fits s sound p
 
-  pub net-added : Entered chipKind (partOf s) word.Net → (m : NetMade) → meantNet m ≡ makeNet (getD v 0 0) 0 → (t : HeldNet) → m ≡ made.Made t → r ≡ withChip s word.Net (holdNet (s .chip) t) → TakenOk r l (add (partOf s) word.Net (valuesOf word.Net v))
+  pub net-added : Entered chipKind (partOf s) word.Net → (m : NetMade) → meantNet m ≡ makeNet (getD v 0 0) 0 → (t : HeldNet) → m ≡ made.Made t → r ≡ withChip s word.Net (holdNet (s .chip) t) → TakenOk r l (add (partOf s) word.Net (chipValues word.Net v))
   unfolding chipOf pinsOf firstOf
   net-added p m o u q e =
       rw (e, the-net (getD v 0 0) 0 m o u q)
       (record {
-        meant = rw (one-more, nets-snoc nets net (s .chip .pins)) (ap (λ (w : ℕ). after word.Net (withNet (chipOf (s .chip)) (record { weight = w; pins = [] }))) (sym (net-values v four)));
-        at = refl;
+        ok = record { meant = rw (one-more, nets-snoc nets net (s .chip .pins)) (ap (λ (w : ℕ). readTo word.Net (withNet (chipOf (s .chip)) (record { weight = w; pins = [] }))) (sym (net-values v four))); at = refl };
         sound = record { fixes = sound .fixes; macs = sound .macs; nets = holds-more (sound .nets) net fits; pins = sound .pins; counted = ap taken one-more ∙ taken-snoc nets net ∙ omega (arith, sound .counted); opened = λ o. omega arith };
       })
     where
@@ -105,7 +103,7 @@ module _ (s : State) (v : List ℕ) (four : length v ≡ 4) (sound : Sound s) (r
       one-more : firstOf blankNet (s .chip .t + 1) (set (s .chip .nets) (s .chip .t) net) ≡ nets ++ (net ∷ [])
       one-more = first-set blankNet (s .chip .t) (s .chip .nets) net (fits-in (sound .nets) fits)
 
-  pub fix-made : (m : FixMade) → meantFix m ≡ makeFix (getD v 0 0) (getD v 1 0) (getD v 2 0) (getD v 3 0) → (f : Fix) → m ≡ fix.Made f → TakenOk r l (addFix (partOf s) f) → TakenOk r l (add (partOf s) word.Fix (valuesOf word.Fix v))
+  pub fix-made : (m : FixMade) → meantFix m ≡ makeFix (getD v 0 0) (getD v 1 0) (getD v 2 0) (getD v 3 0) → (f : Fix) → m ≡ fix.Made f → TakenOk r l (addFix (partOf s) f) → TakenOk r l (add (partOf s) word.Fix (chipValues word.Fix v))
   fix-made m o f q t =
       subst (λ (g : Fix). TakenOk r l (addFix (partOf s) g)) (the-fix (getD v 0 0) (getD v 1 0) (getD v 2 0) (getD v 3 0) m o f q ∙ sym (fix-values v four)) t
 
@@ -113,7 +111,7 @@ module _ (s : State) (v : List ℕ) (four : length v ≡ 4) (sound : Sound s) (r
 module _ (s : State) (f : Fix) (sound : Sound s) (r : Taken) (l : ℕ) (inside : Bool) (i : inside ≡ fixInDie (s .chip .die) f) where
   pub fix-leaves : not inside ≡ true → r ≡ withFault s (record { no = 9; line = l }) → TakenOk r l (addFix (partOf s) f)
   unfolding chipOf
-  fix-leaves h e = rw e (record { meant = rw (← i, not-true inside h); at = refl; sound = sound })
+  fix-leaves h e = rw e (record { ok = record { meant = rw (← i, not-true inside h); at = refl }; sound = sound })
 
   module _ (stays : not inside ≡ false) (clear : Bool) (c : clear ≡ clearOf f (take (s .chip .k) (s .chip .fixes))) where
     tested : clear ≡ clearOf f (firstOf blankFix (s .chip .k) (s .chip .fixes))
@@ -121,15 +119,14 @@ module _ (s : State) (f : Fix) (sound : Sound s) (r : Taken) (l : ℕ) (inside :
 
     pub fix-overlaps : not clear ≡ true → r ≡ withFault s (record { no = 10; line = l }) → TakenOk r l (addFix (partOf s) f)
     unfolding chipOf
-    fix-overlaps h e = rw e (record { meant = rw (← i, not-false inside stays, ← tested, not-true clear h); at = refl; sound = sound })
+    fix-overlaps h e = rw e (record { ok = record { meant = rw (← i, not-false inside stays, ← tested, not-true clear h); at = refl }; sound = sound })
 
     pub fix-added : not clear ≡ false → Entered chipKind (partOf s) word.Fix → r ≡ withChip s word.Fix (holdFix (s .chip) f) → TakenOk r l (addFix (partOf s) f)
-    unfolding chipOf
+    unfolding chipOf same
     fix-added h p e =
         rw e
         (record {
-          meant = rw (← i, not-false inside stays, ← tested, not-false clear h, first-set blankFix (s .chip .k) (s .chip .fixes) f (fits-in (sound .fixes) fits));
-          at = refl;
+          ok = record { meant = rw (← i, not-false inside stays, ← tested, not-false clear h, first-set blankFix (s .chip .k) (s .chip .fixes) f (fits-in (sound .fixes) fits)); at = refl };
           sound = kept-sound s sound word.Fix refl (s .chip .die) (holds-more (sound .fixes) f fits) (sound .macs);
         })
       where

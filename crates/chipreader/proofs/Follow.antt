@@ -1,19 +1,19 @@
--- The words that may stand after a word, by their ranks.
+-- The words after which a pin may stand.
 use mathlib.Core.Path.{_≡_, refl}
 use mathlib.Core.Bool.{_||_}
-use Rattle.model.specs.declared.Word.{Word}
-use Rattle.model.specs.declared.Word.the-variants as word
-use Rattle.grammar.specs.Words.{rank, isWord, isIn}
-use Rattle.grammar.proofs.ByWord.{alike, both-alike}
+use Rattle.grammar.specs.Words.{same, isIn}
+use Rattle.grammar.specs.Reading.{Last, before, after, isLast}
+use Rattle.chip.specs.declared.ChipWord.{ChipWord}
+use Rattle.chip.specs.declared.ChipWord.the-variants as word
+use Rattle.chip.specs.Words.{chipWords}
 use Rattle.chip.specs.Kind.{followers}
-use Rattle.chipreader.specs.State.{mayFollow}
 
--- the ranges of ranks are the followers
-pub in-followers : (w last : Word) → mayFollow (rank last) (rank w) ≡ isIn w (followers last)
-unfolding isIn
-in-followers = both-alike (λ w last. mayFollow (rank last) (rank w)) (λ w last. isIn w (followers last)) refl
-
--- a pin stands after a net or a pin
-pub after-net : (last : Word) → isIn word.Pin (followers last) ≡ (isWord last word.Net || isWord last word.Pin)
-unfolding isIn
-after-net = alike (λ last. isIn word.Pin (followers last)) (λ last. isWord last word.Net || isWord last word.Pin) refl
+pub after-net : (l : Last ChipWord) → isIn chipWords word.Pin (followers l) ≡ (isLast chipWords l word.Net || isLast chipWords l word.Pin)
+unfolding isIn same
+after-net before = refl
+after-net (after word.Die) = refl
+after-net (after word.Fix) = refl
+after-net (after word.Mac) = refl
+after-net (after word.Net) = refl
+after-net (after word.Pin) = refl
+after-net (after word.End) = refl

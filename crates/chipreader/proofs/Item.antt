@@ -2,26 +2,23 @@
 use mathlib.Core.Path.{_≡_, refl}
 use mathlib.Core.List.{List}
 use Prim.Native.Nat.{ℕ}
-use Rattle.model.specs.declared.Word.{Word}
-use Rattle.model.specs.declared.Word.the-variants as word
-use Rattle.grammar.specs.Reading.{fault}
-use Rattle.grammar.specs.Steps.{InRanges}
-use Rattle.line.specs.Held.{valuesOf}
+use Rattle.grammar.specs.Words.{same}
+use Rattle.grammar.specs.Steps.{ReadAs}
+use Rattle.chip.specs.declared.ChipWord.{ChipWord}
+use Rattle.chip.specs.declared.ChipWord.the-variants as word
+use Rattle.chip.specs.Words.{chipWords}
 use Rattle.chip.specs.Kind.{add}
 use Rattle.chipreader.specs.declared.State.{State}
 use Rattle.chipreader.specs.declared.Taken.{Taken}
-use Rattle.chipreader.specs.State.{Sound, partOf, withFault, withChip, TakenOk}
+use Rattle.chipreader.specs.State.{Sound, partOf, chipValues, withChip, TakenOk}
 use Rattle.chipreader.proofs.Added.{kept-sound}
 
-pub ranged-as : (w x : Word) → w ≡ x → (v : List ℕ) → InRanges w (valuesOf w v) → InRanges x (valuesOf x v)
-ranged-as w x e v i = rw (← e) i
+pub read-as-is : (w x : ChipWord) → w ≡ x → (v : List ℕ) → ReadAs chipWords w (chipValues w v) → ReadAs chipWords x (chipValues x v)
+read-as-is w x e v i = rw (← e) i
 
-module _ (s : State) (w x : Word) (e : w ≡ x) (v : List ℕ) (r : Taken) (l : ℕ) where
-  pub taken-as : TakenOk r l (add (partOf s) x (valuesOf x v)) → TakenOk r l (add (partOf s) w (valuesOf w v))
-  taken-as t = rw e t
+pub taken-as : (s : State) (w x : ChipWord) → w ≡ x → (v : List ℕ) (r : Taken) (l : ℕ) → TakenOk r l (add (partOf s) x (chipValues x v)) → TakenOk r l (add (partOf s) w (chipValues w v))
+taken-as s w x e v r l t = rw e t
 
-  pub not-taken : Sound s → r ≡ withFault s (record { no = 2; line = l }) → fault 2 ≡ add (partOf s) x (valuesOf x v) → TakenOk r l (add (partOf s) w (valuesOf w v))
-  not-taken sound q f = rw (e, q) (record { meant = f; at = refl; sound = sound })
-
-pub end-taken : (s : State) (w : Word) (v : List ℕ) (r : Taken) (l : ℕ) → Sound s → w ≡ word.End → r ≡ withChip s word.End (s .chip) → TakenOk r l (add (partOf s) w (valuesOf w v))
-end-taken s w v r l sound e q = rw (e, q) (record { meant = refl; at = refl; sound = kept-sound s sound word.End refl (s .chip .die) (sound .fixes) (sound .macs) })
+pub end-taken : (s : State) (w : ChipWord) (v : List ℕ) (r : Taken) (l : ℕ) → Sound s → w ≡ word.End → r ≡ withChip s word.End (s .chip) → TakenOk r l (add (partOf s) w (chipValues w v))
+unfolding same
+end-taken s w v r l sound e q = rw (e, q) (record { ok = record { meant = refl; at = refl }; sound = kept-sound s sound word.End refl (s .chip .die) (sound .fixes) (sound .macs) })

@@ -1,7 +1,7 @@
--- What the constructors make of the values of a line that are in their ranges: the thing, never a refusal.
-use mathlib.Core.Path.{_≡_, refl, sym, _∙_}
-use mathlib.Core.Bool.{Bool, true, false, true≢false}
-use mathlib.Core.List.{List, [], _∷_}
+-- What the constructors make of the values of a line that was read: the thing, never a refusal.
+use mathlib.Core.Path.{_≡_, sym, ap, _∙_}
+use mathlib.Core.Bool.{Bool, true, _&&_, true≢false}
+use mathlib.Core.List.{List}
 use Prim.Native.Nat.{ℕ}
 use lib.IntN.{pos}
 use lib.ListN.{length, getD}
@@ -14,55 +14,102 @@ use Rattle.model.specs.declared.FixMade.the-variants as fix
 use Rattle.model.specs.declared.Mac.{Mac}
 use Rattle.model.specs.declared.MacMade.{MacMade}
 use Rattle.model.specs.declared.MacMade.the-variants as mac
+use Rattle.model.specs.declared.Net.{Net as HeldNet}
 use Rattle.model.specs.declared.NetMade.{NetMade}
 use Rattle.model.specs.declared.NetMade.the-variants as net
+use Rattle.model.specs.declared.Pin.{Pin as HeldPin}
 use Rattle.model.specs.declared.PinMade.{PinMade}
 use Rattle.model.specs.declared.PinMade.the-variants as pin
-use Rattle.model.specs.declared.Word.{Word}
-use Rattle.model.specs.declared.Word.the-variants as word
 use Rattle.model.specs.Meaning.{pinOf}
-use Rattle.model.specs.Made.{meantDie, makeDie, meantFix, makeFix, meantMac, makeMac, meantNet, makeNet, meantPin, remakePin}
-use Rattle.grammar.specs.Words.{rules}
-use Rattle.grammar.specs.Steps.{inRanges, InRanges}
-use Rattle.grammar.proofs.Made.{no-die, no-fix, no-mac, no-net, no-pin}
-use Rattle.line.specs.Held.{loweredAll, valuesOf}
+use Rattle.model.specs.Limits.{isWithin, dieSide, fixCorner, fixSide, macSide, netWeight, pinMacro, pinPlace}
+use Rattle.model.specs.Made.{Made, outOfRange, ifWithin, meantDie, makeDie, meantFix, makeFix, meantMac, makeMac, meantNet, makeNet, meantPin, remakePin}
+use Rattle.model.proofs.Tests.{refused, kept}
+use Rattle.grammar.specs.Steps.{ReadAs}
+use Rattle.grammar.proofs.FieldsText.{fields-written}
+use Rattle.grammar.proofs.Values.{Passing, passing}
+use Rattle.line.specs.Held.{loweredAll}
+use Rattle.chip.specs.declared.ChipWord.{ChipWord}
+use Rattle.chip.specs.declared.ChipWord.the-variants as word
+use Rattle.chip.specs.Words.{form, chipWords}
 use Rattle.chip.specs.Kind.{add}
+use Rattle.chip.proofs.Told.{words-told}
 use Rattle.chipreader.specs.declared.State.{State}
 use Rattle.chipreader.specs.declared.Taken.{Taken}
-use Rattle.chipreader.specs.State.{partOf, TakenOk}
+use Rattle.chipreader.specs.State.{partOf, chipValues, TakenOk}
 use Rattle.chipreader.proofs.Values.{by-four, heldPin}
 
--- a test that fails, of values in their ranges
-never : {P : Type 0} (w : Word) (v : List ℕ) (b : Bool) → inRanges (rules w) (valuesOf w v) ≡ b → InRanges w (valuesOf w v) → b ≡ false → P
-never w v b e i q = absurd (true≢false (sym (i .within) ∙ e ∙ q))
+-- ---- their tests
+
+abbrev dieTest : ℕ → ℕ → Bool
+dieTest w h = isWithin dieSide (pos w) && isWithin dieSide (pos h)
+
+abbrev fixTest : ℕ → ℕ → ℕ → ℕ → Bool
+fixTest x y w h = isWithin fixCorner (pos x) && isWithin fixCorner (pos y) && isWithin fixSide (pos w) && isWithin fixSide (pos h)
+
+abbrev macTest : ℕ → ℕ → Bool
+macTest w h = isWithin macSide (pos w) && isWithin macSide (pos h)
+
+abbrev pinTest : HeldPin → Bool
+pinTest p = isWithin pinMacro (pos (p .m)) && isWithin pinPlace (pinOf p .x) && isWithin pinPlace (pinOf p .y)
+
+-- ---- what they make
+
+pub the-die : (w h : ℕ) (r : DieMade) → meantDie r ≡ makeDie w h → (d : Die) → r ≡ die.Made d → d ≡ record { w = w; h = h }
+the-die w h r e d q = kept (dieTest w h) _ d (sym (ap meantDie q) ∙ e) .1
+
+pub the-fix : (x y w h : ℕ) (r : FixMade) → meantFix r ≡ makeFix x y w h → (f : Fix) → r ≡ fix.Made f → f ≡ record { x = x; y = y; w = w; h = h }
+the-fix x y w h r e f q = kept (fixTest x y w h) _ f (sym (ap meantFix q) ∙ e) .1
+
+pub the-mac : (w h : ℕ) (r : MacMade) → meantMac r ≡ makeMac w h → (m : Mac) → r ≡ mac.Made m → m ≡ record { w = w; h = h }
+the-mac w h r e m q = kept (macTest w h) _ m (sym (ap meantMac q) ∙ e) .1
+
+pub the-net : (weight pins : ℕ) (r : NetMade) → meantNet r ≡ makeNet weight pins → (t : HeldNet) → r ≡ net.Made t → t ≡ record { weight = weight; pins = pins }
+the-net weight pins r e t q = kept (isWithin netWeight (pos weight)) _ t (sym (ap meantNet q) ∙ e) .1
+
+pub the-pin : (p : HeldPin) (r : PinMade) → meantPin r ≡ remakePin p → (q : HeldPin) → r ≡ pin.Made q → pinOf q ≡ pinOf p
+the-pin p r e q o = kept (pinTest p) _ (pinOf q) (sym (ap meantPin o) ∙ e) .1
+
+-- ---- the values that were read pass the tests
+
+passed : (w : ChipWord) (v : List ℕ) → ReadAs chipWords w (chipValues w v) → Passing (form w) (chipValues w v)
+passed w v i = passing (form w) (chipValues w v) (chipValues w v) (fields-written (form w) (i .bytes) (chipValues w v) (words-told .formed w) (i .read) .passes)
+
+-- a refusal of a thing that passes its tests
+never : {A P : Type 0} (t : Bool) (a : A) (m : Made A) → t ≡ true → m ≡ outOfRange → m ≡ ifWithin t a → P
+never t a m h q e = absurd (true≢false (sym h ∙ refused t a (sym q ∙ e)))
 
 module _ (v : List ℕ) (four : length v ≡ 4) (s : State) (r : Taken) (l : ℕ) where
-  pub die-never : InRanges word.Die (valuesOf word.Die v) → (m : DieMade) → meantDie m ≡ makeDie (getD v 0 0) (getD v 1 0) → m ≡ die.Outside → TakenOk r l (add (partOf s) word.Die (valuesOf word.Die v))
+  pub die-never : ReadAs chipWords word.Die (chipValues word.Die v) → (m : DieMade) → meantDie m ≡ makeDie (getD v 0 0) (getD v 1 0) → m ≡ die.Outside → TakenOk r l (add (partOf s) word.Die (chipValues word.Die v))
   unfolding loweredAll
   die-never i m e q =
-      never word.Die v _ (by-four (λ u. inRanges (rules word.Die) (valuesOf word.Die u) ≡ inRanges (rules word.Die) (pos (getD u 0 0) ∷ pos (getD u 1 0) ∷ [])) (λ a b c d. refl) v four) i
-      (no-die (getD v 0 0) (getD v 1 0) m e q)
+      never (dieTest (getD v 0 0) (getD v 1 0)) _ (meantDie m)
+      (by-four (λ u. Passing (form word.Die) (chipValues word.Die u) → dieTest (getD u 0 0) (getD u 1 0) ≡ true) (λ a b c d p. rw (p .0, p .1 .0)) v four (passed word.Die v i))
+      (ap meantDie q) e
 
-  pub fix-never : InRanges word.Fix (valuesOf word.Fix v) → (m : FixMade) → meantFix m ≡ makeFix (getD v 0 0) (getD v 1 0) (getD v 2 0) (getD v 3 0) → m ≡ fix.Outside → TakenOk r l (add (partOf s) word.Fix (valuesOf word.Fix v))
+  pub fix-never : ReadAs chipWords word.Fix (chipValues word.Fix v) → (m : FixMade) → meantFix m ≡ makeFix (getD v 0 0) (getD v 1 0) (getD v 2 0) (getD v 3 0) → m ≡ fix.Outside → TakenOk r l (add (partOf s) word.Fix (chipValues word.Fix v))
   unfolding loweredAll
   fix-never i m e q =
-      never word.Fix v _ (by-four (λ u. inRanges (rules word.Fix) (valuesOf word.Fix u) ≡ inRanges (rules word.Fix) (pos (getD u 0 0) ∷ pos (getD u 1 0) ∷ pos (getD u 2 0) ∷ pos (getD u 3 0) ∷ [])) (λ a b c d. refl) v four) i
-      (no-fix (getD v 0 0) (getD v 1 0) (getD v 2 0) (getD v 3 0) m e q)
+      never (fixTest (getD v 0 0) (getD v 1 0) (getD v 2 0) (getD v 3 0)) _ (meantFix m)
+      (by-four (λ u. Passing (form word.Fix) (chipValues word.Fix u) → fixTest (getD u 0 0) (getD u 1 0) (getD u 2 0) (getD u 3 0) ≡ true) (λ a b c d p. rw (p .0, p .1 .0, p .1 .1 .0, p .1 .1 .1 .0)) v four (passed word.Fix v i))
+      (ap meantFix q) e
 
-  pub mac-never : InRanges word.Mac (valuesOf word.Mac v) → (m : MacMade) → meantMac m ≡ makeMac (getD v 0 0) (getD v 1 0) → m ≡ mac.Outside → TakenOk r l (add (partOf s) word.Mac (valuesOf word.Mac v))
+  pub mac-never : ReadAs chipWords word.Mac (chipValues word.Mac v) → (m : MacMade) → meantMac m ≡ makeMac (getD v 0 0) (getD v 1 0) → m ≡ mac.Outside → TakenOk r l (add (partOf s) word.Mac (chipValues word.Mac v))
   unfolding loweredAll
   mac-never i m e q =
-      never word.Mac v _ (by-four (λ u. inRanges (rules word.Mac) (valuesOf word.Mac u) ≡ inRanges (rules word.Mac) (pos (getD u 0 0) ∷ pos (getD u 1 0) ∷ [])) (λ a b c d. refl) v four) i
-      (no-mac (getD v 0 0) (getD v 1 0) m e q)
+      never (macTest (getD v 0 0) (getD v 1 0)) _ (meantMac m)
+      (by-four (λ u. Passing (form word.Mac) (chipValues word.Mac u) → macTest (getD u 0 0) (getD u 1 0) ≡ true) (λ a b c d p. rw (p .0, p .1 .0)) v four (passed word.Mac v i))
+      (ap meantMac q) e
 
-  pub net-never : InRanges word.Net (valuesOf word.Net v) → (m : NetMade) → meantNet m ≡ makeNet (getD v 0 0) 0 → m ≡ net.Outside → TakenOk r l (add (partOf s) word.Net (valuesOf word.Net v))
+  pub net-never : ReadAs chipWords word.Net (chipValues word.Net v) → (m : NetMade) → meantNet m ≡ makeNet (getD v 0 0) 0 → m ≡ net.Outside → TakenOk r l (add (partOf s) word.Net (chipValues word.Net v))
   unfolding loweredAll
   net-never i m e q =
-      never word.Net v _ (by-four (λ u. inRanges (rules word.Net) (valuesOf word.Net u) ≡ inRanges (rules word.Net) (pos (getD u 0 0) ∷ [])) (λ a b c d. refl) v four) i
-      (no-net (getD v 0 0) 0 m e q)
+      never (isWithin netWeight (pos (getD v 0 0))) _ (meantNet m)
+      (by-four (λ u. Passing (form word.Net) (chipValues word.Net u) → isWithin netWeight (pos (getD u 0 0)) ≡ true) (λ a b c d p. p .0) v four (passed word.Net v i))
+      (ap meantNet q) e
 
-  pub pin-never : InRanges word.Pin (valuesOf word.Pin v) → (m : PinMade) → meantPin m ≡ remakePin (heldPin v) → m ≡ pin.Outside → TakenOk r l (add (partOf s) word.Pin (valuesOf word.Pin v))
+  pub pin-never : ReadAs chipWords word.Pin (chipValues word.Pin v) → (m : PinMade) → meantPin m ≡ remakePin (heldPin v) → m ≡ pin.Outside → TakenOk r l (add (partOf s) word.Pin (chipValues word.Pin v))
   unfolding loweredAll
   pin-never i m e q =
-      never word.Pin v _ (by-four (λ u. inRanges (rules word.Pin) (valuesOf word.Pin u) ≡ inRanges (rules word.Pin) (pos (getD u 0 0) ∷ pinOf (heldPin u) .x ∷ pinOf (heldPin u) .y ∷ [])) (λ a b c d. refl) v four) i
-      (no-pin (heldPin v) m e q)
+      never (pinTest (heldPin v)) _ (meantPin m)
+      (by-four (λ u. Passing (form word.Pin) (chipValues word.Pin u) → pinTest (heldPin u) ≡ true) (λ a b c d p. rw (p .0, p .1 .0, p .1 .1 .0)) v four (passed word.Pin v i))
+      (ap meantPin q) e

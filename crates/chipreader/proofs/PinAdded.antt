@@ -14,7 +14,6 @@ use Rattle.model.specs.declared.Pin.{Pin as HeldPin}
 use Rattle.model.specs.declared.PinMade.{PinMade}
 use Rattle.model.specs.declared.PinMade.the-variants as pin
 use Rattle.model.specs.declared.Chip.{Chip as HeldChip}
-use Rattle.model.specs.declared.Word.the-variants as word
 use Rattle.model.specs.Meaning.{Pin, Net, chipOf, firstOf, netsOf, pinOf, pinsOf, blankNet, blankPin, taken}
 use Rattle.model.specs.Made.{meantPin, remakePin}
 use Rattle.model.proofs.Holding.{holds-more, holds-set}
@@ -22,13 +21,14 @@ use Rattle.model.proofs.FirstOf.{first-suc, first-set}
 use Rattle.model.proofs.Nets.{taken-snoc, nets-snoc, nets-kept, pins-append}
 use Rattle.grammar.specs.Reading.{Step, fault, check}
 use Rattle.grammar.specs.Steps.{Entered}
-use Rattle.grammar.proofs.Made.{the-pin}
-use Rattle.line.specs.Held.{valuesOf}
-use Rattle.chip.specs.Kind.{Part, chipKind, add, addPin, after, withPin}
+use Rattle.chipreader.proofs.MadeOf.{the-pin}
+use Rattle.chip.specs.declared.ChipWord.the-variants as word
+use Rattle.chip_words.specs.declared.ChipLast.the-variants as last
+use Rattle.chip.specs.Kind.{Part, chipKind, add, addPin, readTo, withPin}
 use Rattle.chipreader.specs.declared.State.{State}
 use Rattle.line.specs.declared.Fault.the-variants as held
 use Rattle.chipreader.specs.declared.Taken.{Taken}
-use Rattle.chipreader.specs.State.{Sound, partOf, withFault, TakenOk}
+use Rattle.chipreader.specs.State.{Sound, partOf, chipValues, withFault, TakenOk}
 use Rattle.chipreader.proofs.Values.{heldPin, pin-values}
 use Rattle.chipreader.proofs.Room.{mac-count}
 use Rattle.chipreader.proofs.Entry.{pin-fits, net-open}
@@ -86,13 +86,13 @@ module _ (s : State) (sound : Sound s) (entered : Entered chipKind (partOf s) wo
 
   module _ (v : List ℕ) (four : length v ≡ 4) (l : ℕ) where
     abbrev addPinned : Pin → Step Part
-    addPinned p = check (leb (p .m) (length (chipOf (s .chip) .macs))) 8 (after word.Pin (withPin (chipOf (s .chip)) p))
+    addPinned p = check (leb (p .m) (length (chipOf (s .chip) .macs))) 8 (readTo word.Pin (withPin (chipOf (s .chip)) p))
 
-    step-pin : (t : Step Part) → t ≡ addPinned (pinOf (heldPin v)) → t ≡ add (partOf s) word.Pin (valuesOf word.Pin v)
+    step-pin : (t : Step Part) → t ≡ addPinned (pinOf (heldPin v)) → t ≡ add (partOf s) word.Pin (chipValues word.Pin v)
     step-pin t e = e ∙ ap addPinned (sym (pin-values v four))
 
-    pub no-macro : (r : Taken) → s .chip .n < getD v 0 0 → r ≡ withFault s (record { no = 8; line = l }) → TakenOk r l (add (partOf s) word.Pin (valuesOf word.Pin v))
-    no-macro r h e = rw e (record { meant = step-pin (fault 8) (rw (mac-count s sound, lt-leb _ _ h)); at = refl; sound = sound })
+    pub no-macro : (r : Taken) → s .chip .n < getD v 0 0 → r ≡ withFault s (record { no = 8; line = l }) → TakenOk r l (add (partOf s) word.Pin (chipValues word.Pin v))
+    no-macro r h e = rw e (record { ok = record { meant = step-pin (fault 8) (rw (mac-count s sound, lt-leb _ _ h)); at = refl }; sound = sound })
 
     abbrev holdPin : HeldPin → HeldChip
     holdPin p = record { die = s .chip .die; k = s .chip .k; fixes = s .chip .fixes; n = s .chip .n; macs = s .chip .macs; t = s .chip .t; nets = set (s .chip .nets) place (onePin net); pins = set (s .chip .pins) (s .pins) p }
@@ -100,12 +100,11 @@ module _ (s : State) (sound : Sound s) (entered : Entered chipKind (partOf s) wo
     nets-with : (p : HeldPin) → netsOf (firstOf blankNet (s .chip .t) (set (s .chip .nets) place (onePin net))) (set (s .chip .pins) (s .pins) p) ≡ addPin (pinOf p) (netsOf (firstOf blankNet (s .chip .t) (s .chip .nets)) (s .chip .pins))
     nets-with p = rw (last-pinned, last-net, ← all-pins) (nets-pin before net (s .chip .pins) p (omega (arith, all-pins, pin-fits s sound entered, sound .pins .long)))
 
-    pub pin-added : getD v 0 0 ≤ s .chip .n → (m : PinMade) → meantPin m ≡ remakePin (heldPin v) → (p : HeldPin) → m ≡ pin.Made p → TakenOk (record { fault = held.Clear; state = record { last = word.Pin; pins = s .pins + 1; chip = holdPin p } }) l (add (partOf s) word.Pin (valuesOf word.Pin v))
+    pub pin-added : getD v 0 0 ≤ s .chip .n → (m : PinMade) → meantPin m ≡ remakePin (heldPin v) → (p : HeldPin) → m ≡ pin.Made p → TakenOk (record { fault = held.Clear; state = record { last = last.After word.Pin; pins = s .pins + 1; chip = holdPin p } }) l (add (partOf s) word.Pin (chipValues word.Pin v))
     unfolding chipOf
     pin-added h m o p q =
         record {
-          meant = step-pin _ (rw (← the-pin (heldPin v) m o p q, mac-count s sound, le-leb _ _ h, nets-with p));
-          at = refl;
+          ok = record { meant = step-pin _ (rw (← the-pin (heldPin v) m o p q, mac-count s sound, le-leb _ _ h, nets-with p)); at = refl };
           sound = record {
             fixes = sound .fixes;
             macs = sound .macs;

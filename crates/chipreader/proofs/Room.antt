@@ -1,19 +1,16 @@
 -- The counts of what is held against those of the chip that it means.
 use mathlib.Core.Path.{_≡_, refl, _∙_}
 use mathlib.Core.List.{List, [], _∷_}
-use Prim.Native.Nat.{ℕ, _-_, _≤_}
+use Prim.Native.Nat.{ℕ, _≤_}
 use native.Mathlib.Omega.{arith}
-use lib.Dec.{ltb}
 use lib.ListN.{length, drop, length-drop}
-use Rattle.model.specs.declared.Word.{Word}
-use Rattle.model.specs.declared.Word.the-variants as word
 use Rattle.model.specs.declared.Net.{Net}
 use Rattle.model.specs.declared.Pin.{Pin}
 use Rattle.model.specs.Meaning.{chipOf, netsOf, firstOf, blankFix, blankMac, blankNet, blankPin, taken}
 use Rattle.model.specs.Held.{Holds}
 use Rattle.model.proofs.FirstOf.{length-first}
 use Rattle.model.proofs.Nets.{length-nets, length-pins}
-use Rattle.chip.specs.Kind.{room, pinCount}
+use Rattle.chip.specs.Kind.{countsOf, pinCount}
 use Rattle.chipreader.specs.declared.State.{State}
 use Rattle.chipreader.specs.State.{Sound}
 
@@ -43,15 +40,6 @@ module _ (s : State) (sound : Sound s) where
   unfolding chipOf
   pins-count = pin-count (firstOf blankNet (s .chip .t) (s .chip .nets)) (s .chip .pins) (omega (arith, sound .pins .few, sound .pins .long, sound .counted)) ∙ sound .counted
 
-  module _ (w : Word) where
-    pub room-fix : w ≡ word.Fix → ltb (s .chip .k) 8 ≡ room (chipOf (s .chip)) w
-    room-fix e = rw (e, fix-count)
-
-    pub room-mac : w ≡ word.Mac → ltb (s .chip .n) 8 ≡ room (chipOf (s .chip)) w
-    room-mac e = rw (e, mac-count)
-
-    pub room-net : w ≡ word.Net → ltb (s .chip .t) 32 ≡ room (chipOf (s .chip)) w
-    room-net e = rw (e, net-count)
-
-    pub room-pin : w ≡ word.Pin → ltb (s .pins) 128 ≡ room (chipOf (s .chip)) w
-    room-pin e = rw (e, pins-count)
+  -- the counts that are held are those of the chip
+  pub held-counts : record { fixes = s .chip .k; macs = s .chip .n; nets = s .chip .t; pins = s .pins } ≡ countsOf (chipOf (s .chip))
+  held-counts = rw (fix-count, mac-count, net-count, pins-count)

@@ -8,10 +8,11 @@ use Rattle.model.specs.declared.Die.{Die}
 use Rattle.model.specs.declared.Fix.{Fix}
 use Rattle.model.specs.declared.Mac.{Mac}
 use Rattle.model.specs.declared.Pin.{Pin as HeldPin}
-use Rattle.model.specs.declared.Word.the-variants as word
+use Rattle.chip.specs.declared.ChipWord.the-variants as word
 use Rattle.model.specs.Meaning.{pinOf}
 use Rattle.grammar.specs.Words.{size}
-use Rattle.line.specs.Held.{loweredAll, valuesOf}
+use Rattle.line.specs.Held.{loweredAll}
+use Rattle.chipreader.specs.State.{chipValues}
 use Rattle.chip.specs.Kind.{dieOf, fixOf, macOf, pinOf as pinIn}
 
 pub by-four : (P : List ℕ → Type 0) → ((a b c d : ℕ) → P (a ∷ b ∷ c ∷ d ∷ [])) → (v : List ℕ) → length v ≡ 4 → P v
@@ -39,22 +40,22 @@ module _ (v : List ℕ) where
 
 -- ---- what the values mean
 
-pub die-values : (v : List ℕ) → length v ≡ 4 → dieOf (valuesOf word.Die v) ≡ heldDie v
+pub die-values : (v : List ℕ) → length v ≡ 4 → dieOf (chipValues word.Die v) ≡ heldDie v
 unfolding loweredAll
-die-values = by-four (λ v. dieOf (valuesOf word.Die v) ≡ heldDie v) (λ a b c d. refl)
+die-values = by-four (λ v. dieOf (chipValues word.Die v) ≡ heldDie v) (λ a b c d. refl)
 
-pub fix-values : (v : List ℕ) → length v ≡ 4 → fixOf (valuesOf word.Fix v) ≡ heldFix v
+pub fix-values : (v : List ℕ) → length v ≡ 4 → fixOf (chipValues word.Fix v) ≡ heldFix v
 unfolding loweredAll
-fix-values = by-four (λ v. fixOf (valuesOf word.Fix v) ≡ heldFix v) (λ a b c d. refl)
+fix-values = by-four (λ v. fixOf (chipValues word.Fix v) ≡ heldFix v) (λ a b c d. refl)
 
-pub mac-values : (v : List ℕ) → length v ≡ 4 → macOf (valuesOf word.Mac v) ≡ heldMac v
+pub mac-values : (v : List ℕ) → length v ≡ 4 → macOf (chipValues word.Mac v) ≡ heldMac v
 unfolding loweredAll
-mac-values = by-four (λ v. macOf (valuesOf word.Mac v) ≡ heldMac v) (λ a b c d. refl)
+mac-values = by-four (λ v. macOf (chipValues word.Mac v) ≡ heldMac v) (λ a b c d. refl)
 
-pub net-values : (v : List ℕ) → length v ≡ 4 → size (valuesOf word.Net v) 0 ≡ getD v 0 0
+pub net-values : (v : List ℕ) → length v ≡ 4 → size (chipValues word.Net v) 0 ≡ getD v 0 0
 unfolding loweredAll
-net-values = by-four (λ v. size (valuesOf word.Net v) 0 ≡ getD v 0 0) (λ a b c d. refl)
+net-values = by-four (λ v. size (chipValues word.Net v) 0 ≡ getD v 0 0) (λ a b c d. refl)
 
-pub pin-values : (v : List ℕ) → length v ≡ 4 → pinIn (valuesOf word.Pin v) ≡ pinOf (heldPin v)
+pub pin-values : (v : List ℕ) → length v ≡ 4 → pinIn (chipValues word.Pin v) ≡ pinOf (heldPin v)
 unfolding loweredAll
-pin-values = by-four (λ v. pinIn (valuesOf word.Pin v) ≡ pinOf (heldPin v)) (λ a b c d. refl)
+pin-values = by-four (λ v. pinIn (chipValues word.Pin v) ≡ pinOf (heldPin v)) (λ a b c d. refl)

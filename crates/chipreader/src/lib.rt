@@ -1,4 +1,8 @@
 // Reading a chip from its text.
+use chip::ChipWord;
+use chip_words::ChipFound;
+use chip_words::ChipLast;
+use chip_words::Counts;
 use line::Fault;
 use line::Fields;
 use model::Chip;
@@ -14,20 +18,18 @@ use model::Pin;
 use model::PinMade;
 use model::Refusal;
 use model::TEXT_MOST;
-use model::Word;
 ghost use mathlib.Core.Path.{_≡_};
 ghost use Rattle.model.specs.Limits.{mostBytes};
 ghost use Rattle.model.specs.Meaning.{chipOf};
 ghost use Prim.Native.Nat.{_≤_, _<_};
 ghost use lib.ListN.{length};
-ghost use Rattle.grammar.specs.Words.{rules};
 ghost use Rattle.grammar.specs.Line.{fields};
 ghost use Rattle.grammar.specs.Reading.{stepBytes, stepFields, stepLine, ending};
-ghost use Rattle.grammar.specs.Steps.{entryFault, Entered, InRanges, lineEnd, lineAt};
-ghost use Rattle.line.specs.Held.{valuesOf};
-ghost use Rattle.chip.specs.Kind.{room, addFix, add, chipKind};
+ghost use Rattle.grammar.specs.Steps.{entryFault, Entered, ReadAs, lineEnd, lineAt};
+ghost use Rattle.chip.specs.Words.{form, chipWords};
+ghost use Rattle.chip.specs.Kind.{addFix, add, chipKind};
 ghost use Rattle.chip.specs.Text.{chipRead, readChip};
-ghost use Rattle.chipreader.specs.State.{Sound, partOf, mayFollow, leftBare, withFault, withChip, TakenOk};
+ghost use Rattle.chipreader.specs.State.{Sound, partOf, chipValues, withFault, withChip, TakenOk};
 ghost use Rattle.chipreader.specs.Answer.{blankChip, refusedAt, meantChip, chipAnswer, ReadOk};
 
 // What reading a chip answers.
@@ -44,7 +46,7 @@ pub struct ChipRead {
 
 // What has been read: the word of the last line, the chip so far, and the number of its pins.
 pub(crate) struct State {
-    pub last: Word,
+    pub last: ChipLast,
     pub pins: usize,
     pub chip: Chip,
 }
@@ -80,70 +82,19 @@ fn blank_chip() -> Chip
     }
 }
 
-// Place: whether a word of rank b may stand after one of rank a: it may where a is from least[b] to most[b].
-fn may_follow(a: usize, b: usize) -> bool
-    requires { ⌜ b < 11 ⌝ }
-    ensures { λ r. ⌜ r ≡ mayFollow a b ⌝ }
-{
-    let least = [1, 0, 1, 1, 1, 4, 1, 1, 1, 1, 1];
-    let most = [0, 0, 2, 3, 5, 5, 5, 0, 0, 0, 0];
-    model::within(a as u64, least[b], most[b])
-}
-
-// Count: whether there is room for one more of the kind.
-fn has_room(s: State, w: Word) -> bool
-    requires { ⌜ Sound s ⌝ }
-    ensures { λ r. ⌜ r ≡ room (chipOf (s .chip)) w ⌝ }
-{
-    match w {
-        Word::Fix => s.chip.k < Fix::COUNT,
-        Word::Mac => s.chip.n < Mac::COUNT,
-        Word::Net => s.chip.t < Net::COUNT,
-        Word::Pin => s.pins < Pin::COUNT,
-        Word::Nothing => true,
-        Word::Die => true,
-        Word::End => true,
-        Word::Least => true,
-        Word::None => true,
-        Word::At => true,
-        Word::Done => true,
-    }
-}
-
-// Whether a word of rank b leaves the net above, of rank a, without a pin.
-fn pinless(a: usize, b: usize) -> bool
-    ensures { λ r. ⌜ r ≡ leftBare a b ⌝ }
-{
-    if a != 4 {
-        return false;
-    }
-    b != 5
-}
-
-// The first fault of a line before its fields: word 2, place 5, count 6, net without a pin 7; or 0.
-fn entry_fault(s: State, w: Word) -> usize
+// The first fault of a line before its fields: place 5, count 6, net without a pin 7; or 0.
+fn entry_fault(s: State, w: ChipWord) -> usize
     requires { ⌜ Sound s ⌝ }
     ensures { λ r. ⌜ r ≡ entryFault chipKind (partOf s) w ⌝ }
 {
     let last = s.last;
-    let a = grammar::rank_of(last);
-    let b = grammar::rank_of(w);
-    if b == 0 {
-        return 2;
-    }
-    let placed = may_follow(a, b);
-    let room = has_room(s, w);
-    let bare = pinless(a, b);
-    if !placed {
-        return 5;
-    }
-    if !room {
-        return 6;
-    }
-    if bare {
-        return 7;
-    }
-    0
+    let held = Counts {
+        fixes: s.chip.k,
+        macs: s.chip.n,
+        nets: s.chip.t,
+        pins: s.pins,
+    };
+    chip_words::entry_fault(last, held, w)
 }
 
 // A faulty line: what was read before it stays.
@@ -157,13 +108,13 @@ fn with_fault(s: State, f: Refusal) -> Taken
 }
 
 // A line without fault, and the chip with what it added.
-fn with_chip(s: State, w: Word, chip: Chip) -> Taken
+fn with_chip(s: State, w: ChipWord, chip: Chip) -> Taken
     ensures { λ r. ⌜ r ≡ withChip s w chip ⌝ }
 {
     Taken {
         fault: Fault::Clear,
         state: State {
-            last: w,
+            last: ChipLast::After(w),
             pins: s.pins,
             chip,
         },
@@ -175,21 +126,21 @@ fn with_chip(s: State, w: Word, chip: Chip) -> Taken
 // What a `die` line adds: the die.
 fn add_die(s: State, v: [u64; 4], line: usize) -> Taken
     requires { ⌜ Sound s ⌝ }
-    requires { ⌜ InRanges Word.Die (valuesOf Word.Die v) ⌝ }
-    ensures { λ r. ⌜ TakenOk r line (add (partOf s) Word.Die (valuesOf Word.Die v)) ⌝ }
+    requires { ⌜ ReadAs chipWords ChipWord.Die (chipValues ChipWord.Die v) ⌝ }
+    ensures { λ r. ⌜ TakenOk r line (add (partOf s) ChipWord.Die (chipValues ChipWord.Die v)) ⌝ }
 {
     let DieMade::Made(die) = Die::new(v[0], v[1]) else {
         return with_fault(s, Refusal { no: 4, line });
     };
     let mut chip = s.chip;
     chip.die = die;
-    with_chip(s, Word::Die, chip)
+    with_chip(s, ChipWord::Die, chip)
 }
 
 // What a fix adds: a last fix. Fix leaves the die 9; fix overlaps an earlier fix 10.
 fn put_fix(s: State, f: Fix, line: usize) -> Taken
     requires { ⌜ Sound s ⌝ }
-    requires { ⌜ Entered chipKind (partOf s) Word.Fix ⌝ }
+    requires { ⌜ Entered chipKind (partOf s) ChipWord.Fix ⌝ }
     ensures { λ r. ⌜ TakenOk r line (addFix (partOf s) f) ⌝ }
 {
     let mut chip = s.chip;
@@ -205,15 +156,15 @@ fn put_fix(s: State, f: Fix, line: usize) -> Taken
     }
     chip.fixes[k] = f;
     chip.k = k + 1;
-    with_chip(s, Word::Fix, chip)
+    with_chip(s, ChipWord::Fix, chip)
 }
 
 // What a `fix` line adds.
 fn add_fix(s: State, v: [u64; 4], line: usize) -> Taken
     requires { ⌜ Sound s ⌝ }
-    requires { ⌜ InRanges Word.Fix (valuesOf Word.Fix v) ⌝ }
-    requires { ⌜ Entered chipKind (partOf s) Word.Fix ⌝ }
-    ensures { λ r. ⌜ TakenOk r line (add (partOf s) Word.Fix (valuesOf Word.Fix v)) ⌝ }
+    requires { ⌜ ReadAs chipWords ChipWord.Fix (chipValues ChipWord.Fix v) ⌝ }
+    requires { ⌜ Entered chipKind (partOf s) ChipWord.Fix ⌝ }
+    ensures { λ r. ⌜ TakenOk r line (add (partOf s) ChipWord.Fix (chipValues ChipWord.Fix v)) ⌝ }
 {
     let FixMade::Made(f) = Fix::new(v[0], v[1], v[2], v[3]) else {
         return with_fault(s, Refusal { no: 4, line });
@@ -224,9 +175,9 @@ fn add_fix(s: State, v: [u64; 4], line: usize) -> Taken
 // What a `mac` line adds: a last macro.
 fn add_mac(s: State, v: [u64; 4], line: usize) -> Taken
     requires { ⌜ Sound s ⌝ }
-    requires { ⌜ InRanges Word.Mac (valuesOf Word.Mac v) ⌝ }
-    requires { ⌜ Entered chipKind (partOf s) Word.Mac ⌝ }
-    ensures { λ r. ⌜ TakenOk r line (add (partOf s) Word.Mac (valuesOf Word.Mac v)) ⌝ }
+    requires { ⌜ ReadAs chipWords ChipWord.Mac (chipValues ChipWord.Mac v) ⌝ }
+    requires { ⌜ Entered chipKind (partOf s) ChipWord.Mac ⌝ }
+    ensures { λ r. ⌜ TakenOk r line (add (partOf s) ChipWord.Mac (chipValues ChipWord.Mac v)) ⌝ }
 {
     let MacMade::Made(mac) = Mac::new(v[0], v[1]) else {
         return with_fault(s, Refusal { no: 4, line });
@@ -235,15 +186,15 @@ fn add_mac(s: State, v: [u64; 4], line: usize) -> Taken
     let n = chip.n;
     chip.macs[n] = mac;
     chip.n = n + 1;
-    with_chip(s, Word::Mac, chip)
+    with_chip(s, ChipWord::Mac, chip)
 }
 
 // What a `net` line adds: a last net, without pins.
 fn add_net(s: State, v: [u64; 4], line: usize) -> Taken
     requires { ⌜ Sound s ⌝ }
-    requires { ⌜ InRanges Word.Net (valuesOf Word.Net v) ⌝ }
-    requires { ⌜ Entered chipKind (partOf s) Word.Net ⌝ }
-    ensures { λ r. ⌜ TakenOk r line (add (partOf s) Word.Net (valuesOf Word.Net v)) ⌝ }
+    requires { ⌜ ReadAs chipWords ChipWord.Net (chipValues ChipWord.Net v) ⌝ }
+    requires { ⌜ Entered chipKind (partOf s) ChipWord.Net ⌝ }
+    ensures { λ r. ⌜ TakenOk r line (add (partOf s) ChipWord.Net (chipValues ChipWord.Net v)) ⌝ }
 {
     let NetMade::Made(net) = Net::new(v[0], 0) else {
         return with_fault(s, Refusal { no: 4, line });
@@ -252,15 +203,15 @@ fn add_net(s: State, v: [u64; 4], line: usize) -> Taken
     let t = chip.t;
     chip.nets[t] = net;
     chip.t = t + 1;
-    with_chip(s, Word::Net, chip)
+    with_chip(s, ChipWord::Net, chip)
 }
 
 // What a `pin` line adds: a last pin of the last net. No such macro 8.
 fn add_pin(s: State, v: [u64; 4], line: usize) -> Taken
     requires { ⌜ Sound s ⌝ }
-    requires { ⌜ InRanges Word.Pin (valuesOf Word.Pin v) ⌝ }
-    requires { ⌜ Entered chipKind (partOf s) Word.Pin ⌝ }
-    ensures { λ r. ⌜ TakenOk r line (add (partOf s) Word.Pin (valuesOf Word.Pin v)) ⌝ }
+    requires { ⌜ ReadAs chipWords ChipWord.Pin (chipValues ChipWord.Pin v) ⌝ }
+    requires { ⌜ Entered chipKind (partOf s) ChipWord.Pin ⌝ }
+    ensures { λ r. ⌜ TakenOk r line (add (partOf s) ChipWord.Pin (chipValues ChipWord.Pin v)) ⌝ }
 {
     let m = v[0] as usize;
     let PinMade::Made(pin) = Pin::held(m, v[1], v[2]) else {
@@ -281,7 +232,7 @@ fn add_pin(s: State, v: [u64; 4], line: usize) -> Taken
     Taken {
         fault: Fault::Clear,
         state: State {
-            last: Word::Pin,
+            last: ChipLast::After(ChipWord::Pin),
             pins: q + 1,
             chip,
         },
@@ -289,34 +240,30 @@ fn add_pin(s: State, v: [u64; 4], line: usize) -> Taken
 }
 
 // What a line with the word w and the values v adds, or its fault.
-fn add_item(s: State, w: Word, v: [u64; 4], line: usize) -> Taken
+fn add_item(s: State, w: ChipWord, v: [u64; 4], line: usize) -> Taken
     requires { ⌜ Sound s ⌝ }
-    requires { ⌜ InRanges w (valuesOf w v) ⌝ }
+    requires { ⌜ ReadAs chipWords w (chipValues w v) ⌝ }
     requires { ⌜ Entered chipKind (partOf s) w ⌝ }
-    ensures { λ r. ⌜ TakenOk r line (add (partOf s) w (valuesOf w v)) ⌝ }
+    ensures { λ r. ⌜ TakenOk r line (add (partOf s) w (chipValues w v)) ⌝ }
 {
     match w {
-        Word::Die => add_die(s, v, line),
-        Word::Fix => add_fix(s, v, line),
-        Word::Mac => add_mac(s, v, line),
-        Word::Net => add_net(s, v, line),
-        Word::Pin => add_pin(s, v, line),
-        Word::End => with_chip(s, Word::End, s.chip),
-        Word::Nothing => with_fault(s, Refusal { no: 2, line }),
-        Word::Least => with_fault(s, Refusal { no: 2, line }),
-        Word::None => with_fault(s, Refusal { no: 2, line }),
-        Word::At => with_fault(s, Refusal { no: 2, line }),
-        Word::Done => with_fault(s, Refusal { no: 2, line }),
+        ChipWord::Die => add_die(s, v, line),
+        ChipWord::Fix => add_fix(s, v, line),
+        ChipWord::Mac => add_mac(s, v, line),
+        ChipWord::Net => add_net(s, v, line),
+        ChipWord::Pin => add_pin(s, v, line),
+        ChipWord::End => with_chip(s, ChipWord::End, s.chip),
     }
 }
 
 // What a line leads to whose word passes the tests before the fields, by the bytes after the word.
-fn take_fields(rest: &[u8], s: State, w: Word, line: usize) -> Taken
+fn take_fields(rest: &[u8], s: State, w: ChipWord, line: usize) -> Taken
     requires { ⌜ Sound s ⌝ }
     requires { ⌜ Entered chipKind (partOf s) w ⌝ }
-    ensures { λ r. ⌜ TakenOk r line (stepFields chipKind (partOf s) w (fields (rules w) (now (rest .entry)))) ⌝ }
+    ensures { λ r. ⌜ TakenOk r line (stepFields chipKind (partOf s) w (fields (form w) (now (rest .entry)))) ⌝ }
 {
-    let fields = line::read_fields(rest, w, line);
+    let layout = chip_words::layout_of(w);
+    let fields = line::read_fields(rest, layout, line);
     let answer = fields.answer;
     let values = fields.values;
     match answer {
@@ -331,7 +278,9 @@ fn take_line(bytes: &[u8], s: State, line: usize) -> Taken
     ensures { λ r. ⌜ TakenOk r line (stepBytes chipKind (partOf s) (now (bytes .entry))) ⌝ }
 {
     let b = line::bytes_before(bytes, 44);
-    let w = line::chip_word(&bytes[..b]);
+    let ChipFound::Known(w) = chip_words::word_of(&bytes[..b]) else {
+        return with_fault(s, Refusal { no: 2, line });
+    };
     let no = entry_fault(s, w);
     if no != 0 {
         return with_fault(s, Refusal { no, line });
@@ -369,7 +318,7 @@ fn finish(s: State, line: usize) -> ChipRead
 {
     let last = s.last;
     let chip = s.chip;
-    if grammar::rank_of(last) != 6 {
+    if !chip_words::is_last(last, ChipWord::End) {
         return refused(Refusal { no: 5, line });
     }
     ChipRead {
@@ -384,7 +333,7 @@ fn read_lines(text: &[u8]) -> ChipRead
     ensures { λ r. ⌜ ReadOk (readChip (now (text .entry))) r ⌝ }
 {
     let mut s = State {
-        last: Word::Nothing,
+        last: ChipLast::Before,
         pins: 0,
         chip: blank_chip(),
     };

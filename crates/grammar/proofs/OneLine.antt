@@ -18,7 +18,7 @@ module _ (l : ℕ) (f : Fields → Reading (List Value)) (right : (zs : List Val
   fields-got (got ys) zs e = let c = e ∙ right ys in let q : ys ≡ zs = cc in ap got q
   fields-got (faulty n) zs e = let c = e ∙ wrong n in cc
 
-  fields-faulty : (x : Fields) (n j : ℕ) → refused n j ≡ f x → (x ≡ faulty n) × (j ≡ l)
+  pub fields-faulty : (x : Fields) (n j : ℕ) → refused n j ≡ f x → (x ≡ faulty n) × (j ≡ l)
   fields-faulty (got ys) n j e = let c = e ∙ right ys in (cc, cc)
   fields-faulty (faulty m) n j e = let c = e ∙ wrong m in let q : m ≡ n = cc in (ap faulty q, cc)
 

@@ -1,4 +1,4 @@
--- What the private functions of the field reader promise.
+-- What the functions of the field reader and of a reader of lines promise.
 use Prim.Native.Nat.{ℕ, _≤_}
 use mathlib.Core.List.{List}
 use mathlib.Core.Path.{_≡_}
@@ -6,10 +6,13 @@ use mathlib.Core.Bool.{Bool, true, false, _&&_}
 use lib.Dec.{leb}
 use lib.ListN.{length, take, drop}
 use Rattle.model.specs.declared.Refusal.{Refusal}
+use Rattle.grammar.specs.Reading.{Step, next, fault as faultBy}
 use Rattle.grammar.specs.Line.{number, Rest, rest, noMark, strip, Fields, faulty, andThen, marked}
 use Rattle.line.specs.declared.Rule.{Rule as HeldRule}
 use Rattle.line.specs.declared.Field.{Field}
 use Rattle.line.specs.declared.Field.the-variants as field
+use Rattle.line.specs.declared.Fault.{Fault}
+use Rattle.line.specs.declared.Fault.the-variants as fault
 use Rattle.line.specs.Held.{lowered}
 use Rattle.line.specs.Layout.{markOf, ruleOf}
 
@@ -54,3 +57,20 @@ pub record Faulty (text : List ℕ) (a : ℕ) (r : HeldRule) (l : ℕ) (f : Refu
 abbrev pub FieldOk : List ℕ → ℕ → HeldRule → ℕ → Field → Type 0
 FieldOk text a r l (field.Value v b) = Got text a r v b
 FieldOk text a r l (field.Refused f) = Faulty text a r l f
+
+-- ---- one line
+
+-- what a line leads to, by its fault; s is what has been read with it
+abbrev pub stepOf : {S : Type 0} → Fault → S → Step S
+stepOf fault.Clear s = next s
+stepOf (fault.Refused f) s = faultBy (f .no)
+
+-- the line of a refusal; where there is none, the line l
+abbrev pub lineOf : Fault → ℕ → ℕ
+lineOf fault.Clear l = l
+lineOf (fault.Refused f) l = f .line
+
+-- a fault and what has been read are those of line l, which leads to that step
+pub record LineOk {S : Type 0} (f : Fault) (s : S) (l : ℕ) (step : Step S) : Type 0 where
+  pub meant : stepOf f s ≡ step
+  pub at : lineOf f l ≡ l

@@ -1,5 +1,5 @@
 -- The rules of the record (document 01, "The search and its record" and "Refusal table"), as a kind of text.
-use Prim.Native.Nat.{suc}
+use Prim.Native.Nat.{ℕ, suc}
 use mathlib.Core.List.{List, [], _∷_, _++_}
 use mathlib.Core.Bool.{Bool, true}
 use lib.Dec.{ltb, eqb}
@@ -36,12 +36,12 @@ abbrev pub spotsOf : Record → List Spot
 spotsOf none = []
 spotsOf (least wl ps) = ps
 
--- there is room for one more of the kind
-abbrev pub room : Record → RecordWord → Bool
-room r word.Least = true
-room r word.None = true
-room r word.At = ltb (length (spotsOf r)) mostMacs
-room r word.Done = true
+-- there is room for one more of the word's kind, beside n macros
+abbrev pub room : ℕ → RecordWord → Bool
+room n word.Least = true
+room n word.None = true
+room n word.At = ltb n mostMacs
+room n word.Done = true
 
 -- the corner with the values vs of an `at` line
 abbrev pub spotOf : List Value → Spot
@@ -71,7 +71,7 @@ recordKind = record {
   words = recordWords;
   mostBytes = mostBytes;
   followers = λ s. followers (s .last);
-  hasRoom = λ s w. room (s .result) w;
+  hasRoom = λ s w. room (length (spotsOf (s .result))) w;
   hasPin = λ s w. true;
   add = add;
   complete = λ s. isLast recordWords (s .last) word.Done;

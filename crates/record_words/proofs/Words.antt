@@ -5,6 +5,7 @@ use mathlib.Core.List.{List, [], _∷_}
 use Rattle.line.specs.declared.Layout.{Layout}
 use Rattle.line.specs.Held.{spelled}
 use Rattle.line.specs.Layout.{chain, allSane, isLayout, formOf, layoutFor}
+use Rattle.line.proofs.Walk.{Laying}
 use Rattle.grammar.specs.Words.{isWord, isIn}
 use Rattle.grammar.specs.Reading.{isLast, before, after}
 use Rattle.record.specs.declared.RecordWord.{RecordWord}
@@ -26,19 +27,22 @@ module _ (x w : RecordWord) (e : w ≡ x) where
 
 -- ---- the layout of a word is its form, within the limits
 
-pub chain-of : (w : RecordWord) → formOf (layoutFor (form w) .count) (layoutFor (form w) .rules) ≡ form w
+chain-of : (w : RecordWord) → formOf (layoutFor (form w) .count) (layoutFor (form w) .rules) ≡ form w
 unfolding chain
 chain-of word.Least = refl
 chain-of word.None = refl
 chain-of word.At = refl
 chain-of word.Done = refl
 
-pub layout-of : (w : RecordWord) → isLayout (layoutFor (form w) .count) (layoutFor (form w) .rules) ≡ true
+layout-of : (w : RecordWord) → isLayout (layoutFor (form w) .count) (layoutFor (form w) .rules) ≡ true
 unfolding allSane
 layout-of word.Least = refl
 layout-of word.None = refl
 layout-of word.At = refl
 layout-of word.Done = refl
+
+pub laying : (w : RecordWord) → Laying (form w)
+laying w = record { means = chain-of w; fine = layout-of w }
 
 -- ---- the last word
 

@@ -1,7 +1,11 @@
--- What the program's cases mean: a word that was looked for, and the word of the last line.
-use Rattle.grammar.specs.Words.{Found, known, unknown}
+-- What the program's values mean: a word that was looked for, and the word of the last line; the tests of a line before its fields.
+use Prim.Native.Nat.{ℕ}
+use Rattle.grammar.specs.Words.{Found, known, unknown, isIn}
 use Rattle.grammar.specs.Reading.{Last, before, after}
+use Rattle.grammar.specs.Steps.{need}
 use Rattle.record.specs.declared.RecordWord.{RecordWord}
+use Rattle.record.specs.Words.{recordWords}
+use Rattle.record.specs.Kind.{followers, room}
 use Rattle.record_words.specs.declared.RecordFound.{RecordFound}
 use Rattle.record_words.specs.declared.RecordFound.the-variants as found
 use Rattle.record_words.specs.declared.RecordLast.{RecordLast}
@@ -14,3 +18,9 @@ foundOf found.Unknown = unknown
 abbrev pub lastOf : RecordLast → Last RecordWord
 lastOf last.Before = before
 lastOf (last.After w) = after w
+
+-- the first fault of a line before its fields, or 0, beside n macros: place 5, count 6
+unfoldable pub recordEntry : Last RecordWord → ℕ → RecordWord → ℕ
+recordEntry l n w =
+    need (isIn recordWords w (followers l)) 5
+    (need (room n w) 6 0)

@@ -12,8 +12,8 @@ ghost use Rattle.grammar.specs.Reading.{isLast};
 ghost use Rattle.line.specs.Held.{spelled};
 ghost use Rattle.line.specs.Layout.{layoutFor};
 ghost use Rattle.record.specs.Words.{spell, form, recordWords};
-ghost use Rattle.record.specs.Kind.{followers};
-ghost use Rattle.record_words.specs.Meant.{foundOf, lastOf};
+ghost use Rattle.record.specs.Kind.{followers, room};
+ghost use Rattle.record_words.specs.Meant.{foundOf, lastOf, recordEntry};
 
 // The word that some bytes spell, or that there is none.
 pub enum RecordFound {
@@ -132,6 +132,31 @@ pub fn is_last(last: RecordLast, w: RecordWord) -> bool
         return false;
     };
     same_word(v, w)
+}
+
+// Count: whether there is room for one more of the word's kind, beside so many macros.
+fn has_room(count: usize, w: RecordWord) -> bool
+    ensures { λ r. ⌜ r ≡ room count w ⌝ }
+{
+    match w {
+        RecordWord::Least => true,
+        RecordWord::None => true,
+        RecordWord::At => count < Mac::COUNT,
+        RecordWord::Done => true,
+    }
+}
+
+// The first fault of a line before its fields: place 5, count 6; or 0.
+pub fn entry_fault(last: RecordLast, count: usize, w: RecordWord) -> usize
+    ensures { λ r. ⌜ r ≡ recordEntry (lastOf last) count w ⌝ }
+{
+    if !may_follow(last, w) {
+        return 5;
+    }
+    if !has_room(count, w) {
+        return 6;
+    }
+    0
 }
 
 // The fields of a macro's corner.

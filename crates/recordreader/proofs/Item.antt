@@ -1,22 +1,17 @@
 -- What a line adds, by its word.
-use mathlib.Core.Path.{_≡_, refl}
+use mathlib.Core.Path.{_≡_}
 use mathlib.Core.List.{List}
 use Prim.Native.Nat.{ℕ}
-use Rattle.model.specs.declared.Word.{Word}
-use Rattle.grammar.specs.Reading.{fault}
-use Rattle.grammar.specs.Steps.{InRanges}
-use Rattle.line.specs.Held.{valuesOf}
+use Rattle.grammar.specs.Steps.{ReadAs}
+use Rattle.record.specs.declared.RecordWord.{RecordWord}
+use Rattle.record.specs.Words.{recordWords}
 use Rattle.record.specs.Kind.{add}
 use Rattle.recordreader.specs.declared.State.{State}
 use Rattle.recordreader.specs.declared.Taken.{Taken}
-use Rattle.recordreader.specs.State.{Sound, partOf, withFault, TakenOk}
+use Rattle.recordreader.specs.State.{partOf, recordValues, TakenOk}
 
-pub ranged-as : (w x : Word) → w ≡ x → (v : List ℕ) → InRanges w (valuesOf w v) → InRanges x (valuesOf x v)
-ranged-as w x e v i = rw (← e) i
+pub read-as-is : (w x : RecordWord) → w ≡ x → (v : List ℕ) → ReadAs recordWords w (recordValues w v) → ReadAs recordWords x (recordValues x v)
+read-as-is w x e v i = rw (← e) i
 
-module _ (s : State) (w x : Word) (e : w ≡ x) (v : List ℕ) (r : Taken) (l : ℕ) where
-  pub taken-as : TakenOk r l (add (partOf s) x (valuesOf x v)) → TakenOk r l (add (partOf s) w (valuesOf w v))
-  taken-as t = rw e t
-
-  pub not-taken : Sound s → r ≡ withFault s (record { no = 2; line = l }) → fault 2 ≡ add (partOf s) x (valuesOf x v) → TakenOk r l (add (partOf s) w (valuesOf w v))
-  not-taken sound q f = rw (e, q) (record { meant = f; at = refl; sound = sound })
+pub taken-as : (s : State) (w x : RecordWord) → w ≡ x → (v : List ℕ) (r : Taken) (l : ℕ) → TakenOk r l (add (partOf s) x (recordValues x v)) → TakenOk r l (add (partOf s) w (recordValues w v))
+taken-as s w x e v r l t = rw e t

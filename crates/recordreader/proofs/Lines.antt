@@ -1,25 +1,27 @@
 -- Reading line by line: what is left to read, and each end of the reading.
 use mathlib.Core.Path.{_≡_, refl, sym, ap, ap₂, subst}
-use mathlib.Core.Bool.{true, false, false≢true}
+use mathlib.Core.Bool.{Bool, true, false, not, false≢true}
 use mathlib.Core.List.{List}
 use Prim.Native.Nat.{ℕ, _+_, _-_, _≤_, _<_}
 use lib.ListN.{length, take, drop, replicate}
-use borrow.Author.Tests.{ne-eqb}
+use borrow.Author.Tests.{not-true, not-false}
 use Rattle.model.specs.declared.Spot.{Spot}
 use Rattle.model.specs.declared.Outcome.the-variants as outcome
 use Rattle.model.specs.declared.Record.{Record as HeldRecord}
-use Rattle.model.specs.declared.Word.the-variants as word
 use Rattle.model.specs.declared.Refusal.{Refusal}
 use Rattle.model.specs.Meaning.{Record, recordOf, firstOf, blankSpot}
 use Rattle.model.specs.Limits.{mostMacs}
 use Rattle.model.specs.Held.{filled}
 use Rattle.model.proofs.FirstOf.{length-first}
 use Rattle.model.proofs.Holding.{holds-all, holds-none, filled-again}
-use Rattle.grammar.specs.Words.{rank}
-use Rattle.grammar.specs.Reading.{Reading, refused, stepBytes, stepLine, ending}
+use Rattle.grammar.specs.Reading.{Reading, refused, isLast, stepBytes, stepLine, ending}
 use Rattle.grammar.specs.Steps.{lineEnd, lineAt}
 use Rattle.grammar.proofs.LineAt.{step-open, step-ended}
 use Rattle.grammar.proofs.Left.{Left, text-fails, text-goes-on, text-ends}
+use Rattle.record.specs.declared.RecordWord.the-variants as word
+use Rattle.record.specs.Words.{recordWords}
+use Rattle.record_words.specs.declared.RecordLast.the-variants as last
+use Rattle.record_words.specs.Meant.{lastOf}
 use Rattle.record.specs.Kind.{start, recordKind}
 use Rattle.record.specs.Text.{recordRead, readRecord}
 use Rattle.recordreader.specs.declared.State.{State}
@@ -36,14 +38,14 @@ refuses r f read e q = rw (e, ← q) (record { meant = refl; whole = refl })
 -- ---- before the first line
 
 module _ (ps : List Spot) (e : ps ≡ replicate 8 blankSpot) where
-  pub empty-sound : Sound (record { last = word.Nothing; found = false; wl = 0; count = 0; spots = ps })
+  pub empty-sound : Sound (record { last = last.Before; found = false; wl = 0; count = 0; spots = ps })
   empty-sound = record { spots = rw e (holds-none blankSpot mostMacs); blank = λ f. refl; opened = λ o. absurd (false≢true o) }
 
 -- ---- a line
 
 module _ (text : List ℕ) (a z : ℕ) (end : z ≡ lineEnd text a) (s : State) (t : Taken) (line : ℕ) where
   pub no-feed : Sound s → z ≡ length text → t ≡ withFault s (record { no = 2; line = line }) → TakenOk t line (stepLine recordKind (partOf s) (lineAt text a z))
-  no-feed sound q e = rw e (record { meant = step-open text a z end recordKind (partOf s) q; at = refl; sound = sound })
+  no-feed sound q e = rw e (record { ok = record { meant = step-open text a z end recordKind (partOf s) q; at = refl }; sound = sound })
 
   pub has-feed : (z ≡ length text → ⊥) → TakenOk t line (stepBytes recordKind (partOf s) (take (z - a) (drop a text))) → TakenOk t line (stepLine recordKind (partOf s) (lineAt text a z))
   has-feed q ok = rw (← step-ended text a z end recordKind (partOf s) q) ok
@@ -52,11 +54,11 @@ module _ (text : List ℕ) (a z : ℕ) (end : z ≡ lineEnd text a) (s : State) 
     pub line-fails : (f : Refusal) → t .fault ≡ held.Refused f → refused (f .no) (f .line) ≡ readRecord text
     unfolding readRecord
     line-fails f g =
-        let own : f .line ≡ line = rw g at (ok .at) in
-        rw own (ap recordRead (text-fails recordKind start text (partOf s) a line left z end h (f .no) (rw g at (ok .meant))))
+        let own : f .line ≡ line = rw g at (ok .ok .at) in
+        rw own (ap recordRead (text-fails recordKind start text (partOf s) a line left z end h (f .no) (rw g at (ok .ok .meant))))
 
     pub line-read : t .fault ≡ held.Clear → Left recordKind start text (partOf (t .state)) (z + 1) (line + 1)
-    line-read g = text-goes-on recordKind start text (partOf s) a line left z end h (partOf (t .state)) (rw g at (ok .meant))
+    line-read g = text-goes-on recordKind start text (partOf s) a line left z end h (partOf (t .state)) (rw g at (ok .ok .meant))
 
 -- ---- after the last line
 
@@ -83,13 +85,13 @@ module _ (s : State) (sound : Sound s) where
       let blank : replicate mostMacs blankSpot ≡ s .spots = subst (λ (n : ℕ). filled mostMacs blankSpot (firstOf blankSpot n (s .spots)) ≡ s .spots) (sound .blank e) (filled-again blankSpot mostMacs (s .count) (s .spots) (sound .spots)) in
       rw e (record { meant = refl; whole = ap (λ (ps : List Spot). record { outcome = outcome.None; spots = ps }) (sym blank) })
 
-module _ (s : State) (line b : ℕ) (own : b ≡ rank (s .last)) where
-  pub complete : b ≡ 10 → (r : HeldRecord) → RecordIs r (partOf s .result) → ReadOk (recordRead (ending recordKind (recordKind .complete (partOf s)) (partOf s) line)) (record { answer = answer.Accepted; «record» = r })
-  complete e r q =
+module _ (s : State) (line : ℕ) (b : Bool) (own : b ≡ isLast recordWords (lastOf (s .last)) word.Done) where
+  pub complete : not b ≡ false → (r : HeldRecord) → RecordIs r (partOf s .result) → ReadOk (recordRead (ending recordKind (recordKind .complete (partOf s)) (partOf s) line)) (record { answer = answer.Accepted; «record» = r })
+  complete h r q =
       record {
-        meant = rw (← own, e, q .meant);
-        whole = rw (← own, e) (ap (λ (d : HeldRecord). record { answer = answer.Accepted; «record» = d }) (q .whole));
+        meant = rw (← own, not-false b h, q .meant);
+        whole = rw (← own, not-false b h) (ap (λ (d : HeldRecord). record { answer = answer.Accepted; «record» = d }) (q .whole));
       }
 
-  pub not-complete : (b ≡ 10 → ⊥) → refused 5 line ≡ recordRead (ending recordKind (recordKind .complete (partOf s)) (partOf s) line)
-  not-complete d = rw (← own, ne-eqb b 10 d)
+  pub not-complete : not b ≡ true → refused 5 line ≡ recordRead (ending recordKind (recordKind .complete (partOf s)) (partOf s) line)
+  not-complete h = rw (← own, not-true b h)

@@ -8,20 +8,21 @@ use model::Refusal;
 use model::Spot;
 use model::SpotMade;
 use model::TEXT_MOST;
-use model::Word;
+use record::RecordWord;
+use record_words::RecordFound;
+use record_words::RecordLast;
 ghost use mathlib.Core.Path.{_≡_};
 ghost use Prim.Native.Nat.{_≤_, _<_};
 ghost use lib.ListN.{length, replicate};
 ghost use Rattle.model.specs.Limits.{mostBytes, mostMacs};
 ghost use Rattle.model.specs.Meaning.{blankSpot};
-ghost use Rattle.grammar.specs.Words.{rules};
 ghost use Rattle.grammar.specs.Line.{fields};
 ghost use Rattle.grammar.specs.Reading.{stepBytes, stepFields, stepLine, ending};
-ghost use Rattle.grammar.specs.Steps.{entryFault, Entered, InRanges, lineEnd, lineAt};
-ghost use Rattle.line.specs.Held.{valuesOf};
+ghost use Rattle.grammar.specs.Steps.{entryFault, Entered, ReadAs, lineEnd, lineAt};
+ghost use Rattle.record.specs.Words.{form, recordWords};
 ghost use Rattle.record.specs.Kind.{add, recordKind};
 ghost use Rattle.record.specs.Text.{recordRead, readRecord};
-ghost use Rattle.recordreader.specs.State.{Sound, partOf, mayFollow, withFault, TakenOk, RecordIs};
+ghost use Rattle.recordreader.specs.State.{Sound, partOf, recordValues, withFault, TakenOk, RecordIs};
 ghost use Rattle.recordreader.specs.Answer.{refusedAt, meantRecord, recordAnswer, ReadOk};
 
 // What reading a record answers.
@@ -38,7 +39,7 @@ pub struct RecordRead {
 
 // What has been read: the word of the last line, whether there is a `least` line, its wirelength, and the spots so far with their count.
 pub(crate) struct State {
-    pub last: Word,
+    pub last: RecordLast,
     pub found: bool,
     pub wl: u64,
     pub count: usize,
@@ -58,36 +59,13 @@ fn blank_spots() -> [Spot; Mac::COUNT]
     [Spot { x: 0, y: 0 }; Mac::COUNT]
 }
 
-// Place: whether a word of rank b may stand after one of rank a: it may where b is from least[a] to most[a].
-fn may_follow(a: usize, b: usize) -> bool
-    requires { ⌜ a < 11 ⌝ }
-    ensures { λ r. ⌜ r ≡ mayFollow a b ⌝ }
-{
-    let least = [7, 1, 1, 1, 1, 1, 1, 9, 10, 9, 1];
-    let most = [8, 0, 0, 0, 0, 0, 0, 10, 10, 10, 0];
-    model::within(b as u64, least[a], most[a])
-}
-
-// The first fault of a line before its fields: word 2, place 5, count 6; or 0.
-fn entry_fault(s: State, w: Word) -> usize
+// The first fault of a line before its fields: place 5, count 6; or 0.
+fn entry_fault(s: State, w: RecordWord) -> usize
     requires { ⌜ Sound s ⌝ }
     ensures { λ r. ⌜ r ≡ entryFault recordKind (partOf s) w ⌝ }
 {
     let last = s.last;
-    let a = grammar::rank_of(last);
-    let b = grammar::rank_of(w);
-    if b == 0 {
-        return 2;
-    }
-    if !may_follow(a, b) {
-        return 5;
-    }
-    if b == 9 {
-        if Mac::COUNT <= s.count {
-            return 6;
-        }
-    }
-    0
+    record_words::entry_fault(last, s.count, w)
 }
 
 // A faulty line: what was read before it stays.
@@ -103,13 +81,13 @@ fn with_fault(s: State, f: Refusal) -> Taken
 // What a `least` line adds: the wirelength, with no spot yet.
 fn add_least(s: State, v: [u64; 4], line: usize) -> Taken
     requires { ⌜ Sound s ⌝ }
-    ensures { λ r. ⌜ TakenOk r line (add (partOf s) Word.Least (valuesOf Word.Least v)) ⌝ }
+    ensures { λ r. ⌜ TakenOk r line (add (partOf s) RecordWord.Least (recordValues RecordWord.Least v)) ⌝ }
 {
     let spots = blank_spots();
     Taken {
         fault: Fault::Clear,
         state: State {
-            last: Word::Least,
+            last: RecordLast::After(RecordWord::Least),
             found: true,
             wl: v[0],
             count: 0,
@@ -121,13 +99,13 @@ fn add_least(s: State, v: [u64; 4], line: usize) -> Taken
 // What a `none` line adds: that there is no placement.
 fn add_none(s: State, v: [u64; 4], line: usize) -> Taken
     requires { ⌜ Sound s ⌝ }
-    ensures { λ r. ⌜ TakenOk r line (add (partOf s) Word.None (valuesOf Word.None v)) ⌝ }
+    ensures { λ r. ⌜ TakenOk r line (add (partOf s) RecordWord.None (recordValues RecordWord.None v)) ⌝ }
 {
     let spots = blank_spots();
     Taken {
         fault: Fault::Clear,
         state: State {
-            last: Word::None,
+            last: RecordLast::After(RecordWord::None),
             found: false,
             wl: 0,
             count: 0,
@@ -139,9 +117,9 @@ fn add_none(s: State, v: [u64; 4], line: usize) -> Taken
 // What an `at` line adds: the spot of macro m. m out of turn 8. The values that were read are in their ranges, so the constructor does not refuse them.
 fn add_at(s: State, v: [u64; 4], line: usize) -> Taken
     requires { ⌜ Sound s ⌝ }
-    requires { ⌜ InRanges Word.At (valuesOf Word.At v) ⌝ }
-    requires { ⌜ Entered recordKind (partOf s) Word.At ⌝ }
-    ensures { λ r. ⌜ TakenOk r line (add (partOf s) Word.At (valuesOf Word.At v)) ⌝ }
+    requires { ⌜ ReadAs recordWords RecordWord.At (recordValues RecordWord.At v) ⌝ }
+    requires { ⌜ Entered recordKind (partOf s) RecordWord.At ⌝ }
+    ensures { λ r. ⌜ TakenOk r line (add (partOf s) RecordWord.At (recordValues RecordWord.At v)) ⌝ }
 {
     let m = v[0] as usize;
     let n = s.count;
@@ -156,7 +134,7 @@ fn add_at(s: State, v: [u64; 4], line: usize) -> Taken
     Taken {
         fault: Fault::Clear,
         state: State {
-            last: Word::At,
+            last: RecordLast::After(RecordWord::At),
             found: s.found,
             wl: s.wl,
             count: n + 1,
@@ -168,13 +146,13 @@ fn add_at(s: State, v: [u64; 4], line: usize) -> Taken
 // What the `done` line adds: nothing.
 fn add_done(s: State, v: [u64; 4], line: usize) -> Taken
     requires { ⌜ Sound s ⌝ }
-    ensures { λ r. ⌜ TakenOk r line (add (partOf s) Word.Done (valuesOf Word.Done v)) ⌝ }
+    ensures { λ r. ⌜ TakenOk r line (add (partOf s) RecordWord.Done (recordValues RecordWord.Done v)) ⌝ }
 {
     let spots = s.spots;
     Taken {
         fault: Fault::Clear,
         state: State {
-            last: Word::Done,
+            last: RecordLast::After(RecordWord::Done),
             found: s.found,
             wl: s.wl,
             count: s.count,
@@ -184,34 +162,28 @@ fn add_done(s: State, v: [u64; 4], line: usize) -> Taken
 }
 
 // What a line with the word w and the values v adds, or its fault.
-fn add_item(s: State, w: Word, v: [u64; 4], line: usize) -> Taken
+fn add_item(s: State, w: RecordWord, v: [u64; 4], line: usize) -> Taken
     requires { ⌜ Sound s ⌝ }
-    requires { ⌜ InRanges w (valuesOf w v) ⌝ }
+    requires { ⌜ ReadAs recordWords w (recordValues w v) ⌝ }
     requires { ⌜ Entered recordKind (partOf s) w ⌝ }
-    ensures { λ r. ⌜ TakenOk r line (add (partOf s) w (valuesOf w v)) ⌝ }
+    ensures { λ r. ⌜ TakenOk r line (add (partOf s) w (recordValues w v)) ⌝ }
 {
     match w {
-        Word::Least => add_least(s, v, line),
-        Word::None => add_none(s, v, line),
-        Word::At => add_at(s, v, line),
-        Word::Done => add_done(s, v, line),
-        Word::Nothing => with_fault(s, Refusal { no: 2, line }),
-        Word::Die => with_fault(s, Refusal { no: 2, line }),
-        Word::Fix => with_fault(s, Refusal { no: 2, line }),
-        Word::Mac => with_fault(s, Refusal { no: 2, line }),
-        Word::Net => with_fault(s, Refusal { no: 2, line }),
-        Word::Pin => with_fault(s, Refusal { no: 2, line }),
-        Word::End => with_fault(s, Refusal { no: 2, line }),
+        RecordWord::Least => add_least(s, v, line),
+        RecordWord::None => add_none(s, v, line),
+        RecordWord::At => add_at(s, v, line),
+        RecordWord::Done => add_done(s, v, line),
     }
 }
 
 // What a line leads to whose word passes the tests before the fields, by the bytes after the word.
-fn take_fields(rest: &[u8], s: State, w: Word, line: usize) -> Taken
+fn take_fields(rest: &[u8], s: State, w: RecordWord, line: usize) -> Taken
     requires { ⌜ Sound s ⌝ }
     requires { ⌜ Entered recordKind (partOf s) w ⌝ }
-    ensures { λ r. ⌜ TakenOk r line (stepFields recordKind (partOf s) w (fields (rules w) (now (rest .entry)))) ⌝ }
+    ensures { λ r. ⌜ TakenOk r line (stepFields recordKind (partOf s) w (fields (form w) (now (rest .entry)))) ⌝ }
 {
-    let fields = line::read_fields(rest, w, line);
+    let layout = record_words::layout_of(w);
+    let fields = line::read_fields(rest, layout, line);
     let answer = fields.answer;
     let values = fields.values;
     match answer {
@@ -226,7 +198,9 @@ fn take_line(bytes: &[u8], s: State, line: usize) -> Taken
     ensures { λ r. ⌜ TakenOk r line (stepBytes recordKind (partOf s) (now (bytes .entry))) ⌝ }
 {
     let b = line::bytes_before(bytes, 44);
-    let w = line::record_word(&bytes[..b]);
+    let RecordFound::Known(w) = record_words::word_of(&bytes[..b]) else {
+        return with_fault(s, Refusal { no: 2, line });
+    };
     let no = entry_fault(s, w);
     if no != 0 {
         return with_fault(s, Refusal { no, line });
@@ -285,7 +259,7 @@ fn finish(s: State, line: usize) -> RecordRead
     ensures { λ r. ⌜ ReadOk (recordRead (ending recordKind (recordKind .complete (partOf s)) (partOf s) line)) r ⌝ }
 {
     let last = s.last;
-    if grammar::rank_of(last) != 10 {
+    if !record_words::is_last(last, RecordWord::Done) {
         return refused(Refusal { no: 5, line });
     }
     RecordRead {
@@ -301,7 +275,7 @@ fn read_lines(text: &[u8]) -> RecordRead
 {
     let spots = blank_spots();
     let mut s = State {
-        last: Word::Nothing,
+        last: RecordLast::Before,
         found: false,
         wl: 0,
         count: 0,

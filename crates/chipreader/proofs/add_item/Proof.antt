@@ -1,5 +1,5 @@
 use Rattle.grammar.proofs.Entry.{entered-as}
-use Rattle.chipreader.proofs.Item.{ranged-as, taken-as, not-taken, end-taken}
+use Rattle.chipreader.proofs.Item.{read-as-is, taken-as, end-taken}
 use borrow.Author.Needs.{needs}
 use Rattle.chipreader.proofs.add_item.Statement.{statement}
 use Rattle.chipreader.proofs.add_item.Tie as tie
@@ -8,67 +8,37 @@ enum-told : tie.Need-enum-told
 enum-told c = search needs
 
 add-die-requires : tie.Need-add-die-requires
-add-die-requires c κs = (search needs, search ranged-as)
+add-die-requires c κs = (search needs, search read-as-is)
 
 enum-told-2 : tie.Need-enum-told-2
 enum-told-2 c = search needs
 
 add-fix-requires : tie.Need-add-fix-requires
-add-fix-requires c κs = (search needs, (search ranged-as, search entered-as))
+add-fix-requires c κs = (search needs, (search read-as-is, search entered-as))
 
 enum-told-3 : tie.Need-enum-told-3
 enum-told-3 c = search needs
 
 add-mac-requires : tie.Need-add-mac-requires
-add-mac-requires c κs = (search needs, (search ranged-as, search entered-as))
+add-mac-requires c κs = (search needs, (search read-as-is, search entered-as))
 
 enum-told-4 : tie.Need-enum-told-4
 enum-told-4 c = search needs
 
 add-net-requires : tie.Need-add-net-requires
-add-net-requires c κs = (search needs, (search ranged-as, search entered-as))
+add-net-requires c κs = (search needs, (search read-as-is, search entered-as))
 
 enum-told-5 : tie.Need-enum-told-5
 enum-told-5 c = search needs
 
 add-pin-requires : tie.Need-add-pin-requires
-add-pin-requires c κs = (search needs, (search ranged-as, search entered-as))
+add-pin-requires c κs = (search needs, (search read-as-is, search entered-as))
 
 enum-told-6 : tie.Need-enum-told-6
 enum-told-6 c = search needs
 
 with-chip-requires : tie.Need-with-chip-requires
 with-chip-requires c κs = search needs
-
-enum-told-7 : tie.Need-enum-told-7
-enum-told-7 c = search needs
-
-with-fault-requires : tie.Need-with-fault-requires
-with-fault-requires c κs = search needs
-
-enum-told-8 : tie.Need-enum-told-8
-enum-told-8 c = search needs
-
-with-fault-requires-2 : tie.Need-with-fault-requires-2
-with-fault-requires-2 c κs = search needs
-
-enum-told-9 : tie.Need-enum-told-9
-enum-told-9 c = search needs
-
-with-fault-requires-3 : tie.Need-with-fault-requires-3
-with-fault-requires-3 c κs = search needs
-
-enum-told-10 : tie.Need-enum-told-10
-enum-told-10 c = search needs
-
-with-fault-requires-4 : tie.Need-with-fault-requires-4
-with-fault-requires-4 c κs = search needs
-
-enum-told-11 : tie.Need-enum-told-11
-enum-told-11 c = search needs
-
-with-fault-requires-5 : tie.Need-with-fault-requires-5
-with-fault-requires-5 c κs = search needs
 
 returns : tie.Need-returns
 returns c = search taken-as
@@ -88,21 +58,6 @@ returns-5 c = search taken-as
 returns-6 : tie.Need-returns-6
 returns-6 c = search end-taken
 
-returns-7 : tie.Need-returns-7
-returns-7 c = search not-taken
-
-returns-8 : tie.Need-returns-8
-returns-8 c = search not-taken
-
-returns-9 : tie.Need-returns-9
-returns-9 c = search not-taken
-
-returns-10 : tie.Need-returns-10
-returns-10 c = search not-taken
-
-returns-11 : tie.Need-returns-11
-returns-11 c = search not-taken
-
 pub add-item-spec : {M : Type 1} → statement M
 add-item-spec =
     tie.close
@@ -119,24 +74,9 @@ add-item-spec =
     add-pin-requires
     enum-told-6
     with-chip-requires
-    enum-told-7
-    with-fault-requires
-    enum-told-8
-    with-fault-requires-2
-    enum-told-9
-    with-fault-requires-3
-    enum-told-10
-    with-fault-requires-4
-    enum-told-11
-    with-fault-requires-5
     returns
     returns-2
     returns-3
     returns-4
     returns-5
-    returns-6
-    returns-7
-    returns-8
-    returns-9
-    returns-10
-    returns-11)
+    returns-6)

@@ -1,7 +1,10 @@
-use Rattle.chipreader.proofs.OneLine.{fields-fail, line-ranged, line-adds}
+use Rattle.chipreader.proofs.OneLine.{fields-fail, line-read-as, line-adds}
 use borrow.Author.Needs.{needs}
 use Rattle.chipreader.proofs.take_fields.Statement.{statement}
 use Rattle.chipreader.proofs.take_fields.Tie as tie
+
+layout-of-requires : tie.Need-layout-of-requires
+layout-of-requires c κs = search needs
 
 read-fields-requires : tie.Need-read-fields-requires
 read-fields-requires c κs = search needs
@@ -10,7 +13,7 @@ enum-told : tie.Need-enum-told
 enum-told c = search needs
 
 add-item-requires : tie.Need-add-item-requires
-add-item-requires c κs = (search needs, (search line-ranged, search needs))
+add-item-requires c κs = (search needs, (search line-read-as, search needs))
 
 enum-known-answer : tie.Need-enum-known-answer
 enum-known-answer c = search needs
@@ -28,6 +31,7 @@ pub take-fields-spec : {M : Type 1} → statement M
 take-fields-spec =
     tie.close
     (tie.spec
+    layout-of-requires
     read-fields-requires
     enum-told
     add-item-requires
