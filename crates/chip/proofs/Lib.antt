@@ -14,3 +14,4 @@ pub mod HeldNets
 pub mod HeldMeaning
 pub mod HeldChip
 pub mod Passing
+pub mod Numbers

@@ -14,3 +14,4 @@ pub mod Fit
 pub mod Entry
 pub mod OneLine
 pub mod Lengths
+pub mod Numbers

@@ -5,3 +5,4 @@ pub mod ItemsRecord
 pub mod ItemsRun
 pub mod ReadText
 pub mod TextRead
+pub mod Numbers
