@@ -11,7 +11,8 @@ use Rattle.chip.specs.Text.{readChip}
 use Rattle.placement.specs.Least.{fitOf}
 use Rattle.measure.specs.Measuring.{refused as notMeasured}
 use Rattle.slots.specs.Fit.{refusedBy, areLetters, lettersOf, letterCount, slotCount}
-use Rattle.printed.proofs.Numbers.{Numbered, chip-number}
+use Rattle.grammar.proofs.Numbers.{Numbered}
+use Rattle.chip.proofs.Numbers.{chip-number}
 use Rattle.printed.proofs.Refusals.{wider, need-told, passed-told, demanded-told, best-told}
 use Rattle.host_measure.specs.MeasureText.{cornersOf, measureRead, measureText}
 use Rattle.host_fit.specs.FitText.{fitRead, fitText}

@@ -6,31 +6,26 @@ use mathlib.Core.Bool.{Bool}
 use mathlib.Core.List.{List, _++_}
 use native.Mathlib.Decide.{decLe}
 use native.Mathlib.Omega.{arith}
-use lib.Dec.{leb}
-use lib.ListN.{length, take, drop, length-append}
+use lib.ListN.{length, take, drop}
 use lib.Seq.{length-take-le, take-all}
 use borrow.Author.Tests.{le-leb}
-use Rattle.decimal.specs.Number.{digits}
 use Rattle.model.specs.Meaning.{Chip}
 use Rattle.grammar.specs.Reading.{Reading, accepted, refused}
 use Rattle.grammar.specs.Writing.{wrote, fit}
 use Rattle.chip.specs.Text.{readChip}
 use Rattle.chip.proofs.Accepted.{accepted-valid}
 use Rattle.chip.proofs.ReadText.{too-long}
-use Rattle.chipwriter.proofs.Lengths.{digits-short}
-use Rattle.printed.specs.Printed.{refusalLine, printedRead, printed, printText}
-use Rattle.printed.proofs.Numbers.{Numbered, chip-number}
-use Rattle.printed.proofs.LineNumbers.{chip-line}
-use Rattle.printed.proofs.RecordShort.{chip-record-short}
+use Rattle.chip.proofs.Numbers.{chip-number, chip-line}
+use Rattle.refusal_text.proofs.Refusals.{refusal-short}
+use Rattle.printed.specs.Printed.{printedRead, printed, printText}
+use Rattle.record.proofs.Short.{record-short}
+use Rattle.record.specs.Text.{recordText}
+use Rattle.placement.specs.Least.{chipRecord}
+use Rattle.chip.specs.Valid.{Valid}
+use Rattle.search.proofs.RecordsRead.{chip-record-read}
 
--- `refused,no,10,line,16385` and LF
-refusal-short : (n l : ℕ) → Numbered 10 n → l ≤ 16385 → length (refusalLine n l) ≤ 25
-unfolding refusalLine
-refusal-short n l h g =
-    let w = h .within in
-    let a = digits-short n 1 (omega arith) in
-    let b = digits-short l 4 (omega arith) in
-    simp length-append (omega arith)
+chip-record-short : (c : Chip) → Valid c → length (recordText (chipRecord c)) ≤ 192
+chip-record-short c v = record-short (recordText (chipRecord c)) (chipRecord c) (chip-record-read c v)
 
 pub printed-short : (text : List ℕ) → length (printed text) ≤ 192
 printed-short text = by (readChip text) refl

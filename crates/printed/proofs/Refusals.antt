@@ -1,6 +1,6 @@
 -- The refusal number of writing, searching, placing, printing, measuring and fitting is 1 to 15, so it is never 0 or 255, the two numbers of the C interface that are no refusal.
 use Prim.Native.Nat.{ℕ, _≤_}
-use mathlib.Core.Path.{_≡_, refl, ap}
+use mathlib.Core.Path.{_≡_, refl}
 use mathlib.Core.Bool.{Bool, true, false}
 use mathlib.Core.List.{List}
 use native.Mathlib.Omega.{arith}
@@ -9,15 +9,17 @@ use lib.ListN.{length}
 use Rattle.model.specs.declared.Spot.{Spot}
 use Rattle.model.specs.Meaning.{Chip, Record}
 use Rattle.grammar.specs.Reading.{Reading, accepted, refused}
-use Rattle.grammar.specs.Writing.{Written, wrote, notWritten, fit, writeText}
+use Rattle.grammar.specs.Writing.{notWritten, fit, writeText}
 use Rattle.chip.specs.Text.{readChip, chipText, writeChip}
 use Rattle.record.specs.Text.{readRecord, recordText, writeRecord}
 use Rattle.placement.specs.Least.{Best, nothing, found, fitOf, chipRecord}
 use Rattle.measure.specs.Measuring.{Measure, measured, refused as notMeasured, need, afterReading, inRange, measurePassed, measurePositions}
-use Rattle.slots.specs.Fit.{Fit, refusedBy, noFit, placed, areLetters, lettersOf, letterCount, slotCount, demanded, bestFit, fitChip, fitLetters}
+use Rattle.slots.specs.Fit.{Fit, refusedBy, areLetters, lettersOf, letterCount, slotCount, demanded, bestFit, fitChip, fitLetters}
 use Rattle.search.specs.Place.{searchChip, placeRead, placeText}
 use Rattle.printed.specs.Printed.{printed, printText}
-use Rattle.printed.proofs.Numbers.{Numbered, chip-number, record-number}
+use Rattle.grammar.proofs.Numbers.{Numbered}
+use Rattle.chip.proofs.Numbers.{chip-number}
+use Rattle.record.proofs.Numbers.{record-number}
 
 -- a number of reading is one of the table
 pub wider : (n k : ℕ) → Numbered 10 n → n ≡ k → Numbered 15 k

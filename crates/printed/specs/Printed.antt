@@ -1,29 +1,16 @@
 -- What `place` prints for a text. Document 01, "The search and its record": the program prints the record, or `refused,no,4,line,1`
 -- (number, line). Lines end with LF.
 use Prim.Native.Nat.{ℕ}
-use mathlib.Core.List.{List, [], _∷_, _++_}
+use mathlib.Core.List.{List}
 use lib.Dec.{leb}
 use lib.ListN.{length}
-use Rattle.decimal.specs.Number.{digits}
 use Rattle.model.specs.Meaning.{Chip}
-use Rattle.grammar.specs.Line.{lineFeed}
 use Rattle.grammar.specs.Reading.{Reading, accepted, refused}
 use Rattle.grammar.specs.Writing.{Written, fit}
 use Rattle.chip.specs.Text.{readChip}
 use Rattle.record.specs.Text.{recordText}
 use Rattle.placement.specs.Least.{chipRecord}
-
--- `refused,no,`
-abbrev pub refusedNo : List ℕ
-refusedNo = 114 ∷ 101 ∷ 102 ∷ 117 ∷ 115 ∷ 101 ∷ 100 ∷ 44 ∷ 110 ∷ 111 ∷ 44 ∷ []
-
--- `,line,`
-abbrev pub inLine : List ℕ
-inLine = 44 ∷ 108 ∷ 105 ∷ 110 ∷ 101 ∷ 44 ∷ []
-
--- the line of refusal number n, found in line l
-unfoldable pub refusalLine : ℕ → ℕ → List ℕ
-refusalLine n l = refusedNo ++ (digits n ++ (inLine ++ (digits l ++ (lineFeed ∷ []))))
+use Rattle.refusal_text.specs.Refusal.{refusalLine}
 
 -- the text of the chip's record, or the line of the refusal
 abbrev pub printedRead : Reading Chip → List ℕ

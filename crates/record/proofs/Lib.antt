@@ -6,3 +6,4 @@ pub mod ItemsRun
 pub mod ReadText
 pub mod TextRead
 pub mod Numbers
+pub mod Short

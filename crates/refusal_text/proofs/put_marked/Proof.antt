@@ -1,7 +1,7 @@
 use Rattle.decimal.proofs.Wrote.{wrote-then}
 use borrow.Author.Needs.{needs}
-use Rattle.printed.proofs.put_marked.Statement.{statement}
-use Rattle.printed.proofs.put_marked.Tie as tie
+use Rattle.refusal_text.proofs.put_marked.Statement.{statement}
+use Rattle.refusal_text.proofs.put_marked.Tie as tie
 
 put-bytes-requires : tie.Need-put-bytes-requires
 put-bytes-requires c κs = search needs

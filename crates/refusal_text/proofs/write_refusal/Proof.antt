@@ -1,7 +1,7 @@
-use Rattle.printed.proofs.Printing.{line-too-long, line-fits}
+use Rattle.refusal_text.proofs.Refusals.{line-too-long, line-fits}
 use borrow.Author.Needs.{needs}
-use Rattle.printed.proofs.write_refusal.Statement.{statement}
-use Rattle.printed.proofs.write_refusal.Tie as tie
+use Rattle.refusal_text.proofs.write_refusal.Statement.{statement}
+use Rattle.refusal_text.proofs.write_refusal.Tie as tie
 
 slice-aggregate-put-refusal : tie.Need-slice-aggregate-put-refusal
 slice-aggregate-put-refusal c = search needs

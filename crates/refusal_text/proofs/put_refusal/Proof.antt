@@ -1,7 +1,7 @@
-use Rattle.printed.proofs.Printing.{line-written}
+use Rattle.refusal_text.proofs.Refusals.{line-written}
 use borrow.Author.Needs.{needs}
-use Rattle.printed.proofs.put_refusal.Statement.{statement}
-use Rattle.printed.proofs.put_refusal.Tie as tie
+use Rattle.refusal_text.proofs.put_refusal.Statement.{statement}
+use Rattle.refusal_text.proofs.put_refusal.Tie as tie
 
 slice-aggregate-put-marked : tie.Need-slice-aggregate-put-marked
 slice-aggregate-put-marked c = search needs
