@@ -25,21 +25,6 @@ pub enum WriteAnswer {
     Refused(Refusal),
 }
 
-// The words of chip files and records. Nothing: no known word.
-pub enum Word {
-    Nothing,
-    Die,
-    Fix,
-    Mac,
-    Net,
-    Pin,
-    End,
-    Least,
-    None,
-    At,
-    Done,
-}
-
 // Whether v is within least..most.
 pub fn within(v: u64, least: u64, most: u64) -> bool
     ensures { λ r. ⌜ r ≡ (leb least v && leb v most) ⌝ }

@@ -22,101 +22,45 @@ abbrev put-natural-below : ℕ → In 1 put-natural-kinds.ps
 put-natural-below t =
     and 1 put-natural-kinds.ps (falls 1 put-natural-kinds.ps _<_ μ-put-natural t) put-natural.Pre
 
-put-natural-add-put : (t : ℕ) → put-natural-lts.Need-add-put (
-  put-reads.Asked,
-  put-reads.Learnt,
-  put-natural-below t,
-  put-natural.Post,
-) (put-natural-at t) put-natural.Post
+-- what is known of the calls
+abbrev known : ℕ → put-natural-lts.Claims
+known t = (put-reads.Asked, put-reads.Learnt, put-natural-below t, put-natural.Post)
+
+put-natural-add-put : (t : ℕ) → put-natural-lts.Need-add-put (known t) (put-natural-at t) put-natural.Post
 put-natural-add-put t c = search needs
 
-put-natural-cast-put : (t : ℕ) → put-natural-lts.Need-cast-put (
-  put-reads.Asked,
-  put-reads.Learnt,
-  put-natural-below t,
-  put-natural.Post,
-) (put-natural-at t) put-natural.Post
+put-natural-cast-put : (t : ℕ) → put-natural-lts.Need-cast-put (known t) (put-natural-at t) put-natural.Post
 put-natural-cast-put t c = search needs
 
-put-natural-put-requires : (t : ℕ) → put-natural-lts.Need-put-requires (
-  put-reads.Asked,
-  put-reads.Learnt,
-  put-natural-below t,
-  put-natural.Post,
-) (put-natural-at t) put-natural.Post
+put-natural-put-requires : (t : ℕ) → put-natural-lts.Need-put-requires (known t) (put-natural-at t) put-natural.Post
 put-natural-put-requires t c κs = search needs
 
-put-natural-same-length : (t : ℕ) → put-natural-lts.Need-same-length (
-  put-reads.Asked,
-  put-reads.Learnt,
-  put-natural-below t,
-  put-natural.Post,
-) (put-natural-at t) put-natural.Post
+put-natural-same-length : (t : ℕ) → put-natural-lts.Need-same-length (known t) (put-natural-at t) put-natural.Post
 put-natural-same-length t c = search needs
 
-put-natural-returns : (t : ℕ) → put-natural-lts.Need-returns (
-  put-reads.Asked,
-  put-reads.Learnt,
-  put-natural-below t,
-  put-natural.Post,
-) (put-natural-at t) put-natural.Post
+put-natural-returns : (t : ℕ) → put-natural-lts.Need-returns (known t) (put-natural-at t) put-natural.Post
 put-natural-returns t c = search digit-written
 
-put-natural-put-natural-requires : (t : ℕ) → put-natural-lts.Need-put-natural-requires (
-  put-reads.Asked,
-  put-reads.Learnt,
-  put-natural-below t,
-  put-natural.Post,
-) (put-natural-at t) put-natural.Post
+put-natural-put-natural-requires : (t : ℕ) → put-natural-lts.Need-put-natural-requires (known t) (put-natural-at t) put-natural.Post
 put-natural-put-natural-requires t c κs = (search needs, search needs)
 
-put-natural-add-put-2 : (t : ℕ) → put-natural-lts.Need-add-put-2 (
-  put-reads.Asked,
-  put-reads.Learnt,
-  put-natural-below t,
-  put-natural.Post,
-) (put-natural-at t) put-natural.Post
+put-natural-add-put-2 : (t : ℕ) → put-natural-lts.Need-add-put-2 (known t) (put-natural-at t) put-natural.Post
 put-natural-add-put-2 t c = search needs
 
-put-natural-cast-put-2 : (t : ℕ) → put-natural-lts.Need-cast-put-2 (
-  put-reads.Asked,
-  put-reads.Learnt,
-  put-natural-below t,
-  put-natural.Post,
-) (put-natural-at t) put-natural.Post
+put-natural-cast-put-2 : (t : ℕ) → put-natural-lts.Need-cast-put-2 (known t) (put-natural-at t) put-natural.Post
 put-natural-cast-put-2 t c = search needs
 
-put-natural-put-requires-2 : (t : ℕ) → put-natural-lts.Need-put-requires-2 (
-  put-reads.Asked,
-  put-reads.Learnt,
-  put-natural-below t,
-  put-natural.Post,
-) (put-natural-at t) put-natural.Post
+put-natural-put-requires-2 : (t : ℕ) → put-natural-lts.Need-put-requires-2 (known t) (put-natural-at t) put-natural.Post
 put-natural-put-requires-2 t c κs = search needs
 
-put-natural-same-length-2 : (t : ℕ) → put-natural-lts.Need-same-length-2 (
-  put-reads.Asked,
-  put-reads.Learnt,
-  put-natural-below t,
-  put-natural.Post,
-) (put-natural-at t) put-natural.Post
+put-natural-same-length-2 : (t : ℕ) → put-natural-lts.Need-same-length-2 (known t) (put-natural-at t) put-natural.Post
 put-natural-same-length-2 t c = search needs
 
-put-natural-returns-2 : (t : ℕ) → put-natural-lts.Need-returns-2 (
-  put-reads.Asked,
-  put-reads.Learnt,
-  put-natural-below t,
-  put-natural.Post,
-) (put-natural-at t) put-natural.Post
+put-natural-returns-2 : (t : ℕ) → put-natural-lts.Need-returns-2 (known t) (put-natural-at t) put-natural.Post
 put-natural-returns-2 t c = search last-written
 
 pub +put-natural-spec : {M : Type 1} → statement M
-+put-natural-spec = close μ-put-natural λ t. put-natural-lts.spec (
-  put-reads.Asked,
-  put-reads.Learnt,
-  put-natural-below t,
-  put-natural.Post,
-)
++put-natural-spec = close μ-put-natural λ t. put-natural-lts.spec (known t)
     (put-natural-at t)
     put-natural.Post
     (put-natural-add-put t)
