@@ -109,7 +109,7 @@ fn pin_fault(pins: [Pin; Pin::COUNT], n: usize, i: usize) -> usize
 }
 
 // The lists of a chip whose items stand on lines that follow each other.
-pub(crate) enum Row {
+pub enum Row {
     Fixes,
     Macs,
     Pins,

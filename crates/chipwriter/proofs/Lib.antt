@@ -1,12 +1,1 @@
-pub mod Needs
-pub mod Tests
-pub mod NetTests
-pub mod ItemsTests
-pub mod Steps
-pub mod Runs
-pub mod Parts
-pub mod ChipRun
-pub mod Lengths
-pub mod Counts
-pub mod Answers
 pub mod Writing

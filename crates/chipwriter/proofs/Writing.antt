@@ -2,6 +2,7 @@
 use mathlib.Core.Path.{_≡_, sym}
 use mathlib.Core.List.{List}
 use Prim.Native.Nat.{ℕ, _≤_, _<_}
+use native.Mathlib.Omega.{arith}
 use lib.ListN.{length}
 use Rattle.model.specs.declared.Refusal.{Refusal}
 use Rattle.model.specs.declared.Tested.{Tested}
@@ -21,8 +22,8 @@ module _ (c : Chip) (out : List ℕ) (r : Tested) (e : testedAs c r ≡ readChip
   test-refused f p = rw (← e, p)
 
   module _ (p : r ≡ tested.Passed) (b m : List ℕ) (n : ℕ) (w : Wrote b m (chipText c) 0 n) where
-    short : length (chipText c) ≤ 16384
-    short = accepted-short (chipText c) c (sym (rw p at e))
+    short : length (chipText c) ≤ 65536
+    short = let l = accepted-short (chipText c) c (sym (rw p at e)) in omega arith
 
     pub no-space : length out < n → Left (record { answer = notWritten 15 0; buffer = out })
     no-space h = rw (← e, p) (too-short (chipText c) b m out n short w h)

@@ -11,8 +11,9 @@ use Rattle.grammar.specs.Words.{Words, Item, itemText, itemsText}
 use Rattle.line.specs.declared.Spelling.{Spelling}
 use Rattle.line.specs.declared.Layout.{Layout}
 use Rattle.line.specs.Held.{spelled}
-use Rattle.line.specs.Layout.{formOf, layoutFor, valuesIn}
+use Rattle.line.specs.Layout.{layoutFor, valuesIn}
 use Rattle.line.proofs.Find.{spelled-text}
+use Rattle.line.proofs.Walk.{Laying}
 use Rattle.linewriter.specs.LineText.{lineText}
 use Rattle.linewriter.specs.Run.{run}
 
@@ -23,10 +24,10 @@ run-last f q (suc i) = let e : suc q + i ≡ q + suc i = omega arith in ap (λ (
 
 module _ {W : Type 0} (d : Words W) where
   -- the line of a word whose layout is its form
-  module _ (plain : (w : W) → formOf (layoutFor (d .form w) .count) (layoutFor (d .form w) .rules) ≡ d .form w) where
+  module _ (plain : (w : W) → Laying (d .form w)) where
     line-is : (w : W) (vs : List ℕ) → lineText (spelled (d .spell w)) (layoutFor (d .form w)) vs ≡ itemText d (record { word = w; values = valuesIn (d .form w) vs })
     unfolding lineText itemText
-    line-is w vs = rw (spelled-text (d .spell w), plain w)
+    line-is w vs = rw (spelled-text (d .spell w), plain w .means)
 
     pub item-written : (w : W) (p : Spelling) (l : Layout) (vs b a : List ℕ) (at r : ℕ) (i : Item W) → p ≡ spelled (d .spell w) → l ≡ layoutFor (d .form w) → record { word = w; values = valuesIn (d .form w) vs } ≡ i → Wrote b a (lineText p l vs) at r → Wrote b a (itemText d i) at r
     item-written w p l vs b a at r i e f g v = rw (← g, ← line-is w vs, ← e, ← f) v

@@ -1,6 +1,6 @@
 use Rattle.linewriter.proofs.Items.{item-written}
 use Rattle.chip.specs.Words.{chipWords}
-use Rattle.chip_words.proofs.Words.{chain-of}
+use Rattle.chip_words.proofs.Words.{laying}
 use borrow.Author.Needs.{needs}
 use Rattle.chipprinter.proofs.put_item.Statement.{statement}
 use Rattle.chipprinter.proofs.put_item.Tie as tie
@@ -21,7 +21,7 @@ same-length : tie.Need-same-length
 same-length c = search needs
 
 returns : tie.Need-returns
-returns c = search (item-written chipWords chain-of)
+returns c = search (item-written chipWords laying)
 
 pub put-item-spec : {M : Type 1} → statement M
 put-item-spec =

@@ -10,12 +10,12 @@ use Rattle.model.specs.declared.Refusal.{Refusal}
 use Rattle.model.specs.declared.Tested.{Tested}
 use Rattle.model.specs.declared.Tested.the-variants as tested
 use Rattle.model.specs.Meaning.{firstOf}
-use Rattle.grammar.specs.Words.{Item}
 use Rattle.grammar.specs.Reading.{next, refused}
 use Rattle.grammar.proofs.Items.{itemStep, runItems}
 use Rattle.chip.specs.Kind.{Part, chipKind}
-use Rattle.chipwriter.specs.Tests.{onFault, thenTested, tests}
-use Rattle.chipwriter.proofs.Steps.{Steps, goes, stops}
+use Rattle.chip.specs.Text.{Item}
+use Rattle.chip_items.specs.Tests.{onFault, thenTested, tests}
+use Rattle.chip_test.proofs.Steps.{Steps, goes, stops}
 
 -- a run of the items is from s on a line leads to a state that P holds of, whatever follows them, or is refused
 pub data Run (P : Part → Type 0) (s : Part) (line : ℕ) (is : List Item) : Tested → Type 0 where

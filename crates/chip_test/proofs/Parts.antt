@@ -14,24 +14,28 @@ use Rattle.model.specs.declared.Fix.{Fix}
 use Rattle.model.specs.declared.Mac.{Mac}
 use Rattle.model.specs.declared.Net.{Net as HeldNet}
 use Rattle.model.specs.declared.Pin.{Pin as HeldPin}
-use Rattle.model.specs.declared.Word.{Word}
-use Rattle.model.specs.declared.Word.the-variants as word
 use Rattle.model.specs.Meaning.{Pin, Net, blankFix, blankMac, blankNet, blankPin, pinOf}
-use Rattle.grammar.specs.Words.{isWord, isIn}
+use Rattle.grammar.specs.Words.{same, isIn}
+use Rattle.grammar.specs.Reading.{isLast}
 use Rattle.grammar.proofs.Every.{Every}
 use Rattle.grammar.proofs.Items.{itemStep}
 use Rattle.grammar.specs.Steps.{need}
+use Rattle.chip.specs.declared.ChipWord.{ChipWord}
+use Rattle.chip.specs.declared.ChipWord.the-variants as word
+use Rattle.chip.specs.Words.{chipWords}
 use Rattle.chip.specs.Kind.{Part, start, followers, pinCount, fixInDie, clearOf, addPin, chipKind}
 use Rattle.chip.specs.Text.{dieItem, fixItem, macItem, pinItem, endItem}
-use Rattle.chipwriter.specs.Tests.{dieFault, fixFault, macFault, bareBefore, weightItem, netFault, pinFault}
-use Rattle.chipwriter.proofs.Steps.{Steps, goes, steps-check, item-steps}
+use Rattle.chipprinter.specs.Items.{weightItem}
+use Rattle.chip_items.specs.Tests.{isMade, fixMade, macMade, netMade, dieFault, fixFault, macFault, bareBefore, netFault, pinFault}
+use Rattle.chip_test.proofs.Fields.{die-fields, fix-fields, mac-fields, net-fields, pin-fields, end-fields}
+use Rattle.chip_test.proofs.Steps.{Steps, goes, steps-check, item-steps}
 
 -- the words ws may be next
-abbrev Open : Part → List Word → Type 0
-Open s ws = Every (λ w. isIn w (followers (s .last)) ≡ true) ws
+abbrev Open : Part → List ChipWord → Type 0
+Open s ws = Every (λ w. isIn chipWords w (followers (s .last)) ≡ true) ws
 
 abbrev lastNet : Part → Bool
-lastNet s = isWord (s .last) word.Net
+lastNet s = isLast chipWords (s .last) word.Net
 
 -- i fixes have been read
 pub record Fixes (d : Die) (fs : List Fix) (i : ℕ) (s : Part) : Type 0 where
@@ -70,19 +74,19 @@ pub record Pins (n q j i : ℕ) (s : Part) : Type 0 where
   pub few : (j < 32) × (q + i ≤ 128)
 
 pub record Ended (s : Part) : Type 0 where
-  pub last : isWord (s .last) word.End ≡ true
+  pub last : isLast chipWords (s .last) word.End ≡ true
 
 pub die-steps : (d : Die) (fs : List Fix) → Steps (Fixes d fs 0) (itemStep chipKind start (dieItem d)) (dieFault d)
-unfolding isIn
-die-steps d fs = item-steps start (dieItem d) refl refl refl true true 0 refl refl (λ e. goes _ refl (record { places = (refl, (refl, (refl, (refl, tt)))); last = refl; die = refl; fixes = refl; macs = refl; nets = refl; few = omega arith }))
+unfolding isIn same
+die-steps d fs = item-steps start (dieItem d) _ (die-fields d) refl true true 0 refl refl (λ e. goes _ refl (record { places = (refl, (refl, (refl, (refl, tt)))); last = refl; die = refl; fixes = refl; macs = refl; nets = refl; few = omega arith }))
 
 pub fix-steps : (d : Die) (fs : List Fix) → length fs ≡ 8 → (i : ℕ) (s : Part) → Fixes d fs i s → Steps (Fixes d fs (suc i)) (itemStep chipKind s (fixItem (getD fs i blankFix))) (fixFault d fs i)
-unfolding isIn
+unfolding isIn same
 fix-steps d fs l i s p =
     let f : Fix = getD fs i blankFix in
     let h : i ≤ 8 = p .few in
     let n : length (take i fs) ≡ i = length-take i fs ∙ omega arith in
-    item-steps s (fixItem f) refl (p .places .0) refl (ltb i 8) true _ (rw (p .fixes, n)) (rw (p .last))
+    item-steps s (fixItem f) _ (fix-fields f) (p .places .0) (ltb i 8) true _ (rw (p .fixes, n)) (rw (p .last))
     (λ r. rw (p .die, p .fixes) (steps-check (fixInDie d f) 8 _ _ (λ a. steps-check (clearOf f (take i fs)) 9 _ _ (λ b.
     let g : i < 8 = ltb-true i 8 r in
     goes _ refl (record { places = (refl, (refl, (refl, (refl, tt)))); last = refl; die = refl; fixes = sym (take-suc fs i blankFix (omega arith)); macs = p .macs; nets = p .nets; few = omega arith })))))
@@ -92,9 +96,9 @@ pub macs-next : {d : Die} {fs : List Fix} {i : ℕ} (s : Part) → Fixes d fs i 
 macs-next s p = record { places = p .places .1; last = p .last; macs = ap length (p .macs); nets = p .nets; few = omega arith }
 
 pub mac-steps : (ms : List Mac) → (i : ℕ) (s : Part) → Macs i s → Steps (Macs (suc i)) (itemStep chipKind s (macItem (getD ms i blankMac))) (macFault ms i)
-unfolding isIn
+unfolding isIn same
 mac-steps ms i s p =
-    item-steps s (macItem (getD ms i blankMac)) refl (p .places .0) refl (ltb i 8) true 0 (rw (p .macs)) (rw (p .last))
+    item-steps s (macItem (getD ms i blankMac)) _ (mac-fields (getD ms i blankMac)) (p .places .0) (ltb i 8) true 0 (rw (p .macs)) (rw (p .last))
     (λ r.
     let g : i < 8 = ltb-true i 8 r in
     goes _ refl (record { places = (refl, (refl, (refl, tt))); last = refl; macs = rw (length-append, p .macs) (omega arith); nets = p .nets; few = omega arith }))
@@ -122,27 +126,28 @@ pins-pin p (t ∷ (u ∷ ts)) h = let q = pins-pin p (u ∷ ts) (omega arith) in
 
 module _ (n : ℕ) (ts : List HeldNet) where
   pub net-steps : (q j : ℕ) (s : Part) → Nets n ts q j s → Steps (Pins n q j 0) (itemStep chipKind s (weightItem (getD ts j blankNet))) (netFault ts j)
-  unfolding isIn
+  unfolding isIn same
   net-steps q j s p =
-      item-steps s (weightItem (getD ts j blankNet)) refl (p .places .0) refl (ltb j 32) (not (bareBefore ts j)) 0 (rw (p .nets)) (rw (p .last, or-false))
+      item-steps s (weightItem (getD ts j blankNet)) _ (net-fields (getD ts j blankNet)) (p .places .0) (ltb j 32) (not (bareBefore ts j)) 0 (rw (p .nets)) (rw (p .last, or-false))
       (λ r.
       let g : j < 32 = ltb-true j 32 r in
       let h : q ≤ 128 = p .few .1 in
       goes _ refl (record { places = (refl, (refl, (refl, tt))); last = refl; macs = p .macs; nets = rw (length-append, p .nets) (omega arith); pins = rw (pins-net, p .pins) (omega arith); few = (g, omega arith) }))
 
   pub end-steps : (q j : ℕ) (s : Part) → Nets n ts q j s → Steps Ended (itemStep chipKind s endItem) (need (not (bareBefore ts j)) 7 0)
-  end-steps q j s p = item-steps s endItem refl (p .places .1 .0) refl true (not (bareBefore ts j)) 0 refl (rw (p .last, or-false)) (λ r. goes _ refl (record { last = refl }))
+  unfolding same
+  end-steps q j s p = item-steps s endItem true end-fields (p .places .1 .0) true (not (bareBefore ts j)) 0 refl (rw (p .last, or-false)) (λ r. goes _ refl (record { last = refl }))
 
   -- the next net follows the pins of net j
   pub net-next : (q j : ℕ) (s : Part) → Pins n q j (getD ts j blankNet .pins) s → Nets n ts (q + getD ts j blankNet .pins) (suc j) s
   net-next q j s p = record { places = (p .places .0, p .places .1 .1); last = p .last; macs = p .macs; nets = p .nets; pins = p .pins; few = p .few }
 
 pub pin-steps : (n : ℕ) (ps : List HeldPin) (q j i : ℕ) (s : Part) → Pins n q j i s → Steps (Pins n q j (suc i)) (itemStep chipKind s (pinItem (pinOf (getD (drop q ps) i blankPin)))) (pinFault ps n (q + i))
-unfolding isIn
+unfolding isIn same
 pin-steps n ps q j i s p =
     let x : HeldPin = getD ps (q + i) blankPin in
     rw (getD-drop q ps i blankPin)
-    (item-steps s (pinItem (pinOf x)) refl (p .places .1 .0) refl (ltb (q + i) 128) true _ (rw (p .pins)) (rw or-true)
+    (item-steps s (pinItem (pinOf x)) _ (pin-fields x) (p .places .1 .0) (ltb (q + i) 128) true _ (rw (p .pins)) (rw or-true)
     (λ r. rw (p .macs) (steps-check (leb (x .m) n) 7 0 _ (λ a.
     let g : q + i < 128 = ltb-true (q + i) 128 r in
     let c = p .pins in

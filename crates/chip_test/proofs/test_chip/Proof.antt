@@ -1,7 +1,10 @@
-use Rattle.chipwriter.proofs.Answers.{passed-read, long-read, refused-read}
+use Rattle.chip_test.proofs.Answers.{passed-read, long-read, refused-read}
 use borrow.Author.Needs.{needs}
-use Rattle.chipwriter.proofs.test_chip.Statement.{statement}
-use Rattle.chipwriter.proofs.test_chip.Tie as tie
+use Rattle.chip_test.proofs.test_chip.Statement.{statement}
+use Rattle.chip_test.proofs.test_chip.Tie as tie
+
+chip-arrays-requires : tie.Need-chip-arrays-requires
+chip-arrays-requires c κs = search needs
 
 test-items-requires : tie.Need-test-items-requires
 test-items-requires c κs = search needs
@@ -31,6 +34,7 @@ pub test-chip-spec : {M : Type 1} → statement M
 test-chip-spec =
     tie.close
     (tie.spec
+    chip-arrays-requires
     test-items-requires
     enum-known-tested
     enum-told

@@ -6,11 +6,10 @@ use lib.ListN.{length, drop, length-append, length-map}
 use Rattle.model.specs.declared.Net.{Net as HeldNet}
 use Rattle.model.specs.declared.Pin.{Pin as HeldPin}
 use Rattle.model.specs.declared.Chip.{Chip as HeldChip}
-use Rattle.model.specs.declared.Tested.{Tested}
 use Rattle.model.specs.Meaning.{firstOf, blankFix, blankMac, blankNet, blankPin, netsOf, chipOf}
 use Rattle.model.proofs.Nets.{length-pins}
 use Rattle.chip.specs.Text.{netItems, chipItems}
-use Rattle.chipwriter.specs.Tests.{ItemsAnswer}
+use Rattle.chipprinter.specs.Items.{ArraysOf}
 
 first-and-rest : {A : Type 0} (z : A) (n : ℕ) (s : List A) → length (firstOf z n s) + length (drop n s) ≤ 1 + length s
 unfolding firstOf
@@ -26,9 +25,9 @@ nets-items (t ∷ ts) ps =
     let b = first-and-rest blankPin (t .pins) ps in
     rw (length-append, length-map, length-pins) (omega arith)
 
-pub few-items : (c : HeldChip) (r : Tested) → ItemsAnswer c r → length (chipItems (chipOf c)) ≤ 214
+pub few-items : (c : HeldChip) → ArraysOf c → length (chipItems (chipOf c)) ≤ 214
 unfolding chipItems chipOf
-few-items c r a =
+few-items c a =
     let f = first-and-rest blankFix (c .k) (c .fixes) in
     let m = first-and-rest blankMac (c .n) (c .macs) in
     let t = first-and-rest blankNet (c .t) (c .nets) in

@@ -1,0 +1,80 @@
+-- The fields of an item are read as its values where the thing can be made of its numbers, and else are fault 4.
+use mathlib.Core.Path.{_≡_, refl}
+use mathlib.Core.Bool.{Bool, true, false, _&&_, and-assoc}
+use mathlib.Core.List.{List, [], _∷_}
+use lib.IntN.{ℤ, pos}
+use Rattle.model.specs.declared.Die.{Die}
+use Rattle.model.specs.declared.Fix.{Fix}
+use Rattle.model.specs.declared.Mac.{Mac}
+use Rattle.model.specs.declared.Net.{Net as HeldNet}
+use Rattle.model.specs.declared.Pin.{Pin as HeldPin}
+use Rattle.model.specs.Meaning.{pinOf}
+use Rattle.model.specs.Limits.{isWithin, dieSide, fixCorner, fixSide, macSide, netWeight, pinMacro, pinPlace}
+use Rattle.model.specs.Made.{ifWithin, makeDie, remakePin}
+use Rattle.grammar.specs.Line.{Value, number, ranged, Fields, got, faulty, valued}
+use Rattle.grammar.proofs.FieldsText.{judged}
+use Rattle.chip.specs.Words.{form}
+use Rattle.chip.specs.Text.{Item, dieItem, fixItem, macItem, pinItem, endItem}
+use Rattle.chipprinter.specs.Items.{weightItem}
+use Rattle.chip_items.specs.Tests.{isMade, fixMade, macMade, netMade}
+
+-- all values of a line, or the fault of a range
+abbrev pub within : Bool → List Value → Fields
+within true vs = got vs
+within false vs = faulty 4
+
+last-field : (b : Bool) (z : ℤ) → valued (ranged b z) (got []) ≡ within b (number z ∷ [])
+last-field true z = refl
+last-field false z = refl
+
+next-field : (a b : Bool) (z : ℤ) (vs : List Value) → valued (ranged a z) (within b vs) ≡ within (a && b) (number z ∷ vs)
+next-field true true z vs = refl
+next-field true false z vs = refl
+next-field false b z vs = refl
+
+-- the fields of the item i are its values, where b passes
+pub record FieldsOf (i : Item) (b : Bool) : Type 0 where
+  pub read : judged (form (i .word)) (i .values) ≡ within b (i .values)
+
+made-fields : {A : Type 0} (i : Item) (b : Bool) (a : A) → FieldsOf i b → FieldsOf i (isMade (ifWithin b a))
+made-fields i true a f = f
+made-fields i false a f = f
+
+pub die-fields : (d : Die) → FieldsOf (dieItem d) (isMade (makeDie (d .w) (d .h)))
+unfolding judged
+die-fields d =
+    let w : Bool = isWithin dieSide (pos (d .w)) in
+    let h : Bool = isWithin dieSide (pos (d .h)) in
+    made-fields _ (w && h) _ (record { read = rw (last-field h (pos (d .h)), next-field w h) })
+
+pub fix-fields : (f : Fix) → FieldsOf (fixItem f) (fixMade f)
+unfolding judged
+fix-fields f =
+    let x : Bool = isWithin fixCorner (pos (f .x)) in
+    let y : Bool = isWithin fixCorner (pos (f .y)) in
+    let w : Bool = isWithin fixSide (pos (f .w)) in
+    let h : Bool = isWithin fixSide (pos (f .h)) in
+    made-fields _ (x && y && w && h) _ (record { read = rw (and-assoc (x && y) w h, and-assoc x y (w && h), last-field h (pos (f .h)), next-field w h, next-field y (w && h), next-field x (y && (w && h))) })
+
+pub mac-fields : (m : Mac) → FieldsOf (macItem m) (macMade m)
+unfolding judged
+mac-fields m =
+    let w : Bool = isWithin macSide (pos (m .w)) in
+    let h : Bool = isWithin macSide (pos (m .h)) in
+    made-fields _ (w && h) _ (record { read = rw (last-field h (pos (m .h)), next-field w h) })
+
+pub net-fields : (t : HeldNet) → FieldsOf (weightItem t) (netMade t)
+unfolding judged
+net-fields t = let w : Bool = isWithin netWeight (pos (t .weight)) in made-fields _ w _ (record { read = rw (last-field w (pos (t .weight))) })
+
+pub pin-fields : (p : HeldPin) → FieldsOf (pinItem (pinOf p)) (isMade (remakePin p))
+unfolding judged
+pin-fields p =
+    let m : Bool = isWithin pinMacro (pos (p .m)) in
+    let x : Bool = isWithin pinPlace (pinOf p .x) in
+    let y : Bool = isWithin pinPlace (pinOf p .y) in
+    made-fields _ (m && x && y) _ (record { read = rw (and-assoc m x y, last-field y (pinOf p .y), next-field x y, next-field m (x && y)) })
+
+pub end-fields : FieldsOf endItem true
+unfolding judged
+end-fields = record { read = refl }
