@@ -9,7 +9,8 @@ use lib.ListN.{length, getD, set}
 use Rattle.model.specs.declared.Spot.{Spot}
 use Rattle.model.specs.Meaning.{Chip}
 use Rattle.grammar.proofs.Lacks.{and-left, and-right}
-use Rattle.placement.specs.Legal.{Box, within, legal, apart}
+use Rattle.geometry.specs.declared.Box.{Box}
+use Rattle.placement.specs.Legal.{within, legal, apart}
 use Rattle.placement.specs.Letters.{Letter, left, right, low, high, dot, keeps, Pair, pairs, keepsAll, keepsLetters}
 use Rattle.placement.proofs.Cover.{Says, NoDot, Kept, Some, keeps-apart, apart-keeps, legal-letters, letters-legal}
 use Rattle.branches.proofs.Replaces.{true-false}

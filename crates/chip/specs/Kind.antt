@@ -1,11 +1,13 @@
 -- The rules of the chip file (document 01, "The chip file" and "Refusal table"), as a kind of text.
 use Prim.Native.Nat.{ℕ, _+_}
-use mathlib.Core.List.{List, [], _∷_, _++_}
-use mathlib.Core.Bool.{Bool, true, not, _&&_, _||_}
+use mathlib.Core.List.{List, [], _∷_, _++_, map}
+use mathlib.Core.Bool.{Bool, true, not, _||_}
 use lib.Dec.{leb, ltb}
 use lib.ListN.{length}
 use Rattle.model.specs.declared.Die.{Die}
 use Rattle.model.specs.declared.Fix.{Fix}
+use Rattle.geometry.specs.Box.{boxOf, inDie}
+use Rattle.geometry.specs.Box as box
 use Rattle.model.specs.declared.Mac.{Mac}
 use Rattle.model.specs.Meaning.{Pin, Net, Chip}
 use Rattle.model.specs.Limits.{mostBytes, mostFixes, mostMacs, mostNets, mostPins}
@@ -71,16 +73,11 @@ pinned last w = not (isLast chipWords last word.Net) || isWord chipWords w word.
 
 -- a fix lies in the die
 abbrev pub fixInDie : Die → Fix → Bool
-fixInDie d f = leb (f .x + f .w) (d .w) && leb (f .y + f .h) (d .h)
+fixInDie d f = inDie d (boxOf f)
 
--- one fix is left of, right of, below or above the other; touching edges are allowed
-abbrev pub fixesApart : Fix → Fix → Bool
-fixesApart a b = leb (a .x + a .w) (b .x) || (leb (b .x + b .w) (a .x) || (leb (a .y + a .h) (b .y) || leb (b .y + b .h) (a .y)))
-
--- the fix f overlaps none of the others
-unfoldable pub clearOf : Fix → List Fix → Bool
-clearOf f [] = true
-clearOf f (g ∷ gs) = fixesApart f g && clearOf f gs
+-- the fix f overlaps none of the others; fixes may touch, so no gap is asked
+abbrev pub clearOf : Fix → List Fix → Bool
+clearOf f gs = box.clearOf 0 (boxOf f) (map boxOf gs)
 
 -- the nets with the pin p put last into the last net
 unfoldable pub addPin : Pin → List Net → List Net

@@ -1,3 +1,4 @@
-pub mod Boxes
-pub mod InTurn
-pub mod TurnLegal
+pub mod Tests
+pub mod Clear
+pub mod Stored
+pub mod Swap

@@ -1,89 +1,144 @@
-// Boxes: macros at their corners, in the die, apart from the fixes and from each other.
+// Boxes: fixes, and macros at their corners; whether they lie in the die, and are apart by a gap.
 use model::Die;
 use model::Fix;
 use model::Mac;
 use model::Spot;
 ghost use mathlib.Core.Path.{_≡_};
-ghost use mathlib.Core.List.{[]};
-ghost use Prim.Native.Nat.{_≤_, _<_};
-ghost use lib.ListN.{getD, take};
-ghost use Rattle.model.specs.Meaning.{blankFix};
-ghost use Rattle.placement.specs.Legal.{boxes};
-ghost use Rattle.geometry.specs.Turn.{legalBox, legalAfter};
+ghost use mathlib.Core.List.{map};
+ghost use Prim.Native.Nat.{_+_};
+ghost use lib.Dec.{leb};
+ghost use lib.ListN.{take};
+ghost use Rattle.geometry.specs.Box.{boxAt, boxOf, inDie, leftOf, below as isBelow, apart as areApart, clearOf};
 
-// The macros at their positions, as boxes.
-pub fn boxes_at(macs: [Mac; Mac::COUNT], spots: [Spot; Mac::COUNT]) -> [Fix; Mac::COUNT]
-    ensures { λ r. ⌜ r ≡ boxes macs spots ⌝ }
+// A rectangle: its lower left corner at x,y, its width and its height.
+pub struct Box {
+    pub x: u64,
+    pub y: u64,
+    pub w: u64,
+    pub h: u64,
+}
+
+impl Box {
+    // How many boxes stand in one array: all fixes, or all macros.
+    pub const COUNT: usize = 8;
+}
+
+// A macro at a corner.
+pub fn box_at(m: Mac, p: Spot) -> Box
+    ensures { λ r. ⌜ r ≡ boxAt m p ⌝ }
 {
-    let mut bs = [Fix {
+    Box {
+        x: p.x,
+        y: p.y,
+        w: m.w,
+        h: m.h,
+    }
+}
+
+// A fix.
+pub fn box_of(f: Fix) -> Box
+    ensures { λ r. ⌜ r ≡ boxOf f ⌝ }
+{
+    Box {
+        x: f.x,
+        y: f.y,
+        w: f.w,
+        h: f.h,
+    }
+}
+
+// The fixes.
+pub fn boxes_of(fixes: [Fix; Fix::COUNT]) -> [Box; Box::COUNT]
+    ensures { λ r. ⌜ r ≡ map boxOf fixes ⌝ }
+{
+    let mut bs = [Box {
         x: 0,
         y: 0,
         w: 0,
         h: 0,
-    }; Mac::COUNT];
+    }; Box::COUNT];
     let mut i: usize = 0;
-    while i < Mac::COUNT {
-        let m = macs[i];
-        let p = spots[i];
-        bs[i] = Fix {
-            x: p.x,
-            y: p.y,
-            w: m.w,
-            h: m.h,
-        };
+    while i < Box::COUNT {
+        bs[i] = box_of(fixes[i]);
         i += 1;
     }
     bs
 }
 
-// Whether box i lies in the die, and is apart from the fixes and from the boxes before it.
-fn legal_box(die: Die, fixes: [Fix; Fix::COUNT], k: usize, bs: [Fix; Mac::COUNT], i: usize) -> bool
-    requires { ⌜ i < 8 ⌝ }
-    ensures { λ r. ⌜ r ≡ legalBox die (take k fixes) (take i bs) (getD bs i blankFix) ⌝ }
+// Whether a + size is at most end, also where that sum is too large to be held.
+fn ends_by(a: u64, size: u64, end: u64) -> bool
+    ensures { λ r. ⌜ r ≡ leb (a + size) end ⌝ }
 {
-    let b = bs[i];
-    if !chip::fix_in_die(die, b) {
+    if end < a {
         return false;
     }
-    if !chip::clear_of_fixes(b, fixes, k) {
-        return false;
-    }
-    chip::clear_of_fixes(b, bs, i)
+    size <= end - a
 }
 
-// Whether each of the first n boxes is legal.
-fn legal_first(
-    die: Die,
-    fixes: [Fix; Fix::COUNT],
-    k: usize,
-    bs: [Fix; Mac::COUNT],
-    n: usize,
-) -> bool
-    requires { ⌜ n ≤ 8 ⌝ }
-    ensures { λ r. ⌜ r ≡ legalAfter die (take k fixes) [] (take n bs) ⌝ }
+// Whether a + size + gap is at most end.
+fn ends_before(a: u64, size: u64, gap: u64, end: u64) -> bool
+    ensures { λ r. ⌜ r ≡ leb (a + size + gap) end ⌝ }
+{
+    if end < gap {
+        return false;
+    }
+    ends_by(a, size, end - gap)
+}
+
+// Whether a box lies in the die.
+pub fn in_die(d: Die, a: Box) -> bool
+    ensures { λ r. ⌜ r ≡ inDie d a ⌝ }
+{
+    if !ends_by(a.x, a.w, d.w) {
+        return false;
+    }
+    ends_by(a.y, a.h, d.h)
+}
+
+// Whether a is left of b, with a gap between them.
+pub fn left_of(a: Box, b: Box, gap: u64) -> bool
+    ensures { λ r. ⌜ r ≡ leftOf gap a b ⌝ }
+{
+    ends_before(a.x, a.w, gap, b.x)
+}
+
+// Whether a is below b, with a gap between them.
+pub fn below(a: Box, b: Box, gap: u64) -> bool
+    ensures { λ r. ⌜ r ≡ isBelow gap a b ⌝ }
+{
+    ends_before(a.y, a.h, gap, b.y)
+}
+
+// Whether one box is left of, right of, below or above the other.
+pub fn apart(a: Box, b: Box, gap: u64) -> bool
+    ensures { λ r. ⌜ r ≡ areApart gap a b ⌝ }
+{
+    if left_of(a, b, gap) {
+        return true;
+    }
+    if left_of(b, a, gap) {
+        return true;
+    }
+    if below(a, b, gap) {
+        return true;
+    }
+    below(b, a, gap)
+}
+
+// Whether a is apart from each of the first k boxes.
+pub fn clear_of(a: Box, bs: [Box; Box::COUNT], k: usize, gap: u64) -> bool
+    ensures { λ r. ⌜ r ≡ clearOf gap a (take k bs) ⌝ }
 {
     let mut i: usize = 0;
-    while i < n {
-        if !legal_box(die, fixes, k, bs, i) {
+    while i < Box::COUNT {
+        if k <= i {
+            return true;
+        }
+        let b = bs[i];
+        if !apart(a, b, gap) {
             return false;
         }
         i += 1;
     }
     true
-}
-
-// Whether each of n boxes is legal; all of them, where n is above their number.
-pub fn legal_boxes(
-    die: Die,
-    fixes: [Fix; Fix::COUNT],
-    k: usize,
-    bs: [Fix; Mac::COUNT],
-    n: usize,
-) -> bool
-    ensures { λ r. ⌜ r ≡ legalAfter die (take k fixes) [] (take n bs) ⌝ }
-{
-    if Mac::COUNT < n {
-        return legal_first(die, fixes, k, bs, Mac::COUNT);
-    }
-    legal_first(die, fixes, k, bs, n)
 }

@@ -7,8 +7,8 @@ use native.Mathlib.Omega.{arith}
 use mir.Syntax.{w64}
 use mir.Val.{Fits}
 use Rattle.bounds.specs.Axis.{valueAt}
-use Rattle.half_test.specs.Arrays.{raised, boundAt}
-use Rattle.half_test.specs.Tests.{Says, KeepsTo}
+use Rattle.half_arrays.specs.Arrays.{raised, boundAt, KeepsTo}
+use Rattle.half_arrays.specs.Says.{Says}
 use Rattle.half_fit.specs.Chain.{Empty, Chained}
 
 pub chain-starts : (arcs : List ℕ) (a : ℕ) → Chained arcs a a 0 0

@@ -2,8 +2,7 @@
 use Prim.Native.Nat.{ℕ, _+_, _*_, _≤_}
 use mathlib.Core.List.{List}
 use Rattle.bounds.specs.Axis.{valueAt}
-use Rattle.half_test.specs.Arrays.{raised}
-use Rattle.half_test.specs.Tests.{KeepsTo}
+use Rattle.half_arrays.specs.Arrays.{raised, KeepsTo}
 
 -- no coordinates keep all bounds
 pub record Empty (arcs : List ℕ) : Type 0 where

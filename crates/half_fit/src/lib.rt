@@ -12,11 +12,11 @@ mod state;
 mod tables;
 mod ways;
 
-// The lengths of the lent arrays: those of half_test, and what the first half fit prepares for later ones.
-pub const TAB: usize = half_test::TAB;
+// The lengths of the lent arrays: those of half_arrays, and what the first half fit prepares for later ones.
+pub const TAB: usize = half_arrays::TAB;
 
-pub const ARCS: usize = half_test::ARCS;
+pub const ARCS: usize = half_arrays::ARCS;
 
-pub const POOL: usize = half_test::POOL;
+pub const POOL: usize = half_arrays::POOL;
 
 pub const HELP: usize = 4352;

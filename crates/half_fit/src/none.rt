@@ -1,26 +1,11 @@
 // The test that no coordinates keep the bounds: a closed chain of bounds whose sum is above 0.
-ghost use mathlib.Core.Path.{_≡_};
 ghost use Prim.Native.Nat.{_<_};
-ghost use Rattle.half_test.specs.Arrays.{boundAt};
-ghost use Rattle.half_test.specs.Tests.{Says};
+ghost use Rattle.half_arrays.specs.Says.{Says};
 ghost use Rattle.half_fit.specs.Chain.{Empty};
 use crate::ARCS;
 use crate::POOL;
-use crate::state::STATE;
-
-// The parent of a node in state o.
-fn parent(s: &[u32; POOL], o: usize, w: usize) -> usize
-    ensures { λ r. ⌜ r < 9 ⌝ }
-{
-    (s[o % 4 * STATE + 576 + w % 16] % 9) as usize
-}
-
-// The bound at place c.
-fn bound(arcs: &[u32; ARCS], c: usize) -> u64
-    ensures { λ r. ⌜ r ≡ boundAt (now (arcs .entry)) c ⌝ }
-{
-    (arcs[c % 128] % 33554432) as u64
-}
+use half_arrays::bound;
+use half_arrays::parent;
 
 // A node on a closed chain of parents: the ninth parent of node a.
 fn on_chain(s: &[u32; POOL], o: usize, a: usize) -> usize

@@ -1,7 +1,7 @@
 // The fit of one direction, and what it promises.
 ghost use Rattle.bounds.specs.Half.{AboveOn};
-ghost use Rattle.half_test.specs.Arrays.{axisOn};
-ghost use Rattle.half_test.specs.Tests.{Says};
+ghost use Rattle.half_arrays.specs.Arrays.{axisOn};
+ghost use Rattle.half_arrays.specs.Says.{Says};
 ghost use Rattle.half_fit.specs.Answer.{Answers};
 use crate::ARCS;
 use crate::HELP;
@@ -16,7 +16,7 @@ use bounds::Axis;
 use half_test::beyond::shows_beyond;
 use half_test::proposal::Shown;
 use half_test::proposal::test_fit;
-use half_test::values::coordinates_of;
+use half_values::values::coordinates_of;
 
 // The fit of the direction has this length, which is within the room; it is longer than the room, or there is none; or nothing is shown.
 pub enum HalfOutcome {

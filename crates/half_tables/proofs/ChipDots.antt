@@ -23,8 +23,7 @@ use Rattle.slots.specs.Axes.{heldSlot, heldSlots, axisFor}
 use Rattle.slots.proofs.Counting.{letters-count, held-count}
 use Rattle.slots.proofs.Fineness.{die-most}
 use Rattle.halves.specs.Kept.{noCouple}
-use Rattle.half_test.specs.Arrays.{raised, boundAt}
-use Rattle.half_test.specs.Tests.{KeepsTo}
+use Rattle.half_arrays.specs.Arrays.{raised, boundAt, KeepsTo}
 use Rattle.half_tables.specs.Tables.{padded, Arced}
 use Rattle.half_tables.specs.Dots.{dotBound, Dotted}
 use Rattle.half_tables.proofs.Padding.{padded-value}

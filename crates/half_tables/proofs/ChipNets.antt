@@ -23,7 +23,7 @@ use Rattle.slots.specs.declared.Direction.{Direction}
 use Rattle.slots.specs.declared.Direction.the-variants.{Horizontal as horizontal, Vertical as vertical}
 use Rattle.slots.specs.Axes.{raised, axisPin, axisNet}
 use Rattle.halves.proofs.Entries.{entries-spread}
-use Rattle.half_test.specs.Arrays.{pinAt, entryCount}
+use Rattle.half_arrays.specs.Arrays.{pinAt, entryCount}
 use Rattle.half_tables.specs.Tables.{Tabled}
 use Rattle.half_tables.specs.Entries.{upOn, pinOn, pinsOn, startOf, NetsIn}
 use Rattle.half_tables.proofs.NetTables.{pins-small}

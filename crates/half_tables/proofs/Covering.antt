@@ -10,7 +10,7 @@ use Rattle.numbers.specs.Spread.{spread}
 use Rattle.bounds.specs.declared.AxisPin.{AxisPin}
 use Rattle.bounds.specs.Axis.{NetOn, noPin, bareNet, places, netsLength}
 use Rattle.halves.proofs.Entries.{Covered}
-use Rattle.half_test.specs.Arrays.{entryCount, nodeAt, mostAt, leastAt, netAt, weightAt, pinAt, entryPins, netsFrom}
+use Rattle.half_arrays.specs.Arrays.{entryCount, nodeAt, mostAt, leastAt, netAt, weightAt, pinAt, entryPins, netsFrom}
 use Rattle.half_tables.specs.Entries.{Lies, Backed, Entered}
 use Rattle.half_tables.proofs.Entering.{SmallPins}
 

@@ -8,7 +8,7 @@ use native.Mathlib.Omega.{arith}
 use lib.Dec.{ltb}
 use lib.ListN.{length, getD, set, length-set}
 use lib.Seq.{getD-set-same, getD-set-other}
-use Rattle.half_test.specs.Arrays.{boundAt}
+use Rattle.half_arrays.specs.Arrays.{boundAt}
 use Rattle.half_tables.specs.Dots.{unbound, dieBound, dotBound, Dotted}
 
 -- ---- writing

@@ -8,7 +8,7 @@ use native.Mathlib.Omega.{arith}
 use lib.ListN.{length, getD, set, length-set}
 use lib.Seq.{getD-set-same, getD-set-other}
 use Rattle.bounds.specs.declared.AxisPin.{AxisPin}
-use Rattle.half_test.specs.Arrays.{nodeAt, mostAt, leastAt, netAt}
+use Rattle.half_arrays.specs.Arrays.{nodeAt, mostAt, leastAt, netAt}
 use Rattle.half_tables.specs.declared.entries.Span.{Span}
 use Rattle.half_tables.specs.Entries.{Spans, withEntry, Backed, Stood, Entered, SameRest}
 

@@ -1,6 +1,6 @@
 -- The half fit of the arrays is the half fit of the chip's direction.
-use Prim.Native.Nat.{ℕ, _+_, _≤_, _<_}
-use mathlib.Core.Path.{_≡_, refl, sym, ap, subst, _∙_}
+use Prim.Native.Nat.{ℕ, _≤_, _<_}
+use mathlib.Core.Path.{_≡_, refl, sym, _∙_}
 use mathlib.Core.List.{List, map}
 use native.Mathlib.Decide.{decLt}
 use native.Mathlib.Omega.{arith}
@@ -8,35 +8,16 @@ use lib.ListN.{length, getD, take, length-map, List·getD-eq-default}
 use Rattle.model.specs.Meaning.{Chip}
 use Rattle.chip.specs.Valid.{Valid}
 use Rattle.placement.specs.Letters.{Letter}
-use Rattle.bounds.specs.Axis.{Keeps, KeepsSlot, lengthOn, netsLength, noSlot}
+use Rattle.bounds.specs.Axis.{Keeps, lengthOn, netsLength}
 use Rattle.bounds.specs.Half.{HalfOn, AboveOn}
 use Rattle.slots.specs.declared.Direction.{Direction}
 use Rattle.slots.specs.Slots.{macSide}
 use Rattle.slots.specs.Axes.{axisNet, axisFor}
 use Rattle.slots.proofs.Fineness.{die-most}
-use Rattle.half_test.specs.Arrays.{arcSlot, arcSlots, axisOn}
-use Rattle.half_test.specs.Tests.{KeepsTo}
-use Rattle.half_test.proofs.Duality.{length-arcs, arc-at}
+use Rattle.half_arrays.specs.Arrays.{axisOn}
+use Rattle.half_arrays.proofs.Arcs.{on-keeps, keeps-on}
 use Rattle.half_tables.specs.Tables.{padded, Tabled, Arced}
-use Rattle.half_tables.proofs.Padding.{take-least, zeros-at, padded-at, padded-long, take-nets, padded-nets}
-
--- ---- the axis of the arrays
-
-module _ (tab arcs z : List ℕ) where
-  arc-is : (j : ℕ) → j < 81 → getD (arcSlots arcs 0 81) j noSlot ≡ arcSlot arcs j
-  arc-is j l = let r : 0 + j ≡ j = omega arith in arc-at arcs 0 81 j l ∙ ap (arcSlot arcs) r
-
-  on-keeps : length z ≡ 8 → ((i : ℕ) → getD z i 0 ≤ 8192) → KeepsTo arcs z 81 → Keeps (axisOn tab arcs) z
-  on-keeps e small h = record {
-    long = e;
-    size = λ i l. let s = small i in let q = zeros-at 8 i in omega arith;
-    pair = λ j l. let n = length-arcs arcs 0 81 in subst (KeepsSlot z) (sym (arc-is j (omega arith))) (record { le = h .at j (omega arith) });
-  }
-
-  keeps-on : Keeps (axisOn tab arcs) z → KeepsTo arcs z 81
-  keeps-on k = record { at = λ j l. let n = length-arcs arcs 0 81 in subst (KeepsSlot z) (arc-is j l) (k .pair j (omega arith)) .le }
-
--- ---- the axis of the chip
+use Rattle.half_tables.proofs.Padding.{take-least, padded-at, padded-long, take-nets, padded-nets}
 
 module _ (d : Direction) (c : Chip) (ls : List Letter) (v : Valid c) where
   chip-long : (y : List ℕ) → Keeps (axisFor d c ls) y → length y ≡ length (c .macs)

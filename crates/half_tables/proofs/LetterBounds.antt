@@ -19,8 +19,7 @@ use Rattle.slots.proofs.Counting.{held-count}
 use Rattle.slots.proofs.Fineness.{axis-fine}
 use Rattle.halves.specs.Kept.{wayOf, asksAt, noCouple}
 use Rattle.halves.proofs.Halving.{other-axis}
-use Rattle.half_test.specs.Arrays.{raised, boundAt}
-use Rattle.half_test.specs.Tests.{KeepsTo}
+use Rattle.half_arrays.specs.Arrays.{raised, boundAt, KeepsTo}
 use Rattle.half_tables.specs.Tables.{padded, Arced, placeOn, limit, boundOn, withBound}
 use Rattle.half_tables.proofs.Padding.{take-value, padded-value}
 

@@ -16,7 +16,7 @@ use Rattle.chip.proofs.Passing.{Whole}
 use Rattle.chip.proofs.HeldNets.{pins-before-next, pins-before-up}
 use Rattle.slots.specs.declared.Direction.{Direction}
 use Rattle.slots.specs.Slots.{dieSide, macSide}
-use Rattle.half_test.specs.Arrays.{entryCount}
+use Rattle.half_arrays.specs.Arrays.{entryCount}
 use Rattle.half_tables.specs.Entries.{NetsIn}
 use Rattle.half_tables.specs.Dots.{Dotted}
 use Rattle.half_tables.specs.Made.{NetsFit, ArraysFor}

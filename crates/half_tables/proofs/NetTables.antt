@@ -20,7 +20,7 @@ use Rattle.chip.specs.Valid.{pinsBefore}
 use Rattle.chip.proofs.HeldNets.{pins-before-more, pins-before-next, pins-before-up}
 use Rattle.bounds.specs.declared.AxisPin.{AxisPin}
 use Rattle.slots.specs.declared.Direction.{Direction}
-use Rattle.half_test.specs.Arrays.{weightAt, entryCount}
+use Rattle.half_arrays.specs.Arrays.{weightAt, entryCount}
 use Rattle.half_tables.specs.declared.entries.Span.{Span}
 use Rattle.half_tables.specs.Entries.{pinsOn, startOf, Lies, Spans, withEntry, Entered, onNodes, Few, SameRest, Weighed, NetsIn, NetPut}
 use Rattle.half_tables.proofs.Padding.{zeros-at}

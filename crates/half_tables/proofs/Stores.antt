@@ -13,7 +13,7 @@ use Rattle.bounds.specs.declared.Slot.{Slot}
 use Rattle.slots.specs.declared.Direction.{Direction}
 use Rattle.slots.specs.declared.Direction.the-variants.{Horizontal as horizontal, Vertical as vertical}
 use Rattle.slots.specs.Slots.{macSide}
-use Rattle.half_test.specs.Arrays.{boundAt, pinAt}
+use Rattle.half_arrays.specs.Arrays.{boundAt, pinAt}
 use Rattle.half_tables.specs.declared.entries.Span.{Span}
 use Rattle.half_tables.specs.Tables.{placeOn, boundOn, withBound}
 use Rattle.half_tables.specs.Entries.{upOn, pinOn, span, joinedTo, withEntry}

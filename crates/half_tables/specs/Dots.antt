@@ -5,7 +5,7 @@ use mathlib.Core.Bool.{cond}
 use mathlib.Core.List.{List}
 use lib.Dec.{ltb}
 use lib.ListN.{length, getD}
-use Rattle.half_test.specs.Arrays.{raised, boundAt}
+use Rattle.half_arrays.specs.Arrays.{raised, boundAt}
 use Rattle.half_tables.specs.Tables.{limit}
 
 -- no bound

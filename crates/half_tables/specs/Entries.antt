@@ -13,7 +13,7 @@ use Rattle.chip.specs.Valid.{pinsBefore}
 use Rattle.bounds.specs.declared.AxisPin.{AxisPin}
 use Rattle.slots.specs.declared.Direction.{Direction}
 use Rattle.slots.specs.declared.Direction.the-variants.{Horizontal as horizontal, Vertical as vertical}
-use Rattle.half_test.specs.Arrays.{nodeAt, mostAt, leastAt, netAt, weightAt, pinAt}
+use Rattle.half_arrays.specs.Arrays.{nodeAt, mostAt, leastAt, netAt, weightAt, pinAt}
 use Rattle.half_tables.specs.declared.entries.Span.{Span}
 
 -- ---- pins

@@ -9,8 +9,7 @@ use Rattle.bounds.specs.declared.Slot.{Slot}
 use Rattle.bounds.specs.Axis.{Keeps, netsLength}
 use Rattle.slots.specs.declared.Direction.{Direction}
 use Rattle.slots.specs.Axes.{axisNet, axisFor}
-use Rattle.half_test.specs.Arrays.{raised, boundAt, netsFrom}
-use Rattle.half_test.specs.Tests.{KeepsTo}
+use Rattle.half_arrays.specs.Arrays.{raised, boundAt, netsFrom, KeepsTo}
 
 -- coordinates of the macros, and 0 for those up to 8 that the chip does not have
 abbrev pub padded : List ℕ → List ℕ

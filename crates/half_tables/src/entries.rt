@@ -11,7 +11,7 @@ use slots::Direction;
 ghost use mathlib.Core.Path.{_≡_};
 ghost use Prim.Native.Nat.{_+_, _*_, _≤_, _<_, max};
 ghost use Rattle.chip.specs.Valid.{pinsBefore};
-ghost use Rattle.half_test.specs.Arrays.{entryCount};
+ghost use Rattle.half_arrays.specs.Arrays.{entryCount};
 ghost use Rattle.half_tables.specs.Entries.{upOn, pinOn, pinsOn, startOf, Spans, joinedTo, withEntry, Entered, NetsIn, NetPut};
 
 // The greatest and the least place of some pins, if there are any.

@@ -19,10 +19,10 @@ ghost use Rattle.chip.specs.Valid.{pinsBefore};
 ghost use Rattle.half_tables.specs.Tables.{withBound};
 ghost use Rattle.half_tables.specs.Made.{NetsFit, ArraysFor};
 
-// The lengths of the arrays, which are those of half_test.
-pub const TAB: usize = half_test::TAB;
+// The lengths of the arrays, which are those of half_arrays.
+pub const TAB: usize = half_arrays::TAB;
 
-pub const ARCS: usize = half_test::ARCS;
+pub const ARCS: usize = half_arrays::ARCS;
 
 // The nets of a direction as entries, and the bounds between its nodes, held higher by 2^24.
 pub struct Arrays {

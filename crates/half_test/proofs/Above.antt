@@ -4,10 +4,11 @@ use mathlib.Core.Bool.{Bool}
 use mathlib.Core.List.{List}
 use native.Mathlib.Omega.{arith}
 use Rattle.bounds.specs.Half.{AboveOn}
-use Rattle.half_test.specs.Arrays.{axisOn}
-use Rattle.half_test.specs.State.{flowAt, hiAt, loAt}
-use Rattle.half_test.specs.Amounts.{Passes, gained, lost}
-use Rattle.half_test.specs.Tests.{Says, WorthSums}
+use Rattle.half_arrays.specs.Says.{Says}
+use Rattle.half_arrays.specs.Arrays.{axisOn}
+use Rattle.half_arrays.specs.State.{flowAt, hiAt, loAt}
+use Rattle.half_worth.specs.Amounts.{Passes, gained, lost}
+use Rattle.half_worth.specs.Tests.{WorthSums}
 use Rattle.half_test.proofs.Duality.{worth-most}
 
 -- amounts over the arrays that pass and are worth more than the room

@@ -1,13 +1,4 @@
-pub mod Answers
 pub mod Duality
-pub mod Gathering
-pub mod Weighing
-pub mod Summing
-pub mod Passing
 pub mod Above
 pub mod Smallest
-pub mod Valuing
-pub mod Keeping
-pub mod Reasoning
-pub mod Lengths
 pub mod Fitting

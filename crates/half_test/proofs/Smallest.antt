@@ -4,10 +4,11 @@ use mathlib.Core.Path.{_≡_, ap}
 use mathlib.Core.List.{List}
 use native.Mathlib.Omega.{arith}
 use Rattle.bounds.specs.Axis.{Keeps, valueAt}
-use Rattle.half_test.specs.Arrays.{nodeAt, netAt, axisOn}
-use Rattle.half_test.specs.Amounts.{fromNode, toNode, Passes, WorthLength}
-use Rattle.half_test.specs.Reasons.{Follows, by-tight, by-flow, by-high, by-low, Reasons}
-use Rattle.half_test.proofs.Duality.{topOn, bottomOn, under-top, over-bottom, arcs-kept, bounds-tight, high-tight, low-tight}
+use Rattle.half_arrays.specs.Arrays.{fromNode, toNode, nodeAt, netAt, axisOn}
+use Rattle.half_arrays.proofs.Nets.{topOn, bottomOn, under-top, over-bottom}
+use Rattle.half_worth.specs.Amounts.{Passes, WorthLength}
+use Rattle.half_reason.specs.Reasons.{Follows, by-tight, by-flow, by-high, by-low, Reasons}
+use Rattle.half_test.proofs.Duality.{arcs-kept, bounds-tight, high-tight, low-tight}
 
 -- the nodes of the bound from u to v
 from-is : (u v : ℕ) → v < 9 → fromNode (u * 9 + v) ≡ u
@@ -33,17 +34,17 @@ module _ (tab arcs : List ℕ) (f h l : ℕ → ℕ) (s : Passes tab f h l) (z :
       let c = ap (valueAt z) (from-is k p lp) in
       let d = ap (valueAt z) (to-is k p lp) in
       omega arith
-  step p k lp lk ih (by-high i j t) =
-      let n = t .beside in let e = t .eq in
-      let q = high-tight tab arcs f h l s y ky wy j (n .second) (t .carries) in
+  step p k lp lk ih (by-high i j n c t) =
+      let e = t .eq in
+      let q = high-tight tab arcs f h l s y ky wy j (n .second) c in
       let u = under-top tab y i (n .first) in
       let o : topOn tab y (netAt tab i) ≡ topOn tab y (netAt tab j) = ap (topOn tab y) (n .net) in
       let a : valueAt y (nodeAt tab i) ≡ valueAt y p = ap (valueAt y) (n .from) in
       let b : valueAt y (nodeAt tab j) ≡ valueAt y k = ap (valueAt y) (n .to) in
       omega arith
-  step p k lp lk ih (by-low i j t) =
-      let n = t .beside in let e = t .eq in
-      let q = low-tight tab arcs f h l s y ky wy i (n .first) (t .carries) in
+  step p k lp lk ih (by-low i j n c t) =
+      let e = t .eq in
+      let q = low-tight tab arcs f h l s y ky wy i (n .first) c in
       let u = over-bottom tab y j (n .second) in
       let o : bottomOn tab y (netAt tab i) ≡ bottomOn tab y (netAt tab j) = ap (bottomOn tab y) (n .net) in
       let a : valueAt y (nodeAt tab i) ≡ valueAt y p = ap (valueAt y) (n .from) in

@@ -5,7 +5,7 @@ use mathlib.Core.List.{List}
 use Rattle.bounds.specs.Half.{HalfOn}
 use Rattle.half_test.specs.declared.proposal.Shown.{Shown}
 use Rattle.half_test.specs.declared.proposal.Shown.the-variants as shown
-use Rattle.half_test.specs.Arrays.{axisOn}
+use Rattle.half_arrays.specs.Arrays.{axisOn}
 
 -- `Fit l`: the coordinates z are the half fit of the arrays, of length l; `Not` says nothing
 abbrev pub ShownOk : List ℕ → List ℕ → List ℕ → Shown → Type 0

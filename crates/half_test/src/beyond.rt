@@ -1,11 +1,11 @@
 // The test of a proposal that a half fit is above a room: by amounts alone, no values are read.
 ghost use Rattle.bounds.specs.Half.{AboveOn};
-ghost use Rattle.half_test.specs.Arrays.{axisOn};
-ghost use Rattle.half_test.specs.Tests.{Says};
-use crate::ARCS;
-use crate::POOL;
-use crate::TAB;
-use crate::amounts::worth_of;
+ghost use Rattle.half_arrays.specs.Arrays.{axisOn};
+ghost use Rattle.half_arrays.specs.Says.{Says};
+use half_arrays::ARCS;
+use half_arrays::POOL;
+use half_arrays::TAB;
+use half_worth::worth_of;
 
 // Whether the amounts of state o show that the half fit is above the room or does not exist.
 pub fn shows_beyond(

@@ -1,15 +1,14 @@
 // The test of a proposed half fit: coordinates, amounts worth their length, and a reason for each macro's coordinate.
-ghost use Rattle.half_test.specs.State.{coordinates};
+ghost use Rattle.half_arrays.specs.State.{coordinates};
 ghost use Rattle.half_test.specs.Answer.{ShownOk};
-use crate::ARCS;
-use crate::POOL;
-use crate::TAB;
-use crate::amounts::worth_of;
-use crate::keeps::keeps_bounds;
-use crate::length::length_at;
-use crate::reason::reasons;
-use crate::values::coordinates_of;
-use crate::values::values_of;
+use half_arrays::ARCS;
+use half_arrays::POOL;
+use half_arrays::TAB;
+use half_reason::reasons;
+use half_values::keeps::keeps_bounds;
+use half_values::length::half_length;
+use half_values::values::coordinates_of;
+use half_worth::worth_of;
 
 // The coordinates of the state are the half fit, of this length; or nothing is shown.
 pub enum Shown {
@@ -22,14 +21,13 @@ pub fn test_fit(tab: &[u32; TAB], arcs: &[u32; ARCS], st: &[u32; POOL], o: usize
     ensures { λ r. ⌜ ShownOk (now (tab .entry)) (now (arcs .entry)) (coordinates (now (st .entry)) o) r ⌝ }
 {
     let z = coordinates_of(st, o);
-    let x = values_of(z);
-    if !keeps_bounds(arcs, &x) {
+    if !keeps_bounds(arcs, z) {
         return Shown::Not;
     }
-    if !reasons(tab, arcs, st, o, &x) {
+    if !reasons(tab, arcs, st, o) {
         return Shown::Not;
     }
-    let l = length_at(tab, &x);
+    let l = half_length(tab, z);
     let w = worth_of(tab, arcs, st, o);
     if w.more < w.less {
         return Shown::Not;

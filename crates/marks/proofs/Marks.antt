@@ -6,10 +6,11 @@ use Rattle.grammar.specs.Line.{lines, upTo, from, strip, fields, fieldsText}
 use Rattle.grammar.specs.Words.{isIn, same, wordIn, itemText, itemsText}
 use Rattle.grammar.specs.Reading.{stepBytes, readLines, readText}
 use Rattle.grammar.proofs.Every.{Every}
-use Rattle.chip.specs.Kind.{pinCount, clearOf, addPin}
+use Rattle.geometry.specs.Box.{clearOf}
+use Rattle.chip.specs.Kind.{pinCount, addPin}
 use Rattle.chip.specs.Text.{readChip}
 use Rattle.record.specs.Text.{atItems, recordItems, recordText}
-use Rattle.placement.specs.Legal.{boxes, allInDie, apartFrom, allApart, within, legal}
+use Rattle.placement.specs.Legal.{boxes, allInDie, allApart, within, legal}
 use Rattle.placement.specs.Length.{greatest, least as smallest, span, netLength, netsLength}
 use Rattle.placement.specs.Letters.{pairsOf, withEach, pairs, keepsAll, keepsLetters}
 use Rattle.placement.specs.Least.{upFrom, column, grid, inFront, placements, tryAll, firstLeast, chipRecord}
@@ -19,10 +20,10 @@ use Rattle.host_fit.specs.FitText.{fitText}
 use Rattle.marks.specs.Marks.{bytes, text, RecordCase, FitCase, markedRecords, markedFits}
 
 pub marked-records : Every (λ (c : RecordCase). printed (text (c .chip)) ≡ text (c .prints)) markedRecords
-unfolding bytes text digitsIn digits fieldsText itemText itemsText atItems recordItems recordText allOf valueFrom plain numeralOf lines upTo from strip fields isIn same wordIn stepBytes readLines readText pinCount clearOf addPin readChip boxes allInDie apartFrom allApart within legal greatest smallest span netLength netsLength pairsOf withEach pairs keepsAll keepsLetters upFrom column grid inFront placements tryAll firstLeast chipRecord
+unfolding bytes text digitsIn digits fieldsText itemText itemsText atItems recordItems recordText allOf valueFrom plain numeralOf lines upTo from strip fields isIn same wordIn stepBytes readLines readText pinCount clearOf addPin readChip boxes allInDie allApart within legal greatest smallest span netLength netsLength pairsOf withEach pairs keepsAll keepsLetters upFrom column grid inFront placements tryAll firstLeast chipRecord
 marked-records = (refl, (refl, (refl, (refl, (refl, (refl, tt))))))
 
 -- with 22 slots lent, and 4 positions
 pub marked-fits : Every (λ (c : FitCase). fitText (text (c .chip)) (bytes (c .letters)) 22 4 ≡ c .answer) markedFits
-unfolding bytes text areLetters allOf valueFrom plain numeralOf lines upTo from strip fields isIn same wordIn stepBytes readLines readText pinCount clearOf addPin readChip boxes allInDie apartFrom allApart within legal greatest smallest span netLength netsLength pairsOf withEach pairs keepsAll keepsLetters upFrom column grid inFront placements tryAll firstLeast chipRecord
+unfolding bytes text areLetters allOf valueFrom plain numeralOf lines upTo from strip fields isIn same wordIn stepBytes readLines readText pinCount clearOf addPin readChip boxes allInDie allApart within legal greatest smallest span netLength netsLength pairsOf withEach pairs keepsAll keepsLetters upFrom column grid inFront placements tryAll firstLeast chipRecord
 marked-fits = (refl, (refl, (refl, (refl, (refl, tt)))))

@@ -1,7 +1,7 @@
 -- What measuring a chip whose test is passed answers, in the form of the needs of `measure_parts`.
 use mathlib.Core.Path.{_≡_, refl, sym, _∙_}
 use mathlib.Core.Bool.{Bool, true, false, not}
-use mathlib.Core.List.{List, []}
+use mathlib.Core.List.{List, [], map}
 use Prim.Native.Nat.{ℕ, _≤_}
 use native.Mathlib.Decide.{decLe}
 use native.Mathlib.Omega.{arith}
@@ -26,7 +26,9 @@ use Rattle.placement.specs.Legal.{boxes, legal}
 use Rattle.placement.specs.Length.{Near, wirelength}
 use Rattle.placement.proofs.LengthBound.{wirelength-bound}
 use Rattle.measure.specs.Measuring.{refused, measured, inRange, measurePassed}
-use Rattle.geometry.specs.Turn.{legalAfter}
+use Rattle.geometry.specs.declared.Box.{Box}
+use Rattle.geometry.specs.Box.{boxOf}
+use Rattle.legal.specs.Turn.{legalAfter}
 use Rattle.measure.specs.Held.{lengthTo, Summable}
 use Rattle.measure.proofs.Ranges.{in-range-near}
 use Rattle.measure.proofs.IsLegal.{as-many, legal-told}
@@ -72,7 +74,7 @@ module _ (c : HeldChip) (p : Accepted c) (fs : length (c .fixes) ≡ 8) (ms : le
           small = rw whole (wirelength-bound (chipOf c) (take (c .n) s) (accepted-valid (chipText (chipOf c)) (chipOf c) (sym p)) near);
         }
 
-        pub all-measured : (bs : List Fix) (a : Bool) (wl : ℕ) → bs ≡ boxes (c .macs) s → a ≡ legalAfter (c .die) (take (c .k) (c .fixes)) [] (take (c .n) bs) → wl ≡ lengthTo s (c .nets) (c .pins) (c .t) → measured a wl ≡ measurePassed (chipOf c) (firstOf blankSpot count s)
+        pub all-measured : (bs : List Box) (a : Bool) (wl : ℕ) → bs ≡ boxes (c .macs) s → a ≡ legalAfter 0 (c .die) (map boxOf (take (c .k) (c .fixes))) [] (take (c .n) bs) → wl ≡ lengthTo s (c .nets) (c .pins) (c .t) → measured a wl ≡ measurePassed (chipOf c) (firstOf blankSpot count s)
         unfolding measurePassed
         all-measured bs a wl f g k =
             let d : a ≡ legal (chipOf c) (take (c .n) s) = rw (g, f) (legal-told c fine s fs ms l) in

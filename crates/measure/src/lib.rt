@@ -174,8 +174,8 @@ fn measure_parts(
     if !in_range(spots, n) {
         return MeasureAnswer::Refused(Refusal { no: 14, line: 0 });
     }
-    let bs = geometry::boxes_at(macs, spots);
-    let legal = geometry::legal_boxes(die, fixes, k, bs, n);
+    let bs = legal::boxes_at(macs, spots);
+    let legal = legal::legal_boxes(die, fixes, k, bs, n);
     let length = length_of(nets, t, pins, spots);
     MeasureAnswer::Measured(legal, length)
 }

@@ -9,7 +9,9 @@ use Rattle.model.specs.Meaning.{Chip}
 use Rattle.grammar.proofs.Lacks.{and-left, and-right}
 use Rattle.grammar.proofs.Every.{Every}
 use Rattle.placement.proofs.OrderLaws.{or-says}
-use Rattle.placement.specs.Legal.{Box, boxes, leftOf, rightOf, below, above, apart, apartFrom, allApart, within, legal}
+use Rattle.geometry.specs.declared.Box.{Box}
+use Rattle.geometry.specs.Box.{clearOf}
+use Rattle.placement.specs.Legal.{boxes, fixBoxes, leftOf, rightOf, below, above, apart, apartFrom, allApart, within, legal}
 use Rattle.placement.specs.Letters.{Letter, left, right, low, high, dot, keeps, Pair, with, pairsOf, withEach, pairs, keepsAll, keepsLetters}
 
 or-first : (p q : Bool) → p ≡ true → (p || q) ≡ true
@@ -40,19 +42,19 @@ module _ (c : Chip) where
   pairs-append (q ∷ qs) rs = ap (λ (b : Bool). apart c (q .first) (q .second) && b) (pairs-append qs rs) ∙ sym (and-assoc (apart c (q .first) (q .second)) (allPairs c qs) (allPairs c rs))
 
   from-pairs : (a : Box) (s : List Box) → apartFrom c a s ≡ allPairs c (with a s)
-  unfolding apartFrom
+  unfolding clearOf
   from-pairs a [] = refl
   from-pairs a (b ∷ s) = ap (λ (t : Bool). apart c a b && t) (from-pairs a s)
 
-  apart-pairs : (s : List Box) → allApart c s ≡ (allPairs c (pairsOf s) && allPairs c (withEach s (c .fixes)))
+  apart-pairs : (s : List Box) → allApart c s ≡ (allPairs c (pairsOf s) && allPairs c (withEach s (fixBoxes c)))
   unfolding allApart pairsOf withEach
   apart-pairs [] = refl
-  apart-pairs (a ∷ s) = rw (apart-pairs s, from-pairs a s, from-pairs a (c .fixes), pairs-append (with a s) (pairsOf s), pairs-append (with a (c .fixes)) (withEach s (c .fixes)))
-      (regroup (allPairs c (with a s)) (allPairs c (with a (c .fixes))) (allPairs c (pairsOf s)) (allPairs c (withEach s (c .fixes))))
+  apart-pairs (a ∷ s) = rw (apart-pairs s, from-pairs a s, from-pairs a (fixBoxes c), pairs-append (with a s) (pairsOf s), pairs-append (with a (fixBoxes c)) (withEach s (fixBoxes c)))
+      (regroup (allPairs c (with a s)) (allPairs c (with a (fixBoxes c))) (allPairs c (pairsOf s)) (allPairs c (withEach s (fixBoxes c))))
 
   placement-pairs : (ps : List Spot) → allApart c (boxes (c .macs) ps) ≡ allPairs c (pairs c ps)
   unfolding pairs
-  placement-pairs ps = apart-pairs (boxes (c .macs) ps) ∙ sym (pairs-append (pairsOf (boxes (c .macs) ps)) (withEach (boxes (c .macs) ps) (c .fixes)))
+  placement-pairs ps = apart-pairs (boxes (c .macs) ps) ∙ sym (pairs-append (pairsOf (boxes (c .macs) ps)) (withEach (boxes (c .macs) ps) (fixBoxes c)))
 
 abbrev pub isDot : Letter → Bool
 isDot left = false

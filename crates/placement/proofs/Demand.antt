@@ -16,7 +16,8 @@ use Rattle.model.specs.declared.Spot.{Spot}
 use Rattle.model.specs.Meaning.{Chip}
 use Rattle.grammar.proofs.Every.{Every}
 use Rattle.grammar.proofs.Lacks.{and-left, and-right}
-use Rattle.placement.specs.Legal.{boxes, boxAt, inDie, allInDie, allApart, placesAll, within, legal}
+use Rattle.geometry.specs.Box.{boxAt}
+use Rattle.placement.specs.Legal.{boxes, inDie, allInDie, allApart, placesAll, within, legal}
 use Rattle.placement.specs.Length.{wirelength}
 use Rattle.placement.specs.Order.{keys, firstSmaller, before}
 use Rattle.placement.specs.Least.{upFrom, column, grid, corners, inFront, placements, Best, nothing, found, firstLeast, earliestLeast, fitOf}

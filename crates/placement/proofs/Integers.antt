@@ -10,12 +10,13 @@ use lib.ListN.{length, getD, length-map}
 use lib.IntN.{ℤ, pos, negsuc, _+ℤ_, natAbs}
 use lib.Signed.{leZ, ltZ}
 use borrow.Author.Tests.{le-leb, lt-leb, lt-ltb, le-ltb, eq-eqb, ne-eqb, eqb-true}
-use Rattle.model.specs.declared.Fix.{Fix}
 use Rattle.model.specs.declared.Mac.{Mac}
 use Rattle.model.specs.declared.Spot.{Spot}
 use Rattle.model.specs.Meaning.{Pin, Net, Chip, blankSpot}
 use Rattle.grammar.proofs.Lacks.{and-left, and-right}
-use Rattle.placement.specs.Legal.{Box, boxes, apart, inDie, allInDie, apartFrom, allApart, within, legal}
+use Rattle.geometry.specs.declared.Box.{Box}
+use Rattle.geometry.specs.Box.{clearOf}
+use Rattle.placement.specs.Legal.{boxes, fixBoxes, apart, inDie, allInDie, apartFrom, allApart, within, legal}
 use Rattle.placement.specs.Length.{origin, pinX, pinY, span, netLength, netsLength, wirelength}
 use Rattle.placement.specs.Order.{keys, firstSmaller, before}
 use Rattle.placement.specs.Demand.{EarliestLeast}
@@ -42,7 +43,7 @@ module _ (c : Chip) where
   all-in-same (a ∷ s) = ap (λ (b : Bool). b && allInDieZ c (map rectOf s)) (in-same a) ∙ ap (λ (b : Bool). inDie c a && b) (all-in-same s)
 
   from-same : (a : Box) (s : List Box) → apartFromZ c (rectOf a) (map rectOf s) ≡ apartFrom c a s
-  unfolding apartFromZ apartFrom
+  unfolding apartFromZ clearOf
   from-same a [] = refl
   from-same a (b ∷ s) = ap (λ (t : Bool). apart c a b && t) (from-same a s)
 
@@ -50,9 +51,9 @@ module _ (c : Chip) where
   unfolding allApartZ allApart
   all-apart-same [] = refl
   all-apart-same (a ∷ s) =
-      ap (λ (t : Bool). t && (apartFromZ c (rectOf a) (map rectOf (c .fixes)) && allApartZ c (map rectOf s))) (from-same a s)
-      ∙ ap (λ (t : Bool). apartFrom c a s && (t && allApartZ c (map rectOf s))) (from-same a (c .fixes))
-      ∙ ap (λ (t : Bool). apartFrom c a s && (apartFrom c a (c .fixes) && t)) (all-apart-same s)
+      ap (λ (t : Bool). t && (apartFromZ c (rectOf a) (map rectOf (fixBoxes c)) && allApartZ c (map rectOf s))) (from-same a s)
+      ∙ ap (λ (t : Bool). apartFrom c a s && (t && allApartZ c (map rectOf s))) (from-same a (fixBoxes c))
+      ∙ ap (λ (t : Bool). apartFrom c a s && (apartFrom c a (fixBoxes c) && t)) (all-apart-same s)
 
   -- natural corners are legal exactly where they are legal as integers
   pub legal-same : (ps : List Spot) → legalZ c (integers ps) ≡ legal c ps

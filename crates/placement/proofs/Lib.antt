@@ -1,3 +1,4 @@
+pub mod Boxes
 pub mod OrderLaws
 pub mod Cover
 pub mod FirstLeast

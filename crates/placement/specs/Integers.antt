@@ -7,10 +7,11 @@ use lib.Dec.{eqb}
 use lib.ListN.{length, getD}
 use lib.IntN.{ℤ, pos, _+ℤ_}
 use lib.Signed.{leZ, ltZ}
-use Rattle.model.specs.declared.Fix.{Fix}
 use Rattle.model.specs.declared.Mac.{Mac}
 use Rattle.model.specs.declared.Spot.{Spot}
 use Rattle.model.specs.Meaning.{Pin, Net, Chip}
+use Rattle.geometry.specs.declared.Box.{Box}
+use Rattle.placement.specs.Legal.{fixBoxes, gapOf}
 use Rattle.placement.specs.Length.{span}
 
 -- a corner; a placement is a list of corners, one for each macro
@@ -25,12 +26,12 @@ pub record Rect : Type 0 where
   pub w : ℕ
   pub h : ℕ
 
--- a macro at a corner, and a fix
+-- a macro at a corner, and a box with a natural corner
 abbrev pub rectAt : Mac → Corner → Rect
 rectAt m p = record { x = p .x; y = p .y; w = m .w; h = m .h }
 
-abbrev pub rectOf : Fix → Rect
-rectOf f = record { x = pos (f .x); y = pos (f .y); w = f .w; h = f .h }
+abbrev pub rectOf : Box → Rect
+rectOf a = record { x = pos (a .x); y = pos (a .y); w = a .w; h = a .h }
 
 -- the macros at their corners
 unfoldable pub rects : List Mac → List Corner → List Rect
@@ -40,12 +41,12 @@ rects (m ∷ ms) (p ∷ ps) = rectAt m p ∷ rects ms ps
 
 -- ---- legal
 
--- left of: corner plus width is at most the other corner; below: corner plus height
+-- left of: corner plus width plus gap is at most the other corner; below: corner plus height plus gap
 abbrev pub leftOfZ : Chip → Rect → Rect → Bool
-leftOfZ c a b = leZ (a .x +ℤ pos (a .w)) (b .x)
+leftOfZ c a b = leZ (a .x +ℤ pos (a .w) +ℤ pos (gapOf c)) (b .x)
 
 abbrev pub belowZ : Chip → Rect → Rect → Bool
-belowZ c a b = leZ (a .y +ℤ pos (a .h)) (b .y)
+belowZ c a b = leZ (a .y +ℤ pos (a .h) +ℤ pos (gapOf c)) (b .y)
 
 -- one is left of, right of, below or above the other
 abbrev pub apartZ : Chip → Rect → Rect → Bool
@@ -66,7 +67,7 @@ apartFromZ c a (b ∷ s) = apartZ c a b && apartFromZ c a s
 -- each two of the macros, and each macro and each fix
 unfoldable pub allApartZ : Chip → List Rect → Bool
 allApartZ c [] = true
-allApartZ c (a ∷ s) = apartFromZ c a s && (apartFromZ c a (map rectOf (c .fixes)) && allApartZ c s)
+allApartZ c (a ∷ s) = apartFromZ c a s && (apartFromZ c a (map rectOf (fixBoxes c)) && allApartZ c s)
 
 -- one corner for each macro, every macro in the die, and each two apart
 unfoldable pub legalZ : Chip → List Corner → Bool

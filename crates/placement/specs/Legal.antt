@@ -1,22 +1,16 @@
 -- When a placement is legal. Document 01, "Legal, and how long": each macro lies in the die, and of each two macros, and of each macro and each fix, one is left of, right of, below or above the other; touching edges are allowed.
 -- A placement is a list of corners, one for each macro. Corners are natural numbers: legal demands that x and y are at least 0, so no placement is lost.
-use Prim.Native.Nat.{_+_}
-use mathlib.Core.List.{List, [], _∷_}
-use mathlib.Core.Bool.{Bool, true, _&&_, _||_}
-use lib.Dec.{leb, eqb}
+use Prim.Native.Nat.{ℕ}
+use mathlib.Core.List.{List, [], _∷_, map}
+use mathlib.Core.Bool.{Bool, true, _&&_}
+use lib.Dec.{eqb}
 use lib.ListN.{length}
-use Rattle.model.specs.declared.Fix.{Fix}
 use Rattle.model.specs.declared.Mac.{Mac}
 use Rattle.model.specs.declared.Spot.{Spot}
 use Rattle.model.specs.Meaning.{Chip}
-
--- a rectangle: a lower left corner, a width and a height, as a fix has them
-abbrev pub Box : Type 0
-Box = Fix
-
--- a macro at a corner
-abbrev pub boxAt : Mac → Spot → Box
-boxAt m p = record { x = p .x; y = p .y; w = m .w; h = m .h }
+use Rattle.geometry.specs.declared.Box.{Box}
+use Rattle.geometry.specs.Box.{boxAt, boxOf}
+use Rattle.geometry.specs.Box as box
 
 -- the macros at their corners
 unfoldable pub boxes : List Mac → List Spot → List Box
@@ -24,40 +18,44 @@ boxes [] ps = []
 boxes (m ∷ ms) [] = []
 boxes (m ∷ ms) (p ∷ ps) = boxAt m p ∷ boxes ms ps
 
--- left of: corner plus width is at most the other corner
+-- the fixes
+abbrev pub fixBoxes : Chip → List Box
+fixBoxes c = map boxOf (c .fixes)
+
+-- the gap that a chip asks between two macros, and between a macro and a fix: none
+abbrev pub gapOf : Chip → ℕ
+gapOf c = 0
+
 abbrev pub leftOf : Chip → Box → Box → Bool
-leftOf c a b = leb (a .x + a .w) (b .x)
+leftOf c a b = box.leftOf (gapOf c) a b
 
 abbrev pub rightOf : Chip → Box → Box → Bool
 rightOf c a b = leftOf c b a
 
--- below: corner plus height is at most the other corner
 abbrev pub below : Chip → Box → Box → Bool
-below c a b = leb (a .y + a .h) (b .y)
+below c a b = box.below (gapOf c) a b
 
 abbrev pub above : Chip → Box → Box → Bool
 above c a b = below c b a
 
 -- one is left of, right of, below or above the other
 abbrev pub apart : Chip → Box → Box → Bool
-apart c a b = leftOf c a b || (rightOf c a b || (below c a b || above c a b))
+apart c a b = box.apart (gapOf c) a b
 
--- x + w at most W, y + h at most H
+abbrev pub apartFrom : Chip → Box → List Box → Bool
+apartFrom c a s = box.clearOf (gapOf c) a s
+
 abbrev pub inDie : Chip → Box → Bool
-inDie c a = leb (a .x + a .w) (c .die .w) && leb (a .y + a .h) (c .die .h)
+inDie c a = box.inDie (c .die) a
 
 unfoldable pub allInDie : Chip → List Box → Bool
 allInDie c [] = true
 allInDie c (a ∷ s) = inDie c a && allInDie c s
 
-unfoldable pub apartFrom : Chip → Box → List Box → Bool
-apartFrom c a [] = true
-apartFrom c a (b ∷ s) = apart c a b && apartFrom c a s
-
 -- each two of the macros, and each macro and each fix
 unfoldable pub allApart : Chip → List Box → Bool
 allApart c [] = true
-allApart c (a ∷ s) = apartFrom c a s && (apartFrom c a (c .fixes) && allApart c s)
+allApart c (a ∷ s) = apartFrom c a s && (apartFrom c a (fixBoxes c) && allApart c s)
 
 -- one corner for each macro
 abbrev pub placesAll : Chip → List Spot → Bool

@@ -3,7 +3,8 @@ use mathlib.Core.List.{List, [], _∷_, _++_, map}
 use mathlib.Core.Bool.{Bool, true, false, _&&_}
 use Rattle.model.specs.declared.Spot.{Spot}
 use Rattle.model.specs.Meaning.{Chip}
-use Rattle.placement.specs.Legal.{Box, boxes, leftOf, rightOf, below, above, within}
+use Rattle.geometry.specs.declared.Box.{Box}
+use Rattle.placement.specs.Legal.{boxes, fixBoxes, leftOf, rightOf, below, above, within}
 
 pub data Letter : Type 0 where
   left : Letter
@@ -38,7 +39,7 @@ withEach [] fs = []
 withEach (a ∷ s) fs = with a fs ++ withEach s fs
 
 unfoldable pub pairs : Chip → List Spot → List Pair
-pairs c ps = pairsOf (boxes (c .macs) ps) ++ withEach (boxes (c .macs) ps) (c .fixes)
+pairs c ps = pairsOf (boxes (c .macs) ps) ++ withEach (boxes (c .macs) ps) (fixBoxes c)
 
 -- one letter for each pair, and every letter is kept
 unfoldable pub keepsAll : Chip → List Letter → List Pair → Bool

@@ -25,10 +25,9 @@ use Rattle.branches.proofs.Branching.{dots-branch}
 use Rattle.halves.specs.Kept.{valueOn}
 use Rattle.halves.proofs.Covers.{branch-keeps}
 use Rattle.kept.specs.Differences.{KeptBy, Starts}
-use Rattle.half_test.specs.Arrays.{boundAt, netsFrom}
-use Rattle.half_test.specs.State.{limited}
-use Rattle.half_test.specs.Tests.{KeepsTo}
-use Rattle.half_test.proofs.Valuing.{limited-same}
+use Rattle.half_arrays.specs.Arrays.{boundAt, netsFrom, KeepsTo}
+use Rattle.half_arrays.specs.State.{limited}
+use Rattle.half_values.proofs.Valuing.{limited-same}
 use Rattle.half_tables.specs.Tables.{padded, Arced}
 use Rattle.half_tables.specs.Made.{Hold}
 use Rattle.half_tables.proofs.HalfHere.{chip-small}

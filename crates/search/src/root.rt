@@ -120,8 +120,8 @@ pub(crate) fn root(c: Chip, p: usize, x: Arrays, y: Arrays, here: Record) -> Nod
     let ay = y.arcs;
     let kx = ordered(c, kept::closed(ax));
     let ky = kept::closed(ay);
-    let lx = half_test::length::half_length(&tx, coordinates(spots, Direction::Horizontal));
-    let ly = half_test::length::half_length(&ty, coordinates(spots, Direction::Vertical));
+    let lx = half_values::length::half_length(&tx, coordinates(spots, Direction::Horizontal));
+    let ly = half_values::length::half_length(&ty, coordinates(spots, Direction::Vertical));
     Node {
         letters,
         ax,

@@ -1,1 +1,1 @@
-pub mod Overlapping
+pub mod Reading

@@ -1,32 +1,31 @@
-// The boxes of a pair, and whether they overlap.
+// The two boxes of a pair.
+use geometry::Box;
 use model::Fix;
 use model::Mac;
 use model::Spot;
 ghost use mathlib.Core.Path.{_≡_};
-ghost use Prim.Native.Nat.{_+_};
-ghost use lib.Dec.{leb};
-ghost use Rattle.search_boxes.specs.Boxes.{overlaps, boxOf, secondOf};
+ghost use Rattle.geometry.specs.Box.{blankBox};
+ghost use Rattle.search_boxes.specs.Boxes.{macBox, secondOf};
+
+fn empty_box() -> Box
+    ensures { λ r. ⌜ r ≡ blankBox ⌝ }
+{
+    Box {
+        x: 0,
+        y: 0,
+        w: 0,
+        h: 0,
+    }
+}
 
 // Macro i at its corner, counted from 0; past the arrays an empty box.
-pub fn box_at(macs: [Mac; Mac::COUNT], spots: [Spot; Mac::COUNT], i: usize) -> Fix
-    ensures { λ r. ⌜ r ≡ boxOf macs spots i ⌝ }
+pub fn mac_box(macs: [Mac; Mac::COUNT], spots: [Spot; Mac::COUNT], i: usize) -> Box
+    ensures { λ r. ⌜ r ≡ macBox macs spots i ⌝ }
 {
     if Mac::COUNT <= i {
-        return Fix {
-            x: 0,
-            y: 0,
-            w: 0,
-            h: 0,
-        };
+        return empty_box();
     }
-    let m = macs[i];
-    let p = spots[i];
-    Fix {
-        x: p.x,
-        y: p.y,
-        w: m.w,
-        h: m.h,
-    }
+    geometry::box_at(macs[i], spots[i])
 }
 
 // The second of a pair: fix j, or macro j at its corner; past the arrays an empty box.
@@ -36,48 +35,14 @@ pub fn second_box(
     spots: [Spot; Mac::COUNT],
     fix: bool,
     j: usize,
-) -> Fix
+) -> Box
     ensures { λ r. ⌜ r ≡ secondOf macs fixes spots fix j ⌝ }
 {
     if fix {
         if j < Fix::COUNT {
-            return fixes[j];
+            return geometry::box_of(fixes[j]);
         }
-        return Fix {
-            x: 0,
-            y: 0,
-            w: 0,
-            h: 0,
-        };
+        return empty_box();
     }
-    box_at(macs, spots, j)
-}
-
-// Whether a + size is at most end, also where that sum is too large to be held.
-fn ends_by(a: u64, size: u64, end: u64) -> bool
-    ensures { λ r. ⌜ r ≡ leb (a + size) end ⌝ }
-{
-    if end < a {
-        return false;
-    }
-    size <= end - a
-}
-
-// Whether neither box is left of, right of, below or above the other.
-pub fn overlap(a: Fix, b: Fix) -> bool
-    ensures { λ r. ⌜ r ≡ overlaps a b ⌝ }
-{
-    if ends_by(a.x, a.w, b.x) {
-        return false;
-    }
-    if ends_by(b.x, b.w, a.x) {
-        return false;
-    }
-    if ends_by(a.y, a.h, b.y) {
-        return false;
-    }
-    if ends_by(b.y, b.h, a.y) {
-        return false;
-    }
-    true
+    mac_box(macs, spots, j)
 }

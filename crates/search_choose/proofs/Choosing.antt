@@ -16,7 +16,7 @@ use Rattle.model.specs.declared.Spot.{Spot}
 use Rattle.model.specs.declared.Chip.{Chip as HeldChip}
 use Rattle.model.specs.Meaning.{Chip, chipOf, firstOf, blankFix, blankMac, blankSpot}
 use Rattle.model.proofs.FirstOf.{first-take}
-use Rattle.placement.specs.Legal.{Box, apart}
+use Rattle.placement.specs.Legal.{apart}
 use Rattle.placement.specs.Letters.{Pair, pairs}
 use Rattle.slots.specs.Slots.{macFix, couplesOf}
 use Rattle.slots.proofs.Pairs.{pairOf, pairs-couples}
@@ -27,12 +27,7 @@ use Rattle.pairs.specs.Count.{letterTotal}
 use Rattle.pairs.proofs.Counts.{all-letters}
 use Rattle.pairs.proofs.Places.{AtPlace, place-first, place-on, place-next, place-couple, couple-taken}
 use Rattle.search_choose.specs.Choice.{noPair, apartAt, Chosen, PlaceOf, partsOf, Laid, LaidBy, ChosenOf}
-use Rattle.search_boxes.specs.Boxes.{overlaps, boxOf, secondOf}
-
--- two boxes overlap exactly when they are not apart
-pub overlaps-apart : (c : Chip) (a b : Box) → overlaps a b ≡ not (apart c a b)
-unfolding overlaps
-overlaps-apart c a b = refl
+use Rattle.search_boxes.specs.Boxes.{macBox, secondOf}
 
 module _ (macs : List Mac) (n : ℕ) (fixes : List Fix) (k : ℕ) (spots : List Spot) (p : ℕ) where
   abbrev ms : List Mac
@@ -103,12 +98,12 @@ module _ (macs : List Mac) (n : ℕ) (fixes : List Fix) (k : ℕ) (spots : List 
 
     -- the pair of place s
     abbrev taken : Pair
-    taken = record { first = boxOf macs spots (at .i); second = secondOf macs fixes spots (at .fix) (at .j) }
+    taken = record { first = macBox macs spots (at .i); second = secondOf macs fixes spots (at .fix) (at .j) }
 
     at-couple : pairOf ps (coupleAt macs fixes at) ≡ taken
     at-couple = by (at .fix) refl
       where
-        by : (f : Bool) → at .fix ≡ f → pairOf ps (pairAt macs fixes f (at .i) (at .j)) ≡ record { first = boxOf macs spots (at .i); second = secondOf macs fixes spots f (at .j) }
+        by : (f : Bool) → at .fix ≡ f → pairOf ps (pairAt macs fixes f (at .i) (at .j)) ≡ record { first = macBox macs spots (at .i); second = secondOf macs fixes spots f (at .j) }
         by false e = let q = on .macs e in rw (add-one (at .i), add-one (at .j), getD-take n spots (at .i) blankSpot (omega arith), getD-take n spots (at .j) blankSpot (omega arith))
         by true e = let q = on .fixes e in rw (add-one (at .i), getD-take n spots (at .i) blankSpot (omega arith))
 
@@ -119,9 +114,9 @@ module _ (macs : List Mac) (n : ℕ) (fixes : List Fix) (k : ℕ) (spots : List 
         ∙ ap (pairOf ps) (place-couple ms fs at s (w .place) here (macFix 0 blankMac blankFix) ∙ sym (couple-taken macs fixes n k at on))
         ∙ at-couple
 
-    module _ (v : ℕ) (ev : ltb 0 v ≡ overlaps (boxOf macs spots (at .i)) (secondOf macs fixes spots (at .fix) (at .j))) where
+    module _ (v : ℕ) (ev : ltb 0 v ≡ not (apart bare (taken .first) (taken .second))) where
       apart-not : not (apartHere s) ≡ ltb 0 v
-      apart-not = sym (ev ∙ overlaps-apart bare (taken .first) (taken .second) ∙ ap (λ (q : Pair). not (apart bare (q .first) (q .second))) (sym at-place))
+      apart-not = sym (ev ∙ ap (λ (q : Pair). not (apart bare (q .first) (q .second))) (sym at-place))
 
       scored-overlap : 0 < v → apartHere s ≡ false
       scored-overlap g = not-true (apartHere s) (apart-not ∙ lt-ltb 0 v g)

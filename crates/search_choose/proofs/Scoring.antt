@@ -1,6 +1,6 @@
 -- The score of a pair: how large it may become, and that it is above 0 where the two overlap.
 use Prim.Native.Nat.{ℕ, _+_, _*_, _≤_, _<_, min, max}
-use mathlib.Core.Path.{_≡_, sym, _∙_}
+use mathlib.Core.Path.{_≡_, _∙_}
 use mathlib.Core.Bool.{Bool, true, false, not}
 use mathlib.Core.List.{List}
 use native.Mathlib.Nat.{mul-le-mul}
@@ -8,13 +8,14 @@ use native.Mathlib.Omega.{arith}
 use mir.Syntax.{w64}
 use mir.Val.{Fits}
 use lib.Dec.{ltb}
-use borrow.Author.Tests.{lt-ltb, not-true, not-false}
+use borrow.Author.Tests.{lt-ltb}
 use Rattle.model.specs.declared.Fix.{Fix}
 use Rattle.model.specs.declared.Mac.{Mac}
 use Rattle.model.specs.declared.Spot.{Spot}
-use Rattle.placement.specs.Legal.{Box}
+use Rattle.geometry.specs.declared.Box.{Box}
+use Rattle.geometry.specs.Box.{apart}
 use Rattle.pairs.specs.declared.Cursor.{Cursor}
-use Rattle.search_boxes.specs.Boxes.{overlaps, boxOf, secondOf}
+use Rattle.search_boxes.specs.Boxes.{macBox, secondOf}
 
 -- ---- the score of a pair
 
@@ -55,9 +56,12 @@ lesser-small w v r s e = omega arith
 
 -- ---- the pair at hand
 
-module _ (macs : List Mac) (fixes : List Fix) (spots : List Spot) (at : Cursor) (a b : Box) (ea : a ≡ boxOf macs spots (at .i)) (eb : b ≡ secondOf macs fixes spots (at .fix) (at .j)) (r : Bool) (e : r ≡ overlaps a b) where
-  pub apart-scored : not r ≡ true → ltb 0 0 ≡ overlaps (boxOf macs spots (at .i)) (secondOf macs fixes spots (at .fix) (at .j))
-  apart-scored q = sym (sym e ∙ not-true r q) ∙ rw (ea, eb)
+module _ (macs : List Mac) (fixes : List Fix) (spots : List Spot) (at : Cursor) (a b : Box) (ea : a ≡ macBox macs spots (at .i)) (eb : b ≡ secondOf macs fixes spots (at .fix) (at .j)) (r : Bool) (e : r ≡ apart 0 a b) where
+  taken : r ≡ apart 0 (macBox macs spots (at .i)) (secondOf macs fixes spots (at .fix) (at .j))
+  taken = e ∙ rw (ea, eb)
 
-  pub overlap-scored : not r ≡ false → (v : ℕ) → 0 < v → ltb 0 v ≡ overlaps (boxOf macs spots (at .i)) (secondOf macs fixes spots (at .fix) (at .j))
-  overlap-scored q v h = lt-ltb 0 v h ∙ sym (sym e ∙ not-false r q) ∙ rw (ea, eb)
+  pub apart-scored : r ≡ true → ltb 0 0 ≡ not (apart 0 (macBox macs spots (at .i)) (secondOf macs fixes spots (at .fix) (at .j)))
+  apart-scored q = rw (← taken, q)
+
+  pub overlap-scored : r ≡ false → (v : ℕ) → 0 < v → ltb 0 v ≡ not (apart 0 (macBox macs spots (at .i)) (secondOf macs fixes spots (at .fix) (at .j)))
+  overlap-scored q v h = lt-ltb 0 v h ∙ rw (← taken, q)

@@ -8,6 +8,7 @@ use Rattle.model.specs.declared.Fix.{Fix}
 use Rattle.model.specs.declared.Mac.{Mac}
 use Rattle.model.specs.declared.Spot.{Spot}
 use Rattle.model.specs.Meaning.{Chip, firstOf, blankFix, blankMac}
+use Rattle.geometry.specs.Box.{blankBox}
 use Rattle.placement.specs.Legal.{apart}
 use Rattle.placement.specs.Letters.{Pair, pairs}
 use Rattle.slots.specs.Slots.{Couple, couplesOf}
@@ -16,7 +17,7 @@ use Rattle.pairs.specs.Order.{coupleAt, OnPair}
 use Rattle.pairs.specs.Count.{letterTotal}
 
 abbrev pub noPair : Pair
-noPair = record { first = blankFix; second = blankFix }
+noPair = record { first = blankBox; second = blankBox }
 
 -- the pair at place s is apart
 abbrev pub apartAt : Chip → List Pair → ℕ → Bool

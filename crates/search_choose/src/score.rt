@@ -2,18 +2,21 @@
 use crate::open::Open;
 use crate::open::open_letters;
 use crate::open::urgency;
+use geometry::Box;
+use geometry::apart;
 use kept::CELLS;
 use model::Fix;
 use model::Mac;
 use model::Spot;
 use pairs::Cursor;
-use search_boxes::box_at;
-use search_boxes::overlap;
+use search_boxes::mac_box;
 use search_boxes::second_box;
 ghost use mathlib.Core.Path.{_≡_};
 ghost use Prim.Native.Nat.{_≤_, _<_, min, max};
 ghost use lib.Dec.{ltb};
-ghost use Rattle.search_boxes.specs.Boxes.{overlaps, boxOf, secondOf};
+ghost use mathlib.Core.Bool.{not};
+ghost use Rattle.geometry.specs.Box.{apart as areApart};
+ghost use Rattle.search_boxes.specs.Boxes.{macBox, secondOf};
 
 // A distance counts up to this, and a letter that is not open is this far.
 const FAR: u64 = 2048;
@@ -65,7 +68,7 @@ fn way(open: bool, a: u64, side: u64, b: u64) -> u64
 }
 
 // How far a has to move to stand left of, right of, below or above b, in the two shortest ways.
-fn push(a: Fix, b: Fix, open: Open) -> u64
+fn push(a: Box, b: Box, open: Open) -> u64
     ensures { λ r. ⌜ r ≤ 4194304 ⌝ }
 {
     let left = way(open.left, a.x, a.w, b.x);
@@ -76,7 +79,7 @@ fn push(a: Fix, b: Fix, open: Open) -> u64
 }
 
 // First the urgency of two that overlap, then their score with a weight, then how early they are.
-fn score(a: Fix, b: Fix, open: Open, urgent: u64, weight: u64, early: u64) -> u64
+fn score(a: Box, b: Box, open: Open, urgent: u64, weight: u64, early: u64) -> u64
     requires { ⌜ (urgent ≤ 3) × (weight ≤ 32000) × (early ≤ 1023) ⌝ }
     ensures { λ r. ⌜ 0 < r ⌝ }
 {
@@ -115,14 +118,14 @@ pub(crate) fn pair_score(
     found: bool,
     at: Cursor,
 ) -> u64
-    ensures { λ r. ⌜ ltb 0 r ≡ overlaps (boxOf macs spots (at .i)) (secondOf macs fixes spots (at .fix) (at .j)) ⌝ }
+    ensures { λ r. ⌜ ltb 0 r ≡ not (areApart 0 (macBox macs spots (at .i)) (secondOf macs fixes spots (at .fix) (at .j))) ⌝ }
 {
     let fix = at.fix;
     let i = at.i;
     let j = at.j;
-    let a = box_at(macs, spots, i);
+    let a = mac_box(macs, spots, i);
     let b = second_box(macs, fixes, spots, fix, j);
-    if !overlap(a, b) {
+    if apart(a, b, 0) {
         return 0;
     }
     let open = open_letters(macs, fixes, kx, ky, at);

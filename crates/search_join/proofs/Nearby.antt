@@ -13,7 +13,8 @@ use Rattle.model.specs.declared.Spot.{Spot}
 use Rattle.model.specs.Meaning.{Chip, blankSpot}
 use Rattle.grammar.proofs.Lacks.{and-left, and-right}
 use Rattle.chip.specs.Valid.{Valid}
-use Rattle.placement.specs.Legal.{boxAt, boxes, inDie, allInDie, placesAll, within}
+use Rattle.geometry.specs.Box.{boxAt}
+use Rattle.placement.specs.Legal.{boxes, inDie, allInDie, placesAll, within}
 use Rattle.placement.specs.Length.{Near}
 
 module _ (c : Chip) where

@@ -12,7 +12,8 @@ use Rattle.model.specs.declared.Mac.{Mac}
 use Rattle.model.specs.declared.Spot.{Spot}
 use Rattle.model.specs.Meaning.{Chip}
 use Rattle.grammar.proofs.Lacks.{and-left, and-right}
-use Rattle.placement.specs.Legal.{boxAt, boxes, inDie, allInDie, placesAll, within}
+use Rattle.geometry.specs.Box.{boxAt}
+use Rattle.placement.specs.Legal.{boxes, inDie, allInDie, placesAll, within}
 use Rattle.placement.specs.Letters.{Letter, keeps, pairs, keepsAll, keepsLetters}
 use Rattle.placement.proofs.FitIs.{letters-long}
 use Rattle.bounds.specs.Axis.{KeepsSlot, Keeps, noSlot}

@@ -10,7 +10,8 @@ use Rattle.model.specs.declared.Fix.{Fix}
 use Rattle.model.specs.declared.Mac.{Mac}
 use Rattle.model.specs.declared.Spot.{Spot}
 use Rattle.model.specs.Meaning.{Chip, blankSpot}
-use Rattle.placement.specs.Legal.{boxAt, boxes}
+use Rattle.geometry.specs.Box.{boxAt, boxOf}
+use Rattle.placement.specs.Legal.{boxes}
 use Rattle.placement.specs.Length.{origin}
 use Rattle.placement.specs.Letters.{Letter, keeps, Pair, with, pairsOf, withEach, pairs}
 use Rattle.placement.specs.Letters as letter
@@ -24,7 +25,7 @@ use Rattle.slots.specs.Axes.{heldSlot, cornerOn, cornersOn}
 -- the boxes of a couple
 abbrev pub pairOf : List Spot → Couple → Pair
 pairOf ps (twoMacs i a j b) = record { first = boxAt a (origin ps i); second = boxAt b (origin ps j) }
-pairOf ps (macFix i a f) = record { first = boxAt a (origin ps i); second = f }
+pairOf ps (macFix i a f) = record { first = boxAt a (origin ps i); second = boxOf f }
 
 -- the placement ps from place i on is qs
 abbrev From : List Spot → ℕ → List Spot → Type 0
@@ -59,11 +60,11 @@ mac-pairs ps i (m ∷ ms) (q ∷ qs) h e =
     let w = with-couples ps (suc i) m (suc i) ms qs (from-next ps i q qs h) (omega arith) in
     rw (map-append (pairOf ps) (couplesWith (suc i) m (suc (suc i)) ms) (macCouples (suc (suc i)) ms), ← ih, ← w, from-first ps i q qs h)
 
-fix-with : (ps : List Spot) (i : ℕ) (a : Mac) (fs : List Fix) → with (boxAt a (origin ps i)) fs ≡ map (pairOf ps) (map (macFix i a) fs)
+fix-with : (ps : List Spot) (i : ℕ) (a : Mac) (fs : List Fix) → with (boxAt a (origin ps i)) (map boxOf fs) ≡ map (pairOf ps) (map (macFix i a) fs)
 fix-with ps i a [] = refl
 fix-with ps i a (f ∷ fs) = rw (fix-with ps i a fs)
 
-fix-pairs : (ps : List Spot) (i : ℕ) (ms : List Mac) (qs : List Spot) (fs : List Fix) → From ps i qs → length qs ≡ length ms → withEach (boxes ms qs) fs ≡ map (pairOf ps) (fixCouples (suc i) ms fs)
+fix-pairs : (ps : List Spot) (i : ℕ) (ms : List Mac) (qs : List Spot) (fs : List Fix) → From ps i qs → length qs ≡ length ms → withEach (boxes ms qs) (map boxOf fs) ≡ map (pairOf ps) (fixCouples (suc i) ms fs)
 unfolding boxes withEach fixCouples
 fix-pairs ps i [] qs fs h e = refl
 fix-pairs ps i (m ∷ ms) [] fs h e = absurd (omega arith)
@@ -108,14 +109,14 @@ module _ (c : Chip) (ps : List Spot) where
   asks-nothing d = record { le = omega arith }
 
   pub kept-slot : (d : Direction) (l : Letter) (q : Couple) → Kept l q → Slotted d l q
-  kept-slot horizontal letter.left (twoMacs i a j b) h = let p = leb-true (X i + a .w) (X j) h in to-slot horizontal i j (a .w) 0 (omega arith)
-  kept-slot horizontal letter.right (twoMacs i a j b) h = let p = leb-true (X j + b .w) (X i) h in to-slot horizontal j i (b .w) 0 (omega arith)
-  kept-slot vertical letter.low (twoMacs i a j b) h = let p = leb-true (Y i + a .h) (Y j) h in to-slot vertical i j (a .h) 0 (omega arith)
-  kept-slot vertical letter.high (twoMacs i a j b) h = let p = leb-true (Y j + b .h) (Y i) h in to-slot vertical j i (b .h) 0 (omega arith)
-  kept-slot horizontal letter.left (macFix i a f) h = let p = leb-true (X i + a .w) (f .x) h in to-slot horizontal i 0 (a .w) (f .x) (omega arith)
-  kept-slot horizontal letter.right (macFix i a f) h = let p = leb-true (f .x + f .w) (X i) h in to-slot horizontal 0 i (f .x + f .w) 0 (omega arith)
-  kept-slot vertical letter.low (macFix i a f) h = let p = leb-true (Y i + a .h) (f .y) h in to-slot vertical i 0 (a .h) (f .y) (omega arith)
-  kept-slot vertical letter.high (macFix i a f) h = let p = leb-true (f .y + f .h) (Y i) h in to-slot vertical 0 i (f .y + f .h) 0 (omega arith)
+  kept-slot horizontal letter.left (twoMacs i a j b) h = let p = leb-true (X i + a .w + 0) (X j) h in to-slot horizontal i j (a .w) 0 (omega arith)
+  kept-slot horizontal letter.right (twoMacs i a j b) h = let p = leb-true (X j + b .w + 0) (X i) h in to-slot horizontal j i (b .w) 0 (omega arith)
+  kept-slot vertical letter.low (twoMacs i a j b) h = let p = leb-true (Y i + a .h + 0) (Y j) h in to-slot vertical i j (a .h) 0 (omega arith)
+  kept-slot vertical letter.high (twoMacs i a j b) h = let p = leb-true (Y j + b .h + 0) (Y i) h in to-slot vertical j i (b .h) 0 (omega arith)
+  kept-slot horizontal letter.left (macFix i a f) h = let p = leb-true (X i + a .w + 0) (f .x) h in to-slot horizontal i 0 (a .w) (f .x) (omega arith)
+  kept-slot horizontal letter.right (macFix i a f) h = let p = leb-true (f .x + f .w + 0) (X i) h in to-slot horizontal 0 i (f .x + f .w) 0 (omega arith)
+  kept-slot vertical letter.low (macFix i a f) h = let p = leb-true (Y i + a .h + 0) (f .y) h in to-slot vertical i 0 (a .h) (f .y) (omega arith)
+  kept-slot vertical letter.high (macFix i a f) h = let p = leb-true (f .y + f .h + 0) (Y i) h in to-slot vertical 0 i (f .y + f .h) 0 (omega arith)
   kept-slot horizontal letter.low (twoMacs i a j b) h = asks-nothing horizontal
   kept-slot horizontal letter.low (macFix i a f) h = asks-nothing horizontal
   kept-slot horizontal letter.high (twoMacs i a j b) h = asks-nothing horizontal
@@ -130,13 +131,13 @@ module _ (c : Chip) (ps : List Spot) where
   kept-slot vertical letter.dot (macFix i a f) h = asks-nothing vertical
 
   pub slot-kept : (l : Letter) (q : Couple) → ((d : Direction) → Slotted d l q) → Kept l q
-  slot-kept letter.left (twoMacs i a j b) h = let p = of-slot horizontal i j (a .w) 0 (h horizontal) in le-leb (X i + a .w) (X j) (omega arith)
-  slot-kept letter.right (twoMacs i a j b) h = let p = of-slot horizontal j i (b .w) 0 (h horizontal) in le-leb (X j + b .w) (X i) (omega arith)
-  slot-kept letter.low (twoMacs i a j b) h = let p = of-slot vertical i j (a .h) 0 (h vertical) in le-leb (Y i + a .h) (Y j) (omega arith)
-  slot-kept letter.high (twoMacs i a j b) h = let p = of-slot vertical j i (b .h) 0 (h vertical) in le-leb (Y j + b .h) (Y i) (omega arith)
-  slot-kept letter.left (macFix i a f) h = let p = of-slot horizontal i 0 (a .w) (f .x) (h horizontal) in le-leb (X i + a .w) (f .x) (omega arith)
-  slot-kept letter.right (macFix i a f) h = let p = of-slot horizontal 0 i (f .x + f .w) 0 (h horizontal) in le-leb (f .x + f .w) (X i) (omega arith)
-  slot-kept letter.low (macFix i a f) h = let p = of-slot vertical i 0 (a .h) (f .y) (h vertical) in le-leb (Y i + a .h) (f .y) (omega arith)
-  slot-kept letter.high (macFix i a f) h = let p = of-slot vertical 0 i (f .y + f .h) 0 (h vertical) in le-leb (f .y + f .h) (Y i) (omega arith)
+  slot-kept letter.left (twoMacs i a j b) h = let p = of-slot horizontal i j (a .w) 0 (h horizontal) in le-leb (X i + a .w + 0) (X j) (omega arith)
+  slot-kept letter.right (twoMacs i a j b) h = let p = of-slot horizontal j i (b .w) 0 (h horizontal) in le-leb (X j + b .w + 0) (X i) (omega arith)
+  slot-kept letter.low (twoMacs i a j b) h = let p = of-slot vertical i j (a .h) 0 (h vertical) in le-leb (Y i + a .h + 0) (Y j) (omega arith)
+  slot-kept letter.high (twoMacs i a j b) h = let p = of-slot vertical j i (b .h) 0 (h vertical) in le-leb (Y j + b .h + 0) (Y i) (omega arith)
+  slot-kept letter.left (macFix i a f) h = let p = of-slot horizontal i 0 (a .w) (f .x) (h horizontal) in le-leb (X i + a .w + 0) (f .x) (omega arith)
+  slot-kept letter.right (macFix i a f) h = let p = of-slot horizontal 0 i (f .x + f .w) 0 (h horizontal) in le-leb (f .x + f .w + 0) (X i) (omega arith)
+  slot-kept letter.low (macFix i a f) h = let p = of-slot vertical i 0 (a .h) (f .y) (h vertical) in le-leb (Y i + a .h + 0) (f .y) (omega arith)
+  slot-kept letter.high (macFix i a f) h = let p = of-slot vertical 0 i (f .y + f .h) 0 (h vertical) in le-leb (f .y + f .h + 0) (Y i) (omega arith)
   slot-kept letter.dot (twoMacs i a j b) h = refl
   slot-kept letter.dot (macFix i a f) h = refl

@@ -1,19 +1,16 @@
-use Rattle.chip.proofs.Fixes.{and-fails, and-rest}
 use borrow.Author.Needs.{needs}
+use Rattle.chip.proofs.Fixes.{box-inside}
 use Rattle.chip.proofs.fix_in_die.Statement.{statement}
 use Rattle.chip.proofs.fix_in_die.Tie as tie
 
-ends-by-requires : tie.Need-ends-by-requires
-ends-by-requires c κs = search needs
+box-of-requires : tie.Need-box-of-requires
+box-of-requires c κs = search needs
+
+in-die-requires : tie.Need-in-die-requires
+in-die-requires c κs = search needs
 
 returns : tie.Need-returns
-returns c = search and-fails
-
-ends-by-requires-2 : tie.Need-ends-by-requires-2
-ends-by-requires-2 c κs = search needs
-
-returns-2 : tie.Need-returns-2
-returns-2 c = search and-rest
+returns c = search box-inside
 
 pub fix-in-die-spec : {M : Type 1} → statement M
-fix-in-die-spec = tie.close (tie.spec ends-by-requires returns ends-by-requires-2 returns-2)
+fix-in-die-spec = tie.close (tie.spec box-of-requires in-die-requires returns)

@@ -1,5 +1,5 @@
 use borrow.Author.Needs.{needs}
-use Rattle.half_test.proofs.Answers.{says-no}
+use Rattle.half_arrays.proofs.Answers.{says-no}
 use Rattle.half_test.proofs.Above.{shows-above}
 use Rattle.half_test.proofs.beyond.shows_beyond.Statement.{statement}
 use Rattle.half_test.proofs.beyond.shows_beyond.Tie as tie

@@ -6,9 +6,6 @@ use Rattle.half_test.proofs.proposal.test_fit.Tie as tie
 coordinates-of-requires : tie.Need-coordinates-of-requires
 coordinates-of-requires c κs = search needs
 
-values-of-requires : tie.Need-values-of-requires
-values-of-requires c κs = search needs
-
 keeps-bounds-requires : tie.Need-keeps-bounds-requires
 keeps-bounds-requires c κs = search needs
 
@@ -21,8 +18,8 @@ reasons-requires c κs = search needs
 returns-2 : tie.Need-returns-2
 returns-2 c = search needs
 
-length-at-requires : tie.Need-length-at-requires
-length-at-requires c κs = search needs
+half-length-requires : tie.Need-half-length-requires
+half-length-requires c κs = search needs
 
 worth-of-requires : tie.Need-worth-of-requires
 worth-of-requires c κs = search needs
@@ -44,12 +41,11 @@ test-fit-spec =
     tie.close
     (tie.spec
     coordinates-of-requires
-    values-of-requires
     keeps-bounds-requires
     returns
     reasons-requires
     returns-2
-    length-at-requires
+    half-length-requires
     worth-of-requires
     returns-3
     returns-4

@@ -3,14 +3,14 @@ use borrow.Author.Needs.{needs}
 use Rattle.search_choose.proofs.score.pair_score.Statement.{statement}
 use Rattle.search_choose.proofs.score.pair_score.Tie as tie
 
-box-at-requires : tie.Need-box-at-requires
-box-at-requires c κs = search needs
+mac-box-requires : tie.Need-mac-box-requires
+mac-box-requires c κs = search needs
 
 second-box-requires : tie.Need-second-box-requires
 second-box-requires c κs = search needs
 
-overlap-requires : tie.Need-overlap-requires
-overlap-requires c κs = search needs
+apart-requires : tie.Need-apart-requires
+apart-requires c κs = search needs
 
 returns : tie.Need-returns
 returns c = search apart-scored
@@ -37,9 +37,9 @@ pub pair-score-spec : {M : Type 1} → statement M
 pair-score-spec =
     tie.close
     (tie.spec
-    box-at-requires
+    mac-box-requires
     second-box-requires
-    overlap-requires
+    apart-requires
     returns
     open-letters-requires
     urgency-requires

@@ -1,0 +1,23 @@
+use Rattle.half_arrays.specs.Arrays.{netAt}
+use borrow.Author.Needs.{needs}
+use Rattle.half_arrays.proofs.net.Statement.{statement}
+use Rattle.half_arrays.proofs.net.Tie as tie
+
+add-result : tie.Need-add-result
+add-result c = search needs
+
+mul-result : tie.Need-mul-result
+mul-result c = search needs
+
+element-copy-out-result : tie.Need-element-copy-out-result
+element-copy-out-result c = search needs
+
+cast-result : tie.Need-cast-result
+cast-result c = search needs
+
+returns : tie.Need-returns
+unfolding netAt
+returns c = search needs
+
+pub net-spec : {M : Type 1} → statement M
+net-spec = tie.close (tie.spec add-result mul-result element-copy-out-result cast-result returns)

@@ -1,0 +1,3 @@
+pub mod Valuing
+pub mod Keeping
+pub mod Lengths
