@@ -1,20 +1,17 @@
--- The macros: the loop has written the lines of those before i.
-use borrow.Author.Needs.{needs}
 use Prim.Native.Nat.{_≤_, _-_}
-use lib.ListN.{take}
 use Rattle.decimal.specs.Held.{Wrote}
 use Rattle.decimal.proofs.Wrote.{wrote-length}
-use Rattle.model.specs.Meaning.{firstOf, blankSpot}
 use Rattle.grammar.specs.Words.{itemsText}
-use Rattle.line.specs.Held.{loweredAll}
-use Rattle.record.specs.Text.{atItems}
-use Rattle.linewriter.proofs.Items.{items-none}
-use Rattle.recordwriter.proofs.Printed.{spot-more, spots-all}
-use Rattle.recordwriter.proofs.put_spots.Statement.{statement}
-use Rattle.recordwriter.proofs.put_spots.Tie as tie
+use Rattle.linewriter.specs.Run.{run}
+use Rattle.linewriter.proofs.Items.{run-none}
+use Rattle.record.specs.Words.{recordWords}
+use Rattle.recordprinter.proofs.Printed.{spotItem, spot-more, spots-all}
+use borrow.Author.Needs.{needs}
+use Rattle.recordprinter.proofs.put_spots.Statement.{statement}
+use Rattle.recordprinter.proofs.put_spots.Tie as tie
 
 abbrev Inv-loop : tie.InvT-loop
-Inv-loop out₀ at spots n last a₀ i₀ out a i = (i ≤ last) × Wrote out₀ out (itemsText (atItems 1 (take i (firstOf blankSpot n spots)))) at a
+Inv-loop out₀ at spots n last a₀ i₀ out a i = (i ≤ last) × Wrote out₀ out (itemsText recordWords (run (spotItem spots) 0 i)) at a
 
 abbrev μ-loop : tie.MeasureT-loop
 μ-loop out₀ at spots n last a₀ i₀ out a i = last - i
@@ -23,8 +20,7 @@ shown-requires : tie.Need-shown-requires Inv-loop μ-loop
 shown-requires c κs = search needs
 
 loop-holds : tie.Need-loop-holds Inv-loop μ-loop
-unfolding atItems
-loop-holds c = (search needs, search (needs, items-none))
+loop-holds c = (search needs, search (needs, run-none recordWords))
 
 spot-at-requires : tie.Need-spot-at-requires Inv-loop μ-loop
 spot-at-requires c κs = search needs
@@ -32,8 +28,8 @@ spot-at-requires c κs = search needs
 add-m : tie.Need-add-m Inv-loop μ-loop
 add-m c = search needs
 
-put-line-requires : tie.Need-put-line-requires Inv-loop μ-loop
-put-line-requires c κs = search needs
+put-item-requires : tie.Need-put-item-requires Inv-loop μ-loop
+put-item-requires c κs = search needs
 
 add-i : tie.Need-add-i Inv-loop μ-loop
 add-i c = search needs
@@ -42,7 +38,6 @@ loop-less : tie.Need-loop-less Inv-loop μ-loop
 loop-less c = search needs
 
 loop-again : tie.Need-loop-again Inv-loop μ-loop
-unfolding loweredAll
 loop-again c = (search needs, search (needs, spot-more))
 
 same-length : tie.Need-same-length Inv-loop μ-loop
@@ -61,7 +56,7 @@ put-spots-spec =
     loop-holds
     spot-at-requires
     add-m
-    put-line-requires
+    put-item-requires
     add-i
     loop-less
     loop-again

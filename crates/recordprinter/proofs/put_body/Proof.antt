@@ -1,20 +1,19 @@
-use Rattle.line.specs.Held.{loweredAll}
-use Rattle.recordwriter.proofs.Printed.{none-written, least-written}
+use Rattle.recordprinter.proofs.Printed.{none-written, least-written}
 use borrow.Author.Needs.{needs}
-use Rattle.recordwriter.proofs.put_body.Statement.{statement}
-use Rattle.recordwriter.proofs.put_body.Tie as tie
+use Rattle.recordprinter.proofs.put_body.Statement.{statement}
+use Rattle.recordprinter.proofs.put_body.Tie as tie
 
 enum-told : tie.Need-enum-told
 enum-told c = search needs
 
-put-line-requires : tie.Need-put-line-requires
-put-line-requires c κs = search needs
+put-item-requires : tie.Need-put-item-requires
+put-item-requires c κs = search needs
 
 enum-known-outcome : tie.Need-enum-known-outcome
 enum-known-outcome c = search needs
 
-put-line-requires-2 : tie.Need-put-line-requires-2
-put-line-requires-2 c κs = search needs
+put-item-requires-2 : tie.Need-put-item-requires-2
+put-item-requires-2 c κs = search needs
 
 put-spots-requires : tie.Need-put-spots-requires
 put-spots-requires c κs = search needs
@@ -23,14 +22,12 @@ same-length : tie.Need-same-length
 same-length c = search needs
 
 returns : tie.Need-returns
-unfolding loweredAll
 returns c = search (needs, none-written)
 
 same-length-2 : tie.Need-same-length-2
 same-length-2 c = search needs
 
 returns-2 : tie.Need-returns-2
-unfolding loweredAll
 returns-2 c = search (needs, least-written)
 
 pub put-body-spec : {M : Type 1} → statement M
@@ -38,9 +35,9 @@ put-body-spec =
     tie.close
     (tie.spec
     enum-told
-    put-line-requires
+    put-item-requires
     enum-known-outcome
-    put-line-requires-2
+    put-item-requires-2
     put-spots-requires
     same-length
     returns

@@ -1,0 +1,26 @@
+use Rattle.linewriter.proofs.Items.{item-written}
+use Rattle.record.specs.Words.{recordWords}
+use Rattle.record_words.proofs.Words.{laying}
+use borrow.Author.Needs.{needs}
+use Rattle.recordprinter.proofs.put_item.Statement.{statement}
+use Rattle.recordprinter.proofs.put_item.Tie as tie
+
+spelling-of-requires : tie.Need-spelling-of-requires
+spelling-of-requires c κs = search needs
+
+layout-of-requires : tie.Need-layout-of-requires
+layout-of-requires c κs = search needs
+
+put-line-requires : tie.Need-put-line-requires
+put-line-requires c κs = search needs
+
+same-length : tie.Need-same-length
+same-length c = search needs
+
+returns : tie.Need-returns
+returns c = search (item-written recordWords laying)
+
+pub put-item-spec : {M : Type 1} → statement M
+put-item-spec =
+    tie.close
+    (tie.spec spelling-of-requires layout-of-requires put-line-requires same-length returns)
