@@ -305,7 +305,7 @@ pub fn fit_letters(c: Chip, letters: &[u8], flow: &mut [u16]) -> FitAnswer
     ensures { λ r. ⌜ r ≡ answerFor (fitLetters (chipOf c) (now (letters .entry)) (length (now (flow .entry)))) ⌝ }
     ensures { λ r. ⌜ Filled (chipOf c) (now (letters .entry)) (fitLetters (chipOf c) (now (letters .entry)) (length (now (flow .entry)))) (now (flow .entry)) (now (flow .exit)) ⌝ }
 {
-    let tested = chipwriter::test_chip(c);
+    let tested = chip_test::test_chip(c);
     match tested {
         Tested::Refused(f) => bare(FitOutcome::Refused(f)),
         Tested::Passed => fit_passed(c, letters, flow),

@@ -197,7 +197,7 @@ fn measure_passed(c: Chip, count: usize, spots: [Spot; Mac::COUNT]) -> MeasureAn
 pub fn measure_array(c: Chip, count: usize, spots: [Spot; Mac::COUNT]) -> MeasureAnswer
     ensures { λ r. ⌜ measuredAs r ≡ measurePositions (chipOf c) (firstOf blankSpot count spots) ⌝ }
 {
-    let tested = chipwriter::test_chip(c);
+    let tested = chip_test::test_chip(c);
     match tested {
         Tested::Refused(f) => MeasureAnswer::Refused(f),
         Tested::Passed => measure_passed(c, count, spots),

@@ -81,7 +81,7 @@ fn chip_record(c: Chip) -> Record
 pub fn search_chip(c: Chip, out: &mut [u8]) -> WriteAnswer
     ensures { λ r. ⌜ record { answer = answerOf r; buffer = now (out .exit) } ≡ searchChip (chipOf c) (now (out .entry)) ⌝ }
 {
-    let tested = chipwriter::test_chip(c);
+    let tested = chip_test::test_chip(c);
     match tested {
         Tested::Refused(f) => WriteAnswer::Refused(f),
         Tested::Passed => recordwriter::write_record(chip_record(c), out),

@@ -5,7 +5,7 @@ use Rattle.fit.proofs.fit_letters.Statement.{statement}
 use Rattle.fit.proofs.fit_letters.Tie as tie
 use Rattle.fit.proofs.fit_letters.Reads as reads
 use Rattle.fit.proofs.fit_letters.Lts as lts
-use Rattle.chipwriter.proofs.test_chip.Reads as test-chip-reads
+use Rattle.chip_test.proofs.test_chip.Reads as test-chip-reads
 use Rattle.fit.proofs.bare.Reads as bare-reads
 use Rattle.fit.proofs.fit_passed.Reads as fit-passed-reads
 

@@ -5,7 +5,7 @@ use Rattle.search.proofs.service.search_chip.Statement.{statement}
 use Rattle.search.proofs.service.search_chip.Tie as tie
 use Rattle.search.proofs.service.search_chip.Reads as reads
 use Rattle.search.proofs.service.search_chip.Lts as lts
-use Rattle.chipwriter.proofs.test_chip.Reads as test-chip-reads
+use Rattle.chip_test.proofs.test_chip.Reads as test-chip-reads
 use Rattle.recordwriter.proofs.write_record.Reads as write-record-reads
 use Rattle.search.proofs.service.chip_record.Reads as chip-record-reads
 
