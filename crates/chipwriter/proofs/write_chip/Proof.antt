@@ -1,4 +1,6 @@
-use Rattle.chipwriter.proofs.Writing.{test-refused, no-space, all-written}
+use Rattle.grammar.proofs.Fit.{test-refused, no-space, all-written}
+use Rattle.chip.specs.Text.{readChip}
+use Rattle.chip.proofs.ReadText.{accepted-short}
 use borrow.Author.Needs.{needs}
 use Rattle.chipwriter.proofs.write_chip.Statement.{statement}
 use Rattle.chipwriter.proofs.write_chip.Tie as tie
@@ -10,7 +12,7 @@ enum-known-tested : tie.Need-enum-known-tested
 enum-known-tested c = search needs
 
 returns : tie.Need-returns
-returns c = search test-refused
+returns c = search (needs, test-refused readChip 16384 accepted-short)
 
 enum-told : tie.Need-enum-told
 enum-told c = search needs
@@ -22,7 +24,7 @@ put-chip-requires : tie.Need-put-chip-requires
 put-chip-requires c κs = search needs
 
 returns-2 : tie.Need-returns-2
-returns-2 c = search no-space
+returns-2 c = search (needs, no-space readChip 16384 accepted-short)
 
 put-chip-requires-2 : tie.Need-put-chip-requires-2
 put-chip-requires-2 c κs = search needs
@@ -31,7 +33,7 @@ same-length : tie.Need-same-length
 same-length c = search needs
 
 returns-3 : tie.Need-returns-3
-returns-3 c = search all-written
+returns-3 c = search (needs, all-written readChip 16384 accepted-short)
 
 pub write-chip-spec : {M : Type 1} → statement M
 write-chip-spec =

@@ -1,5 +1,6 @@
-use Rattle.recordwriter.proofs.LinesRead.{passed-short}
-use Rattle.recordwriter.proofs.Answers.{not-passed, passed}
+use Rattle.grammar.proofs.Fit.{test-refused, no-space, all-written}
+use Rattle.record.specs.Text.{readRecord}
+use Rattle.record.proofs.ReadText.{accepted-short}
 use borrow.Author.Needs.{needs}
 use Rattle.recordwriter.proofs.write_record.Statement.{statement}
 use Rattle.recordwriter.proofs.write_record.Tie as tie
@@ -10,20 +11,29 @@ test-record-requires c κs = search needs
 enum-known-tested : tie.Need-enum-known-tested
 enum-known-tested c = search needs
 
+returns : tie.Need-returns
+returns c = search (needs, test-refused readRecord 16384 accepted-short)
+
 enum-told : tie.Need-enum-told
 enum-told c = search needs
 
-write-passed-requires : tie.Need-write-passed-requires
-write-passed-requires c κs = search (needs, passed-short)
+slice-aggregate-put-record : tie.Need-slice-aggregate-put-record
+slice-aggregate-put-record c = search needs
 
-returns : tie.Need-returns
-returns c = search (needs, not-passed)
+put-record-requires : tie.Need-put-record-requires
+put-record-requires c κs = search needs
+
+returns-2 : tie.Need-returns-2
+returns-2 c = search (needs, no-space readRecord 16384 accepted-short)
+
+put-record-requires-2 : tie.Need-put-record-requires-2
+put-record-requires-2 c κs = search needs
 
 same-length : tie.Need-same-length
 same-length c = search needs
 
-returns-2 : tie.Need-returns-2
-returns-2 c = search (needs, passed)
+returns-3 : tie.Need-returns-3
+returns-3 c = search (needs, all-written readRecord 16384 accepted-short)
 
 pub write-record-spec : {M : Type 1} → statement M
 write-record-spec =
@@ -31,8 +41,11 @@ write-record-spec =
     (tie.spec
     test-record-requires
     enum-known-tested
-    enum-told
-    write-passed-requires
     returns
+    enum-told
+    slice-aggregate-put-record
+    put-record-requires
+    returns-2
+    put-record-requires-2
     same-length
-    returns-2)
+    returns-3)

@@ -1,5 +1,5 @@
 -- Reading the text of a record: its length, then its lines.
-use mathlib.Core.Path.{_≡_, sym, ap, _∙_}
+use mathlib.Core.Path.{_≡_}
 use mathlib.Core.List.{List}
 use Prim.Native.Nat.{ℕ, _≤_, _<_}
 use native.Mathlib.Omega.{arith}
@@ -9,22 +9,21 @@ use Rattle.decimal.specs.Held.{Wrote}
 use Rattle.model.specs.declared.Outcome.the-variants as outcome
 use Rattle.model.specs.declared.Record.{Record as HeldRecord}
 use Rattle.model.specs.declared.Tested.{Tested}
-use Rattle.model.specs.declared.Tested.the-variants as tested
 use Rattle.model.specs.Meaning.{Record, none, least, firstOf, blankSpot, recordOf}
-use Rattle.grammar.specs.Words.{isIn}
+use Rattle.grammar.specs.Words.{same, isIn}
 use Rattle.grammar.specs.Reading.{accepted, refused, readText}
 use Rattle.grammar.specs.Writing.{testedAs}
-use Rattle.grammar.proofs.FieldsText.{ranges}
+use Rattle.grammar.proofs.FieldsText.{judged}
 use Rattle.grammar.proofs.Items.{itemStep, runItems}
 use Rattle.record.specs.Text.{recordItems, readRecord, recordText}
 use Rattle.record.proofs.ItemsRun.{lines-run}
-use Rattle.record.proofs.ReadText.{too-long as over-long, accepted-short}
-use Rattle.recordwriter.specs.Parts.{linesRead}
+use Rattle.record.proofs.ReadText.{too-long as over-long}
+use Rattle.record_test.specs.Parts.{linesRead}
 
 -- ---- the lines
 
 none-read : linesRead none ≡ accepted none
-unfolding linesRead recordItems runItems itemStep isIn ranges
+unfolding linesRead recordItems runItems itemStep isIn same judged
 none-read = rw (lines-run none)
 
 module _ (x : HeldRecord) where
@@ -45,6 +44,3 @@ module _ (x : Record) (b a : List ℕ) (n : ℕ) (w : Wrote b a (recordText x) 0
   pub not-long : n ≤ 16384 → (t : Tested) → testedAs x t ≡ linesRead x → testedAs x t ≡ readRecord (recordText x)
   unfolding readRecord readText linesRead
   not-long h t e = rw (le-leb (length (recordText x)) 16384 (omega (arith, w .place))) e
-
-pub passed-short : (x : Record) (t : Tested) → t ≡ tested.Passed → testedAs x t ≡ readRecord (recordText x) → length (recordText x) ≤ 16384
-passed-short x t q e = accepted-short (recordText x) x (sym e ∙ ap (testedAs x) q)

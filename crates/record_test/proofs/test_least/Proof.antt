@@ -1,9 +1,9 @@
 -- The macros: those before i have passed, and are at most 8.
 use borrow.Author.Needs.{needs}
 use Prim.Native.Nat.{_≤_, _-_}
-use Rattle.recordwriter.proofs.SpotsRead.{LeftFrom, length-over, length-passed, spot-refused, spot-passed, all-passed, one-more}
-use Rattle.recordwriter.proofs.test_least.Statement.{statement}
-use Rattle.recordwriter.proofs.test_least.Tie as tie
+use Rattle.record_test.proofs.SpotsRead.{LeftFrom, length-over, length-passed, spot-refused, spot-passed, all-passed, one-more}
+use Rattle.record_test.proofs.test_least.Statement.{statement}
+use Rattle.record_test.proofs.test_least.Tie as tie
 
 abbrev Inv-loop : tie.InvT-loop
 Inv-loop wl n spots i₀ i = (i ≤ 8) × (i ≤ n) × LeftFrom wl n spots i

@@ -13,33 +13,34 @@ use lib.ListN.{length, getD, take, drop, drop-of-length-le}
 use lib.Seq.{take-suc, drop-cons, length-take-le}
 use borrow.Author.Tests.{lt-ltb, le-ltb, le-leb, lt-leb, eq-eqb}
 use Rattle.model.specs.declared.Spot.{Spot}
-use Rattle.model.specs.declared.Word.{Word}
-use Rattle.model.specs.declared.Word.the-variants as word
 use Rattle.model.specs.Meaning.{Record, least, firstOf, blankSpot}
 use Rattle.model.proofs.FirstOf.{first-take}
-use Rattle.grammar.specs.Line.{got, ranged}
-use Rattle.grammar.specs.Words.{isIn}
-use Rattle.grammar.specs.Reading.{Step, next, fault, Reading, accepted, refused, stepFields, onward}
-use Rattle.grammar.proofs.FieldsText.{ranges}
+use Rattle.grammar.specs.Line.{got, ranged, valued}
+use Rattle.grammar.specs.Words.{same, isIn}
+use Rattle.grammar.specs.Reading.{Step, next, fault, Reading, accepted, refused, Last, after, stepFields, onward}
+use Rattle.grammar.proofs.FieldsText.{judged}
 use Rattle.grammar.proofs.Items.{itemStep, runItems}
 use Rattle.grammar.specs.Steps.{need}
+use Rattle.record.specs.declared.RecordWord.{RecordWord}
+use Rattle.record.specs.declared.RecordWord.the-variants as word
+use Rattle.record.specs.Words.{recordWords}
 use Rattle.record.specs.Kind.{Part, followers, recordKind}
 use Rattle.record.specs.Text.{doneItem, atItem, atItems, recordItems, recordRead}
 use Rattle.record.proofs.ItemsRun.{lines-run}
-use Rattle.recordwriter.specs.Parts.{inCorners, spotFault, linesRead}
+use Rattle.record_test.specs.Parts.{inCorners, spotFault, linesRead}
 
 -- the word of the line before macro i + 1
-abbrev lastOf : ℕ → Word
-lastOf zero = word.Least
-lastOf (suc i) = word.At
+abbrev lastOf : ℕ → Last RecordWord
+lastOf zero = after word.Least
+lastOf (suc i) = after word.At
 
-at-follows : (i : ℕ) → isIn word.At (followers (lastOf i)) ≡ true
-unfolding isIn
+at-follows : (i : ℕ) → isIn recordWords word.At (followers (lastOf i)) ≡ true
+unfolding isIn same
 at-follows zero = refl
 at-follows (suc i) = refl
 
-done-follows : (i : ℕ) → isIn word.Done (followers (lastOf i)) ≡ true
-unfolding isIn
+done-follows : (i : ℕ) → isIn recordWords word.Done (followers (lastOf i)) ≡ true
+unfolding isIn same
 done-follows zero = refl
 done-follows (suc i) = refl
 
@@ -60,16 +61,16 @@ module _ (wl i : ℕ) (ps : List Spot) (p : Spot) (l : length ps ≡ i) where
   abbrev before : Part
   before = record { last = lastOf i; result = least wl ps }
 
-  abbrev after : Part
-  after = record { last = word.At; result = least wl (ps ++ (p ∷ [])) }
+  abbrev next-part : Part
+  next-part = record { last = after word.At; result = least wl (ps ++ (p ∷ [])) }
 
-  spot-step : i < 8 → itemStep recordKind before (atItem (suc i) p) ≡ stepBy (spotTests p) after
-  unfolding itemStep ranges
+  spot-step : i < 8 → itemStep recordKind before (atItem (suc i) p) ≡ stepBy (spotTests p) next-part
+  unfolding itemStep judged
   spot-step h =
       rw (at-follows i, l, lt-ltb i 8 h, le-leb 1 (suc i) (omega arith), le-leb 0 (p .x) (omega arith), le-leb 0 (p .y) (omega arith))
       (by (leb (p .x) 1024) (leb (p .y) 1024))
     where
-      by : (x y : Bool) → stepFields recordKind before word.At (ranged true (pos (suc i)) (ranged x (pos (p .x)) (ranged y (pos (p .y)) (got [])))) ≡ stepBy (need (x && y) 4 0) after
+      by : (x y : Bool) → stepFields recordKind before word.At (valued (ranged true (pos (suc i))) (valued (ranged x (pos (p .x))) (valued (ranged y (pos (p .y))) (got [])))) ≡ stepBy (need (x && y) 4 0) next-part
       by true true = rw (l, eq-eqb (suc i) (suc i) refl)
       by true false = refl
       by false y = refl
@@ -84,7 +85,7 @@ module _ (wl : ℕ) (s : List Spot) where
   readFrom i n = recordRead (runItems recordKind (record { last = lastOf i; result = least wl (take i s) }) (suc (suc i)) (atItems (suc i) (firstOf blankSpot n (drop i s)) ++ (doneItem ∷ [])))
 
   read-end : (i : ℕ) → readFrom i 0 ≡ accepted (least wl (take i s))
-  unfolding readFrom atItems firstOf runItems itemStep ranges
+  unfolding readFrom atItems firstOf runItems itemStep same judged
   read-end i = rw (done-follows i)
 
   module _ (l : length s ≡ 8) (i n : ℕ) where
@@ -114,11 +115,11 @@ module _ (wl n : ℕ) (s : List Spot) where
   LeftFrom i = linesRead (recordAt wl n s) ≡ readFrom wl s i (n - i)
 
   pub length-over : 589824000 < wl → refused 4 1 ≡ linesRead (recordAt wl n s)
-  unfolding linesRead recordItems runItems itemStep isIn ranges
+  unfolding linesRead recordItems runItems itemStep isIn same judged
   length-over h = rw (lines-run (recordAt wl n s), lt-leb wl 589824000 h, le-leb 0 wl (omega arith))
 
   pub length-passed : wl ≤ 589824000 → LeftFrom 0
-  unfolding linesRead recordItems runItems itemStep isIn ranges readFrom
+  unfolding linesRead recordItems runItems itemStep isIn same judged readFrom
   length-passed h = rw (lines-run (recordAt wl n s), le-leb wl 589824000 h, le-leb 0 wl (omega arith), sub-zero)
 
   module _ (l : length s ≡ 8) (i : ℕ) (h : i ≤ 8) (left : LeftFrom i) where

@@ -1,7 +1,7 @@
-use Rattle.recordwriter.proofs.LinesRead.{too-long, not-long}
+use Rattle.record_test.proofs.LinesRead.{too-long, not-long}
 use borrow.Author.Needs.{needs}
-use Rattle.recordwriter.proofs.test_record.Statement.{statement}
-use Rattle.recordwriter.proofs.test_record.Tie as tie
+use Rattle.record_test.proofs.test_record.Statement.{statement}
+use Rattle.record_test.proofs.test_record.Tie as tie
 
 slice-aggregate-put-record : tie.Need-slice-aggregate-put-record
 slice-aggregate-put-record c = search needs

@@ -1,5 +1,3 @@
 pub mod Faults
 pub mod SpotsRead
 pub mod LinesRead
-pub mod Printed
-pub mod Answers

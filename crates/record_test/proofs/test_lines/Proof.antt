@@ -1,7 +1,7 @@
-use Rattle.recordwriter.proofs.LinesRead.{none-passed, least-tested}
+use Rattle.record_test.proofs.LinesRead.{none-passed, least-tested}
 use borrow.Author.Needs.{needs}
-use Rattle.recordwriter.proofs.test_lines.Statement.{statement}
-use Rattle.recordwriter.proofs.test_lines.Tie as tie
+use Rattle.record_test.proofs.test_lines.Statement.{statement}
+use Rattle.record_test.proofs.test_lines.Tie as tie
 
 enum-told : tie.Need-enum-told
 enum-told c = search needs
