@@ -8,8 +8,9 @@ use Rattle.model.specs.declared.Refusal.{Refusal}
 use Rattle.model.specs.declared.Tested.{Tested}
 use Rattle.model.specs.declared.Tested.the-variants as tested
 use Rattle.model.specs.declared.Chip.{Chip as HeldChip}
-use Rattle.chip_items.specs.declared.Row.the-variants as row
-use Rattle.chip_items.specs.Tests.{dieFault, rowFault, rowTested, netsTested, itemsTested}
+use Rattle.chip_faults.specs.declared.Row.the-variants as row
+use Rattle.chip_faults.specs.Faults.{dieFault, rowFault}
+use Rattle.chip_items.specs.Tests.{rowTested, netsTested, itemsTested}
 use Rattle.chip_items.proofs.Tests.{refused-at, within-count}
 
 module _ (c : HeldChip) where

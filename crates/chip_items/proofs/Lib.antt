@@ -1,4 +1,3 @@
-pub mod Needs
 pub mod Tests
 pub mod NetTests
 pub mod ItemsTests

@@ -15,8 +15,9 @@ use Rattle.model.specs.declared.Tested.the-variants as tested
 use Rattle.model.specs.declared.Chip.{Chip as HeldChip}
 use Rattle.model.specs.Meaning.{blankNet}
 use Rattle.grammar.specs.Steps.{need}
-use Rattle.chip_items.specs.declared.Row.the-variants as row
-use Rattle.chip_items.specs.Tests.{bareBefore, netFault, rowFault, onFault, thenTested, rowTested, netTested, netsTested}
+use Rattle.chip_faults.specs.declared.Row.the-variants as row
+use Rattle.chip_faults.specs.Faults.{bareBefore, netFault, rowFault}
+use Rattle.chip_items.specs.Tests.{onFault, thenTested, rowTested, netTested, netsTested}
 use Rattle.chip_items.proofs.Tests.{refused-at, passed-fault, in-count, one-more, within-count}
 
 module _ (c : HeldChip) (line q j : ℕ) where

@@ -11,9 +11,10 @@ use Rattle.model.specs.declared.Chip.{Chip as HeldChip}
 use Rattle.model.specs.declared.Tested.{Tested}
 use Rattle.model.specs.declared.Tested.the-variants as tested
 use Rattle.grammar.specs.Steps.{need}
-use Rattle.chip_items.specs.declared.Row.{Row}
-use Rattle.chip_items.specs.declared.Row.the-variants as row
-use Rattle.chip_items.specs.Tests.{rowFault, onFault, tests}
+use Rattle.chip_faults.specs.declared.Row.{Row}
+use Rattle.chip_faults.specs.declared.Row.the-variants as row
+use Rattle.chip_faults.specs.Faults.{rowFault}
+use Rattle.chip_items.specs.Tests.{onFault, tests}
 
 pub refused-at : (a line : ℕ) (more : Tested) → (a ≡ 0 → ⊥) → tested.Refused (record { no = a; line = line }) ≡ onFault a line more
 refused-at zero line more h = absurd (h refl)

@@ -22,8 +22,9 @@ use Rattle.grammar.proofs.Items.{runItems}
 use Rattle.chip.specs.Kind.{Part, start, chipKind}
 use Rattle.chip.specs.Text.{Item, dieItem, fixItem, macItem, pinItem, endItem, netItems, chipItems}
 use Rattle.chipprinter.specs.Items.{weightItem, ArraysOf}
-use Rattle.chip_items.specs.declared.Row.the-variants as row
-use Rattle.chip_items.specs.Tests.{netFault, rowFault, rowTested, netsTested, itemsTested}
+use Rattle.chip_faults.specs.declared.Row.the-variants as row
+use Rattle.chip_faults.specs.Faults.{netFault, rowFault}
+use Rattle.chip_items.specs.Tests.{rowTested, netsTested, itemsTested}
 use Rattle.chip_test.proofs.Runs.{Run, passes, refuses, run-none, run-item, run-then, too-many, run-many}
 use Rattle.chip_test.proofs.Parts.{Fixes, Macs, Nets, Pins, Ended, die-steps, fix-steps, macs-next, mac-steps, nets-next, net-steps, pin-steps, end-steps, net-next}
 

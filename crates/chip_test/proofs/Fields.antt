@@ -16,7 +16,7 @@ use Rattle.grammar.proofs.FieldsText.{judged}
 use Rattle.chip.specs.Words.{form}
 use Rattle.chip.specs.Text.{Item, dieItem, fixItem, macItem, pinItem, endItem}
 use Rattle.chipprinter.specs.Items.{weightItem}
-use Rattle.chip_items.specs.Tests.{isMade, fixMade, macMade, netMade}
+use Rattle.chip_faults.specs.Faults.{isMade, fixMade, macMade, netMade}
 
 -- all values of a line, or the fault of a range
 abbrev pub within : Bool → List Value → Fields

@@ -7,7 +7,7 @@ die-fault-requires : tie.Need-die-fault-requires
 die-fault-requires c κs = search needs
 
 returns : tie.Need-returns
-returns c = search (needs, die-refused)
+returns c = search die-refused
 
 test-row-requires : tie.Need-test-row-requires
 test-row-requires c κs = search needs
@@ -19,7 +19,7 @@ enum-told-2 : tie.Need-enum-told-2
 enum-told-2 c = search needs
 
 returns-2 : tie.Need-returns-2
-returns-2 c = search (needs, fixes-refused)
+returns-2 c = search fixes-refused
 
 add-test-row : tie.Need-add-test-row
 add-test-row c = search macs-line-fits
@@ -34,7 +34,7 @@ enum-told-4 : tie.Need-enum-told-4
 enum-told-4 c = search needs
 
 returns-3 : tie.Need-returns-3
-returns-3 c = search (needs, macs-refused)
+returns-3 c = search macs-refused
 
 add-test-nets : tie.Need-add-test-nets
 add-test-nets c = search macs-line-fits
@@ -46,7 +46,7 @@ test-nets-requires : tie.Need-test-nets-requires
 test-nets-requires c κs = search nets-line
 
 returns-4 : tie.Need-returns-4
-returns-4 c = search (needs, nets-answer)
+returns-4 c = search nets-answer
 
 pub test-items-spec : {M : Type 1} → statement M
 test-items-spec =

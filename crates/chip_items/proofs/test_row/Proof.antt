@@ -1,6 +1,6 @@
 use Rattle.chip_items.proofs.Tests.{LeftFrom, none-tested, item-refused, item-passed, all-tested, row-more}
 use Prim.Native.Nat.{_+_, _-_, _≤_}
-use Rattle.chip_items.specs.Tests.{rowFault}
+use Rattle.chip_faults.specs.Faults.{rowFault}
 use borrow.Author.Needs.{needs}
 use Rattle.chip_items.proofs.test_row.Statement.{statement}
 use Rattle.chip_items.proofs.test_row.Tie as tie

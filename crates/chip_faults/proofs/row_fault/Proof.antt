@@ -1,7 +1,7 @@
-use Rattle.chip_items.proofs.Needs.{row-as}
+use Rattle.chip_faults.proofs.Needs.{row-as}
 use borrow.Author.Needs.{needs}
-use Rattle.chip_items.proofs.row_fault.Statement.{statement}
-use Rattle.chip_items.proofs.row_fault.Tie as tie
+use Rattle.chip_faults.proofs.row_fault.Statement.{statement}
+use Rattle.chip_faults.proofs.row_fault.Tie as tie
 
 enum-told : tie.Need-enum-told
 enum-told c = search needs

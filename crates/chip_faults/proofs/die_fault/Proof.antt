@@ -1,8 +1,8 @@
-use Rattle.chip_items.proofs.Needs.{made-fails, made-rest}
+use Rattle.chip_faults.proofs.Needs.{made-fails, made-rest}
 use Rattle.model.specs.Made.{meantDie}
 use borrow.Author.Needs.{needs}
-use Rattle.chip_items.proofs.die_fault.Statement.{statement}
-use Rattle.chip_items.proofs.die_fault.Tie as tie
+use Rattle.chip_faults.proofs.die_fault.Statement.{statement}
+use Rattle.chip_faults.proofs.die_fault.Tie as tie
 
 new-requires : tie.Need-new-requires
 new-requires c κs = search needs

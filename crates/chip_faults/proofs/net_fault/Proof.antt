@@ -1,8 +1,8 @@
-use Rattle.chip_items.proofs.Needs.{made-fails, made-rest, no-room, room-rest, bare-fails, bare-rest}
+use Rattle.chip_faults.proofs.Needs.{made-fails, made-rest, no-room, room-rest, bare-fails, bare-rest}
 use Rattle.model.specs.Made.{meantNet}
 use borrow.Author.Needs.{needs}
-use Rattle.chip_items.proofs.net_fault.Statement.{statement}
-use Rattle.chip_items.proofs.net_fault.Tie as tie
+use Rattle.chip_faults.proofs.net_fault.Statement.{statement}
+use Rattle.chip_faults.proofs.net_fault.Tie as tie
 
 returns : tie.Need-returns
 returns c = search no-room

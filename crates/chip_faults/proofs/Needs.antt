@@ -5,15 +5,15 @@ use mathlib.Core.List.{List}
 use Prim.Native.Nat.{ℕ, zero, suc, _-_, _≤_, _<_}
 use native.Mathlib.Omega.{arith}
 use lib.Dec.{leb, ltb, eqb}
-use lib.ListN.{getD}
+use lib.ListN.{length, getD, List·getD-eq-default}
 use borrow.Author.Tests.{le-leb, lt-leb, lt-ltb, le-ltb, not-true, not-false}
 use Rattle.model.specs.declared.Net.{Net as HeldNet}
 use Rattle.model.specs.declared.Chip.{Chip as HeldChip}
 use Rattle.model.specs.Meaning.{blankNet}
 use Rattle.model.specs.Made.{Made}
 use Rattle.grammar.specs.Steps.{need}
-use Rattle.chip_items.specs.declared.Row.{Row}
-use Rattle.chip_items.specs.Tests.{isMade, bareBefore, rowFault}
+use Rattle.chip_faults.specs.declared.Row.{Row}
+use Rattle.chip_faults.specs.Faults.{isMade, bareBefore, rowFault}
 
 -- a constructor answers s, which means a thing or none
 module _ {R A : Type 0} (meant : R → Made A) (no more : ℕ) (m : Made A) (r s : R) (e : meant r ≡ m) (q : r ≡ s) where
@@ -60,3 +60,7 @@ net-before ts (suc j) h = let e : suc j - 1 ≡ j = omega arith in rw e
 -- the fault of an item of a known list
 pub row-as : (c : HeldChip) (w v : Row) (i r : ℕ) → w ≡ v → r ≡ rowFault c v i → r ≡ rowFault c w i
 row-as c w v i r e f = rw e f
+
+pub bare-past : (ts : List HeldNet) (j : ℕ) → length ts ≡ 32 → 32 < j → true ≡ bareBefore ts j
+bare-past ts zero l h = absurd (omega arith)
+bare-past ts (suc j) l h = rw (List·getD-eq-default ts blankNet {n = j} (omega arith))
