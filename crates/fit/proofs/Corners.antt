@@ -11,13 +11,12 @@ use Rattle.model.specs.Meaning.{blankSpot}
 use Rattle.slots.specs.declared.Direction.the-variants.{Horizontal as horizontal, Vertical as vertical}
 use Rattle.slots.specs.Axes.{cornersOn}
 use Rattle.measure.specs.Measuring.{inRange}
-use Rattle.fit.specs.Lists.{spotsOf}
+use Rattle.fit_lists.specs.Lists.{spotsOf}
 
-pub spots-length : (xs ys : List ℕ) → length xs ≡ length ys → length (spotsOf xs ys) ≡ length xs
-unfolding spotsOf
-spots-length [] ys e = refl
-spots-length (x ∷ xs) [] e = absurd (omega arith)
-spots-length (x ∷ xs) (y ∷ ys) e = let h = spots-length xs ys (omega arith) in omega arith
+pub past : (f : List ℕ) (s : ℕ) → length f ≤ s → getD f s 0 ≡ 0
+past [] s l = refl
+past (x ∷ f) zero l = absurd (omega arith)
+past (x ∷ f) (suc s) l = past f s (omega arith)
 
 pub take-spots : (n : ℕ) (xs ys : List ℕ) → take n (spotsOf xs ys) ≡ spotsOf (take n xs) (take n ys)
 unfolding spotsOf

@@ -1,10 +1,7 @@
-pub mod Copies
-pub mod Pairing
-pub mod MadeAxes
-pub mod Leaves
-pub mod Listing
 pub mod Corners
-pub mod Fits
-pub mod Directions
-pub mod Entering
+pub mod Listing
+pub mod Asked
+pub mod Placing
+pub mod Filling
+pub mod Answering
 pub mod Outcomes

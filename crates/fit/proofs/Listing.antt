@@ -9,15 +9,11 @@ use lib.Seq.{sets, sets-eq, length-sets, length-take-le, take-all, take-at, drop
 use Rattle.slots.specs.Slots.{Slot}
 use Rattle.slots.proofs.Flowing.{Agrees}
 use Rattle.slots.specs.Fit.{Kept}
-use Rattle.fit.specs.Lists.{bothLists}
+use Rattle.fit.proofs.Corners.{past}
 
-pub past : (f : List ℕ) (s : ℕ) → length f ≤ s → getD f s 0 ≡ 0
-past [] s l = refl
-past (x ∷ f) zero l = absurd (omega arith)
-past (x ∷ f) (suc s) l = past f s (omega arith)
-
-pub both-put : (m : ℕ) (fx fy entry mid exit : List ℕ) → mid ≡ sets entry 0 (take m fx) → exit ≡ sets mid m (take m fy) → exit ≡ bothLists m fx fy entry
-both-put m fx fy entry mid exit e f = f ∙ ap (λ (u : List ℕ). sets u m (take m fy)) e
+-- the first m amounts of both directions, one after the other
+abbrev pub putBoth : ℕ → List ℕ → List ℕ → List ℕ → List ℕ
+putBoth m fx fy list = sets (sets list 0 (take m fx)) m (take m fy)
 
 module _ (m : ℕ) (fx fy entry : List ℕ) (hx : m ≤ length fx) (hy : m ≤ length fy) (room : m + m ≤ length entry) where
   abbrev A : List ℕ
@@ -38,7 +34,7 @@ module _ (m : ℕ) (fx fy entry : List ℕ) (hx : m ≤ length fx) (hy : m ≤ l
   long-first : length (A ++ drop m entry) ≡ length entry
   long-first = ap {B = ℕ} (λ (u : List ℕ). length u) (sym first) ∙ length-sets entry 0 A
 
-  both-parts : bothLists m fx fy entry ≡ (A ++ B) ++ drop (m + m) entry
+  both-parts : putBoth m fx fy entry ≡ (A ++ B) ++ drop (m + m) entry
   both-parts =
       let e = lA in let f = lB in let q : m + length B ≡ length A + m = omega arith in
       ap (λ (u : List ℕ). sets u m B) first
@@ -47,7 +43,7 @@ module _ (m : ℕ) (fx fy entry : List ℕ) (hx : m ≤ length fx) (hy : m ≤ l
       ∙ ap (λ (u : List ℕ). (A ++ B) ++ u) (ap (λ (k : ℕ). drop k (A ++ drop m entry)) q ∙ drop-append-add A (drop m entry) m ∙ drop-drop m m entry)
 
   abbrev exit : List ℕ
-  exit = bothLists m fx fy entry
+  exit = putBoth m fx fy entry
 
   long-both : length (A ++ B) ≡ m + m
   long-both = let e = length-append A B in let a = lA in let b = lB in omega arith

@@ -1,9 +1,9 @@
 -- The fit of a chip text: what is refused before it, and what the two lent lists hold, in the form of the needs.
-use Prim.Native.Nat.{ℕ, _+_, _*_, _≤_, _<_}
+use Prim.Native.Nat.{ℕ, zero, suc, _+_, _*_, _≤_, _<_}
 use mathlib.Core.Path.{_≡_, refl, sym, ap, subst, _∙_}
 use mathlib.Core.Bool.{Bool, true, false}
 use Prim.{Unit, tt}
-use mathlib.Core.List.{List}
+use mathlib.Core.List.{List, [], _∷_, _++_}
 use native.Mathlib.Omega.{arith}
 use lib.Dec.{eqb, leb}
 use lib.ListN.{length, take}
@@ -12,11 +12,13 @@ use Rattle.model.specs.declared.Chip.{Chip as HeldChip}
 use Rattle.model.specs.declared.Refusal.{Refusal}
 use Rattle.model.specs.declared.Spot.{Spot}
 use Rattle.model.specs.Meaning.{Chip, chipOf}
+use Rattle.refusals.specs.Tests.{Test, test, firstFailed, unlessFailed}
+use Rattle.refusals.proofs.FirstFailed.{passes-last}
 use Rattle.grammar.specs.Reading.{Reading, accepted, refused}
 use Rattle.chip.specs.Text.{readChip}
 use Rattle.chip.specs.Passed.{Passed}
 use Rattle.placement.specs.Least.{Best, nothing, found, fitOf}
-use Rattle.slots.specs.Fit.{Fit, refusedBy, noFit, placed, areLetters, lettersOf, letterCount, slotCount, demanded, bestFit, fitChip, fitLetters, Filled}
+use Rattle.slots.specs.Fit.{Fit, refusedBy, noFit, placed, areLetters, lettersOf, letterCount, slotCount, bestFit, fitTests, fitChip, fitLetters, Filled}
 use Rattle.branches.proofs.Betters.{Sized}
 use Rattle.branches.proofs.Closing.{fit-sized}
 use Rattle.fit.specs.declared.Fitted.{Fitted}
@@ -43,9 +45,9 @@ SizedFit n noFit = Unit {0}
 SizedFit n (placed wl slots ps) = length ps ≡ n
 
 module _ (n : ℕ) where
-  sized-demanded : (b : Bool) (number : ℕ) (f : Fit) → SizedFit n f → SizedFit n (demanded b number f)
-  sized-demanded true number f h = h
-  sized-demanded false number f h = tt
+  sized-unless : (number : ℕ) (f : Fit) → SizedFit n f → SizedFit n (unlessFailed refusedBy number f)
+  sized-unless zero f h = h
+  sized-unless (suc number) f h = tt
 
   sized-best : (slots : ℕ) (b : Best) → Sized n b → SizedFit n (bestFit slots b)
   sized-best slots nothing h = tt
@@ -58,14 +60,11 @@ module _ (c : HeldChip) (ok : Passed c) (s : List ℕ) where
   twice : c .n + c .n ≡ 2 * length (C .macs)
   twice = let e = ok .macs in omega arith
 
-  -- the tests before the space that is lent
-  abbrev lettered : Fit → Fit
-  lettered f = demanded (eqb (length s) (letterCount C)) 11 (demanded (areLetters s) 12 f)
+  -- the first of a fit's tests that fails, or the fit
+  abbrev unless : ℕ → Fit
+  unless number = unlessFailed refusedBy number (bestFit (slotCount C) (fitOf C (lettersOf s)))
 
-  abbrev best : Fit
-  best = bestFit (slotCount C) (fitOf C (lettersOf s))
-
-  fit-is : (room : ℕ) → fitLetters C s room ≡ lettered (demanded (leb (slotCount C) room) 15 best)
+  fit-is : (room : ℕ) → fitLetters C s room ≡ unless (firstFailed (fitTests C s room))
   unfolding fitLetters
   fit-is room = ap (λ (t : Reading Chip). fitChip t s room) (sym (ok .read))
 
@@ -73,36 +72,45 @@ module _ (c : HeldChip) (ok : Passed c) (s : List ℕ) where
   fit-placed-sized room =
       let n = length (C .macs) in
       subst (SizedFit n) (sym (fit-is room))
-      (sized-demanded n (eqb (length s) (letterCount C)) 11 (demanded (areLetters s) 12 (demanded (leb (slotCount C) room) 15 best))
-      (sized-demanded n (areLetters s) 12 (demanded (leb (slotCount C) room) 15 best)
-      (sized-demanded n (leb (slotCount C) room) 15 best (sized-best n (slotCount C) (fitOf C (lettersOf s)) (fit-sized C (lettersOf s))))))
+      (sized-unless n (firstFailed (fitTests C s room)) (bestFit (slotCount C) (fitOf C (lettersOf s))) (sized-best n (slotCount C) (fitOf C (lettersOf s)) (fit-sized C (lettersOf s))))
 
   -- ---- the list of positions is too short
 
+  -- the tests where the last one fails
+  abbrev failing : Bool → Bool → List Test
+  failing a b = test 11 a ∷ test 12 b ∷ test 15 false ∷ []
+
   -- 15 for the one list or the other
-  either : (b : Bool) → demanded b 15 (refusedBy 15 0) ≡ refusedBy 15 0
-  either true = refl
-  either false = refl
+  either : (a b d : Bool) → firstFailed (test 11 a ∷ test 12 b ∷ test 15 d ∷ test 15 false ∷ []) ≡ firstFailed (failing a b)
+  unfolding firstFailed
+  either true true true = refl
+  either true true false = refl
+  either true false d = refl
+  either false b d = refl
 
   module _ (room : ℕ) (h : room < c .n + c .n) where
-    many : 1 < slotCount C
-    many = let e = twice in omega arith
+    abbrev first : ℕ
+    first = firstFailed (failing (eqb (length s) (letterCount C)) (areLetters s))
 
-    one-slot : fitLetters C s 1 ≡ lettered (refusedBy 15 0)
-    one-slot = fit-is 1 ∙ ap (λ (b : Bool). lettered (demanded b 15 best)) (lt-leb (slotCount C) 1 many)
+    one-slot : fitLetters C s 1 ≡ unless first
+    one-slot =
+        let many : 1 < slotCount C = let e = twice in omega arith in
+        fit-is 1 ∙ ap (λ (b : Bool). unless (firstFailed (test 11 (eqb (length s) (letterCount C)) ∷ test 12 (areLetters s) ∷ test 15 b ∷ []))) (lt-leb (slotCount C) 1 many)
 
-    too-short : (slots : ℕ) → fitRead (accepted C) s slots room ≡ lettered (refusedBy 15 0)
+    too-short : (slots : ℕ) → fitRead (accepted C) s slots room ≡ unless first
     too-short slots =
-        ap (λ (b : Bool). lettered (demanded (leb (slotCount C) slots) 15 (demanded b 15 best))) (lt-leb (2 * length (C .macs)) room (let e = twice in omega arith))
-        ∙ ap lettered (either (leb (slotCount C) slots))
+        ap (λ (b : Bool). unless (firstFailed (fitTests C s slots ++ (test 15 b ∷ [])))) (lt-leb (2 * length (C .macs)) room (let e = twice in omega arith))
+        ∙ ap unless (either (eqb (length s) (letterCount C)) (areLetters s) (leb (slotCount C) slots))
 
     -- a refusal leaves both lists
-    slots-stay : (a b : Bool) (l : List ℕ) → Filled C s (demanded a 11 (demanded b 12 (refusedBy 15 0))) l l
+    slots-stay : (a b : Bool) (l : List ℕ) → Filled C s (unless (firstFailed (failing a b))) l l
+    unfolding firstFailed
     slots-stay true true l = refl
     slots-stay true false l = refl
     slots-stay false b l = refl
 
-    places-stay : (a b : Bool) (l : List ℕ) → l ≡ placesAfter (demanded a 11 (demanded b 12 (refusedBy 15 0))) l
+    places-stay : (a b : Bool) (l : List ℕ) → l ≡ placesAfter (unless (firstFailed (failing a b))) l
+    unfolding firstFailed
     places-stay true true l = refl
     places-stay true false l = refl
     places-stay false b l = refl
@@ -115,7 +123,7 @@ module _ (c : HeldChip) (ok : Passed c) (s : List ℕ) where
 
         by : (slots places : List ℕ) → length places ≡ room → FitDone (accepted C) s r slots slots places places
         by slots places l =
-            let same : fitRead (accepted C) s (length slots) (length places) ≡ lettered (refusedBy 15 0) = ap (fitRead (accepted C) s (length slots)) l ∙ too-short (length slots) in
+            let same : fitRead (accepted C) s (length slots) (length places) ≡ unless first = ap (fitRead (accepted C) s (length slots)) l ∙ too-short (length slots) in
             record {
               answer = e ∙ (ap (λ (t : FitOutcome). code (ofOutcome t)) told ∙ (ap code (outcome-fit (fitLetters C s 1)) ∙ ap (λ (f : Fit). code (ofFit f)) (one-slot ∙ sym same)));
               filled = subst (λ (f : Fit). Filled C s f slots slots) (sym same) (slots-stay (eqb (length s) (letterCount C)) (areLetters s) slots);
@@ -133,7 +141,7 @@ module _ (c : HeldChip) (ok : Passed c) (s : List ℕ) where
 
     same-fit : fitRead (accepted C) s (length slots) (length places) ≡ F
     same-fit =
-        ap (λ (b : Bool). lettered (demanded (leb (slotCount C) (length slots)) 15 (demanded b 15 best))) (le-leb (2 * length (C .macs)) (length places) (let e = twice in omega arith))
+        ap unless (passes-last (fitTests C s (length slots)) 15 (leb (2 * length (C .macs)) (length places)) (le-leb (2 * length (C .macs)) (length places) (let e = twice in omega arith)))
         ∙ sym (fit-is (length slots))
 
     outcome-is : a .outcome ≡ outcomeOf F

@@ -1,26 +1,25 @@
 -- What a fit answers and leaves in the two lent lists, over the bytes and numbers that a host hands over.
 use Prim.Native.Nat.{ℕ, _+_, _*_, _<_}
 use mathlib.Core.Path.{_≡_}
-use mathlib.Core.List.{List, _++_}
-use lib.Dec.{eqb, leb}
+use mathlib.Core.List.{List, [], _∷_, _++_}
+use lib.Dec.{leb}
 use lib.ListN.{length, drop}
 use Rattle.model.specs.declared.Chip.{Chip as HeldChip}
 use Rattle.model.specs.Meaning.{Chip, chipOf}
+use Rattle.refusals.specs.Tests.{test, firstFailed, unlessFailed}
 use Rattle.grammar.specs.Reading.{Reading, accepted, refused}
 use Rattle.chip.specs.Text.{readChip}
 use Rattle.placement.specs.Least.{fitOf}
-use Rattle.slots.specs.Fit.{Fit, refusedBy, noFit, placed, areLetters, lettersOf, letterCount, slotCount, demanded, bestFit, Filled}
+use Rattle.slots.specs.Fit.{Fit, refusedBy, noFit, placed, lettersOf, slotCount, bestFit, fitTests, Filled}
 use Rattle.host_codes.specs.declared.Code.{Code}
 use Rattle.host_codes.specs.Code.{code, ofFit}
 use Rattle.host_codes.specs.Lists.{numbersOf}
 
--- the text is read first; then 11, 12, then 15 for the slots and 15 for the positions, by the lengths of the two lists
+-- the text is read first; then the tests of a fit, the last being 15 for the slots, and 15 for the positions, by the lengths of the two lists
 abbrev pub fitRead : Reading Chip → List ℕ → ℕ → ℕ → Fit
 fitRead (accepted c) s slots places =
-    demanded (eqb (length s) (letterCount c)) 11
-    (demanded (areLetters s) 12
-    (demanded (leb (slotCount c) slots) 15
-    (demanded (leb (2 * length (c .macs)) places) 15 (bestFit (slotCount c) (fitOf c (lettersOf s))))))
+    unlessFailed refusedBy (firstFailed (fitTests c s slots ++ (test 15 (leb (2 * length (c .macs)) places) ∷ [])))
+    (bestFit (slotCount c) (fitOf c (lettersOf s)))
 fitRead (refused number line) s slots places = refusedBy number line
 
 abbrev pub fitText : List ℕ → List ℕ → ℕ → ℕ → Fit

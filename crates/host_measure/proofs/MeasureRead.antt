@@ -10,6 +10,7 @@ use Rattle.model.specs.declared.Refusal.{Refusal}
 use Rattle.model.specs.declared.Spot.{Spot}
 use Rattle.model.specs.Meaning.{Chip, chipOf, firstOf, blankSpot}
 use Rattle.model.proofs.FirstOf.{first-take}
+use Rattle.refusals.specs.Tests.{firstFailed}
 use Rattle.grammar.specs.Reading.{Reading, accepted, refused}
 use Rattle.chip.specs.Text.{readChip}
 use Rattle.chip.specs.Passed.{Passed}
@@ -24,9 +25,11 @@ module _ (c : HeldChip) (ok : Passed c) (list : List ℕ) where
 
   -- not two numbers for each macro
   pub wrong-count : (length list ≡ c .n + c .n → ⊥) → notMeasured 13 0 ≡ measureRead (accepted (chipOf c)) list
+  unfolding firstFailed
   wrong-count o = rw (ne-eqb (length list) (2 * length (chipOf c .macs)) (λ e. o (e ∙ sym twice)))
 
   pub two-each : length list ≡ c .n + c .n → (spots : List Spot) → length spots ≡ 8 → take (c .n) spots ≡ cornersOf list → (m : Measure) → m ≡ measurePositions (chipOf c) (firstOf blankSpot (c .n) spots) → m ≡ measureRead (accepted (chipOf c)) list
+  unfolding firstFailed
   two-each e spots l are m q =
       let few = ok .fine .macCount in
       q ∙ (ap (λ (t : Reading Chip). afterReading t (measurePassed (chipOf c) (firstOf blankSpot (c .n) spots))) (sym (ok .read))

@@ -5,9 +5,10 @@ use lib.Dec.{eqb}
 use lib.ListN.{length}
 use Rattle.model.specs.declared.Spot.{Spot}
 use Rattle.model.specs.Meaning.{Chip}
+use Rattle.refusals.specs.Tests.{test, firstFailed, unlessFailed}
 use Rattle.grammar.specs.Reading.{Reading, accepted, refused}
 use Rattle.chip.specs.Text.{readChip}
-use Rattle.measure.specs.Measuring.{Measure, refused as notMeasured, need, measurePassed}
+use Rattle.measure.specs.Measuring.{Measure, refused as notMeasured, measurePassed}
 
 -- the corners of a list of numbers; a last x without its y is none
 unfoldable pub cornersOf : List ℕ → List Spot
@@ -17,7 +18,7 @@ cornersOf (x ∷ y ∷ l) = record { x = x; y = y } ∷ cornersOf l
 
 -- the text is read first; then 13 where there are not two numbers for each macro, then 14
 abbrev pub measureRead : Reading Chip → List ℕ → Measure
-measureRead (accepted c) l = need (eqb (length l) (2 * length (c .macs))) 13 (measurePassed c (cornersOf l))
+measureRead (accepted c) l = unlessFailed notMeasured (firstFailed (test 13 (eqb (length l) (2 * length (c .macs))) ∷ [])) (measurePassed c (cornersOf l))
 measureRead (refused number line) l = notMeasured number line
 
 abbrev pub measureText : List ℕ → List ℕ → Measure

@@ -2,6 +2,7 @@
 use mathlib.Core.Path.{_≡_, refl}
 use mathlib.Core.List.{[], _∷_}
 use Rattle.decimal.specs.Number.{allOf, valueFrom, plain, numeralOf, digitsIn, digits}
+use Rattle.refusals.specs.Tests.{firstFailed}
 use Rattle.grammar.specs.Line.{lines, upTo, from, strip, fields, fieldsText}
 use Rattle.grammar.specs.Words.{isIn, same, wordIn, itemText, itemsText}
 use Rattle.grammar.specs.Reading.{stepBytes, readLines, readText}
@@ -25,5 +26,5 @@ marked-records = (refl, (refl, (refl, (refl, (refl, (refl, tt))))))
 
 -- with 22 slots lent, and 4 positions
 pub marked-fits : Every (λ (c : FitCase). fitText (text (c .chip)) (bytes (c .letters)) 22 4 ≡ c .answer) markedFits
-unfolding bytes text areLetters allOf valueFrom plain numeralOf lines upTo from strip fields isIn same wordIn stepBytes readLines readText pinCount clearOf addPin readChip boxes allInDie allApart within legal greatest smallest span netLength netsLength pairsOf withEach pairs keepsAll keepsLetters upFrom column grid inFront placements tryAll firstLeast chipRecord
+unfolding bytes text firstFailed areLetters allOf valueFrom plain numeralOf lines upTo from strip fields isIn same wordIn stepBytes readLines readText pinCount clearOf addPin readChip boxes allInDie allApart within legal greatest smallest span netLength netsLength pairsOf withEach pairs keepsAll keepsLetters upFrom column grid inFront placements tryAll firstLeast chipRecord
 marked-fits = (refl, (refl, (refl, (refl, (refl, tt)))))

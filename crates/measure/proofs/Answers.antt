@@ -1,93 +1,103 @@
--- What measuring a chip whose test is passed answers, in the form of the needs of `measure_parts`.
-use mathlib.Core.Path.{_≡_, refl, sym, _∙_}
+-- What measuring a chip whose test is passed answers, in the form of the needs of `measure_fault` and `measure_passed`.
+use mathlib.Core.Path.{_≡_, sym, ap, _∙_}
 use mathlib.Core.Bool.{Bool, true, false, not}
 use mathlib.Core.List.{List, [], map}
 use Prim.Native.Nat.{ℕ, _≤_}
 use native.Mathlib.Decide.{decLe}
 use native.Mathlib.Omega.{arith}
+use lib.Dec.{eqb}
 use lib.ListN.{length, take, length-append}
-use borrow.Author.Tests.{eq-eqb, ne-eqb, not-true, not-false}
-use Rattle.model.specs.declared.Die.{Die}
+use borrow.Author.Tests.{eq-eqb, ne-eqb, eqb-true, not-true, not-false}
 use Rattle.model.specs.declared.Fix.{Fix}
-use Rattle.model.specs.declared.Mac.{Mac}
-use Rattle.model.specs.declared.Net.{Net}
-use Rattle.model.specs.declared.Pin.{Pin}
 use Rattle.model.specs.declared.Spot.{Spot}
 use Rattle.model.specs.declared.Chip.{Chip as HeldChip}
 use Rattle.model.specs.Meaning.{chipOf, firstOf, blankSpot}
 use Rattle.model.proofs.FirstOf.{first-take, first-past, length-first}
-use Rattle.chip.specs.Text.{chipText}
-use Rattle.chip.specs.Passed.{Accepted}
-use Rattle.chip.specs.Valid.{Fine}
-use Rattle.chip.proofs.Accepted.{accepted-valid}
-use Rattle.chip.proofs.HeldMeaning.{macs-held}
-use Rattle.chip.proofs.HeldChip.{tested-fine}
+use Rattle.refusals.specs.Tests.{test, firstFailed}
+use Rattle.refusals.proofs.FirstFailed.{none-failed, fails-here, fails-later, first-passes, rest-passes, number-refused, number-none}
+use Rattle.chip.specs.Passed.{Passed}
+use Rattle.chip.proofs.Passing.{Whole}
 use Rattle.placement.specs.Legal.{boxes, legal}
 use Rattle.placement.specs.Length.{Near, wirelength}
 use Rattle.placement.proofs.LengthBound.{wirelength-bound}
-use Rattle.measure.specs.Measuring.{refused, measured, inRange, measurePassed}
+use Rattle.measure.specs.Measuring.{refused, measured, inRange, measureTests, measurePassed}
 use Rattle.geometry.specs.declared.Box.{Box}
 use Rattle.geometry.specs.Box.{boxOf}
 use Rattle.legal.specs.Turn.{legalAfter}
 use Rattle.measure.specs.Held.{lengthTo, Summable}
 use Rattle.measure.proofs.Ranges.{in-range-near}
-use Rattle.measure.proofs.IsLegal.{as-many, legal-told}
+use Rattle.measure.proofs.IsLegal.{legal-told}
 use Rattle.measure.proofs.HeldNet.{pins-placed, length-whole}
 
-module _ (c : HeldChip) (p : Accepted c) (fs : length (c .fixes) ≡ 8) (ms : length (c .macs) ≡ 8) (ts : length (c .nets) ≡ 32) (hs : length (c .pins) ≡ 128) where
-  fine : Fine c
-  fine = tested-fine c fs ms ts hs p
+module _ (c : HeldChip) (p : Passed c) where
+  pub few-macros : c .n ≤ 8
+  few-macros = p .fine .macCount
+
+  pub boxes-legal : (w : Whole c) (s : List Spot) → length s ≡ 8 → (bs : List Box) (a : Bool) → bs ≡ boxes (c .macs) s → a ≡ legalAfter 0 (c .die) (map boxOf (take (c .k) (c .fixes))) [] (take (c .n) bs) → a ≡ legal (chipOf c) (take (c .n) s)
+  boxes-legal w s l bs a f g = rw (g, f) (legal-told c (p .fine) s (w .fixes) (w .macs) l)
 
   module _ (s : List Spot) (l : length s ≡ 8) (count : ℕ) where
-    pub wrong-count : (count ≡ c .n → ⊥) → refused 13 0 ≡ measurePassed (chipOf c) (firstOf blankSpot count s)
-    unfolding measurePassed
-    wrong-count n = rw (ne-eqb (length (firstOf blankSpot count s)) (length (chipOf c .macs)) (λ e. by (decLe count 8) e))
+    -- ---- 13, 14, or none
+
+    -- as many positions as macros
+    counted : length (firstOf blankSpot count s) ≡ length (chipOf c .macs) → count ≡ c .n
+    counted e = by (decLe count 8)
       where
-        by : Dec (count ≤ 8) → length (firstOf blankSpot count s) ≡ length (chipOf c .macs) → ⊥
-        by (yes h) e = n (sym (length-first blankSpot count s (omega arith)) ∙ (e ∙ macs-held c fine ms))
-        by (no h) e =
+        by : Dec (count ≤ 8) → count ≡ c .n
+        by (yes h) = sym (length-first blankSpot count s (omega arith)) ∙ e ∙ p .macs
+        by (no h) =
             let a : length (firstOf blankSpot count s) ≡ 9 = rw (first-past blankSpot count s (omega arith), length-append, l) in
-            let b = macs-held c fine ms in
-            omega (arith, fine .macCount)
+            let b = p .macs in
+            absurd (omega (arith, few-macros))
 
-    module _ (e : count ≡ c .n) (r : Bool) (q : r ≡ inRange (take (c .n) s)) where
+    pub wrong-count : (count ≡ c .n → ⊥) → 13 ≡ firstFailed (measureTests (chipOf c) (firstOf blankSpot count s))
+    wrong-count n = fails-here 13 _ _ (ne-eqb (length (firstOf blankSpot count s)) (length (chipOf c .macs)) (λ e. n (counted e)))
+
+    module _ (e : count ≡ c .n) where
       its-spots : firstOf blankSpot count s ≡ take (c .n) s
-      its-spots = rw e (first-take blankSpot (c .n) s (omega (arith, fine .macCount)))
+      its-spots = rw e (first-take blankSpot (c .n) s (omega (arith, few-macros)))
 
-      pub out-of-range : not r ≡ true → refused 14 0 ≡ measurePassed (chipOf c) (firstOf blankSpot count s)
+      as-many : eqb (length (firstOf blankSpot count s)) (length (chipOf c .macs)) ≡ true
+      as-many = eq-eqb _ _ (length-first blankSpot count s (omega (arith, few-macros)) ∙ e ∙ sym (p .macs))
+
+      module _ (r : Bool) (q : r ≡ inRange (take (c .n) s)) where
+        its-range : inRange (firstOf blankSpot count s) ≡ r
+        its-range = ap inRange its-spots ∙ sym q
+
+        pub out-of-range : not r ≡ true → 14 ≡ firstFailed (measureTests (chipOf c) (firstOf blankSpot count s))
+        out-of-range h = fails-later 13 _ _ 14 as-many (fails-here 14 _ _ (its-range ∙ not-true r h))
+
+        pub all-pass : not r ≡ false → 0 ≡ firstFailed (measureTests (chipOf c) (firstOf blankSpot count s))
+        all-pass h = fails-later 13 _ _ 0 as-many (fails-later 14 _ _ 0 (its-range ∙ not-false r h) none-failed)
+
+    -- ---- the answer, by that number
+
+    module _ (no : ℕ) (q : no ≡ firstFailed (measureTests (chipOf c) (firstOf blankSpot count s))) where
+      pub told-refused : (no ≡ 0 → ⊥) → refused no 0 ≡ measurePassed (chipOf c) (firstOf blankSpot count s)
       unfolding measurePassed
-      out-of-range h = rw (its-spots, eq-eqb _ _ (as-many c fine s fs ms l), ← q, not-true r h)
+      told-refused h = rw (← q) (number-refused refused _ no h)
 
-      module _ (h : not r ≡ false) where
+      module _ (w : Whole c) (z : no ≡ 0) where
+        the-count : count ≡ c .n
+        the-count = counted (eqb-true _ _ (first-passes 12 _ _ (sym q ∙ z)))
+
         near : Near (take (c .n) s)
-        near = in-range-near (take (c .n) s) (sym (not-false r h) ∙ q)
+        near =
+            let e = rest-passes 12 _ _ (sym q ∙ z) in
+            in-range-near (take (c .n) s) (sym (first-passes 13 _ _ e) ∙ ap inRange (its-spots the-count))
 
         whole : lengthTo s (c .nets) (c .pins) (c .t) ≡ wirelength (chipOf c) (take (c .n) s)
-        whole = length-whole c fine s near ts hs
+        whole = length-whole c (p .fine) s near (w .nets) (w .pins)
 
-        its-sum : Summable s (c .nets) (c .pins) (c .t)
-        its-sum = record {
-          nets = fine .netCount;
-          pins = fine .pins;
-          some = λ j g. fine .net j g .some;
-          placed = pins-placed c fine s near;
-          small = rw whole (wirelength-bound (chipOf c) (take (c .n) s) (accepted-valid (chipText (chipOf c)) (chipOf c) (sym p)) near);
+        pub summable : Summable s (c .nets) (c .pins) (c .t)
+        summable = record {
+          nets = p .fine .netCount;
+          pins = p .fine .pins;
+          some = λ j g. p .fine .net j g .some;
+          placed = pins-placed c (p .fine) s near;
+          small = rw whole (wirelength-bound (chipOf c) (take (c .n) s) (p .valid) near);
         }
 
-        pub all-measured : (bs : List Box) (a : Bool) (wl : ℕ) → bs ≡ boxes (c .macs) s → a ≡ legalAfter 0 (c .die) (map boxOf (take (c .k) (c .fixes))) [] (take (c .n) bs) → wl ≡ lengthTo s (c .nets) (c .pins) (c .t) → measured a wl ≡ measurePassed (chipOf c) (firstOf blankSpot count s)
+        pub told-measured : (a : Bool) (wl : ℕ) → a ≡ legal (chipOf c) (take (c .n) s) → wl ≡ lengthTo s (c .nets) (c .pins) (c .t) → measured a wl ≡ measurePassed (chipOf c) (firstOf blankSpot count s)
         unfolding measurePassed
-        all-measured bs a wl f g k =
-            let d : a ≡ legal (chipOf c) (take (c .n) s) = rw (g, f) (legal-told c fine s fs ms l) in
-            rw (its-spots, eq-eqb _ _ (as-many c fine s fs ms l), ← q, not-false r h, d, k, whole)
-
--- what the helpers need, of the parts of a chip
-module _ (die : Die) (k : ℕ) (fixes : List Fix) (n : ℕ) (macs : List Mac) (t : ℕ) (nets : List Net) (pins : List Pin) where
-  abbrev whole-chip : HeldChip
-  whole-chip = record { die = die; k = k; fixes = fixes; n = n; macs = macs; t = t; nets = nets; pins = pins }
-
-  module _ (p : Accepted whole-chip) (fs : length fixes ≡ 8) (ms : length macs ≡ 8) (ts : length nets ≡ 32) (hs : length pins ≡ 128) where
-    pub few-macros : n ≤ 8
-    few-macros = fine whole-chip p fs ms ts hs .macCount
-
-    pub summable : (s : List Spot) → length s ≡ 8 → (r : Bool) → r ≡ inRange (take n s) → not r ≡ false → Summable s nets pins t
-    summable s l r q h = its-sum whole-chip p fs ms ts hs s l n refl r q h
+        told-measured a wl g k = rw (← q, ← number-none refused (measured _ _) no z, its-spots the-count, ← g, k, whole)

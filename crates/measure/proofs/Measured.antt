@@ -9,7 +9,6 @@ use Rattle.model.specs.declared.Chip.{Chip as HeldChip}
 use Rattle.model.specs.Meaning.{chipOf}
 use Rattle.grammar.specs.Writing.{testedAs}
 use Rattle.chip.specs.Text.{readChip, chipText}
-use Rattle.chip.specs.Passed.{Accepted}
 use Rattle.measure.specs.Measuring.{Measure, refused, measurePassed, measurePositions}
 
 module _ (c : HeldChip) (t : Tested) (e : testedAs (chipOf c) t ≡ readChip (chipText (chipOf c))) where
@@ -17,8 +16,5 @@ module _ (c : HeldChip) (t : Tested) (e : testedAs (chipOf c) t ≡ readChip (ch
   test-refused ps f q = rw (← e, q)
 
   module _ (q : t ≡ tested.Passed) where
-    pub test-passed : Accepted c
-    test-passed = rw q at e
-
     pub passed-measured : (ps : List Spot) (m : Measure) → m ≡ measurePassed (chipOf c) ps → m ≡ measurePositions (chipOf c) ps
     passed-measured ps m h = rw (← e, q) h

@@ -8,6 +8,7 @@ use lib.IntN.{pos}
 use Rattle.model.specs.declared.Spot.{Spot}
 use Rattle.model.specs.Meaning.{Chip}
 use Rattle.model.specs.Limits.{isWithin, placedCorner}
+use Rattle.refusals.specs.Tests.{Test, test, firstFailed, unlessFailed}
 use Rattle.grammar.specs.Reading.{Reading, accepted, refused as notRead}
 use Rattle.chip.specs.Text.{readChip, chipText}
 use Rattle.placement.specs.Legal.{legal}
@@ -30,22 +31,20 @@ unfoldable pub inRange : List Spot → Bool
 inRange [] = true
 inRange (p ∷ ps) = (isWithin placedCorner (pos (p .x)) && isWithin placedCorner (pos (p .y))) && inRange ps
 
--- refusal n, of line 0, where a test fails
-abbrev pub need : Bool → ℕ → Measure → Measure
-need true n more = more
-need false n more = refused n 0
-
 -- a chip held as a value is tested first as its text would be
 abbrev pub afterReading : Reading Chip → Measure → Measure
 afterReading (accepted c) more = more
 afterReading (notRead n l) more = refused n l
 
 -- then 13, position list not n long, and 14, position above 1,024
+abbrev pub measureTests : Chip → List Spot → List Test
+measureTests c ps =
+    test 13 (eqb (length ps) (length (c .macs)))
+    ∷ test 14 (inRange ps)
+    ∷ []
+
 unfoldable pub measurePassed : Chip → List Spot → Measure
-measurePassed c ps =
-    need (eqb (length ps) (length (c .macs))) 13
-    (need (inRange ps) 14
-    (measured (legal c ps) (wirelength c ps)))
+measurePassed c ps = unlessFailed refused (firstFailed (measureTests c ps)) (measured (legal c ps) (wirelength c ps))
 
 abbrev pub measurePositions : Chip → List Spot → Measure
 measurePositions c ps = afterReading (readChip (chipText c)) (measurePassed c ps)

@@ -1,7 +1,5 @@
 // Measuring a placement: whether positions are legal for a chip, and their wirelength (document 01, "Legal, and how long").
 use model::Chip;
-use model::Die;
-use model::Fix;
 use model::Mac;
 use model::Net;
 use model::Pin;
@@ -13,11 +11,14 @@ ghost use Prim.Native.Nat.{_+_, _≤_, _<_, min, max};
 ghost use lib.ListN.{length, take};
 ghost use lib.Seq.{slice};
 ghost use Rattle.model.specs.Meaning.{firstOf, blankSpot, chipOf};
+ghost use Rattle.placement.specs.Legal.{legal};
 ghost use Rattle.placement.specs.Length.{origin};
 ghost use Rattle.placement.proofs.Spans.{upX, upY};
-ghost use Rattle.measure.specs.Measuring.{measuredAs, inRange, measurePassed, measurePositions};
+ghost use Rattle.measure.specs.Measuring.{measuredAs, inRange, measureTests, measurePassed, measurePositions};
 ghost use Rattle.measure.specs.Held.{withPin, halfAround, lengthTo, Placed, PlacedTo, Summable};
-ghost use Rattle.chip.specs.Passed.{Accepted};
+ghost use Rattle.chip.specs.Passed.{Passed};
+ghost use Rattle.chip.proofs.Passing.{Whole};
+ghost use Rattle.refusals.specs.Tests.{firstFailed};
 
 // What measuring answers: legal or not and the wirelength, or the refusal.
 pub enum MeasureAnswer {
@@ -129,20 +130,17 @@ fn half_around(spots: [Spot; Mac::COUNT], pins: [Pin; Pin::COUNT], from: usize, 
     (e.right - e.left) + (e.high - e.low)
 }
 
-// The sum of the lengths of t nets: each net's weight times half the way around its pins.
-fn length_of(
-    nets: [Net; Net::COUNT],
-    t: usize,
-    pins: [Pin; Pin::COUNT],
-    spots: [Spot; Mac::COUNT],
-) -> u64
-    requires { ⌜ Summable spots nets pins t ⌝ }
-    ensures { λ r. ⌜ r ≡ lengthTo spots nets pins t ⌝ }
+// The sum of the lengths of the chip's nets: each net's weight times half the way around its pins.
+fn length_of(c: Chip, spots: [Spot; Mac::COUNT]) -> u64
+    requires { ⌜ Summable spots (c .nets) (c .pins) (c .t) ⌝ }
+    ensures { λ r. ⌜ r ≡ lengthTo spots (c .nets) (c .pins) (c .t) ⌝ }
 {
+    let nets = c.nets;
+    let pins = c.pins;
     let mut total: u64 = 0;
     let mut from: usize = 0;
     let mut j: usize = 0;
-    while j < t {
+    while j < c.t {
         let net = nets[j];
         let to = from + net.pins;
         total += net.weight * half_around(spots, pins, from, to);
@@ -152,45 +150,46 @@ fn length_of(
     total
 }
 
-// The parts of a chip whose test is passed, and positions: 13, then 14, then the measure.
-fn measure_parts(
-    die: Die,
-    k: usize,
-    fixes: [Fix; Fix::COUNT],
-    n: usize,
-    macs: [Mac; Mac::COUNT],
-    t: usize,
-    nets: [Net; Net::COUNT],
-    pins: [Pin; Pin::COUNT],
-    count: usize,
-    spots: [Spot; Mac::COUNT],
-) -> MeasureAnswer
-    requires { ⌜ Accepted (record { die = die; k = k; fixes = fixes; n = n; macs = macs; t = t; nets = nets; pins = pins }) ⌝ }
-    ensures { λ r. ⌜ measuredAs r ≡ measurePassed (chipOf (record { die = die; k = k; fixes = fixes; n = n; macs = macs; t = t; nets = nets; pins = pins })) (firstOf blankSpot count spots) ⌝ }
-{
-    if count != n {
-        return MeasureAnswer::Refused(Refusal { no: 13, line: 0 });
-    }
-    if !in_range(spots, n) {
-        return MeasureAnswer::Refused(Refusal { no: 14, line: 0 });
-    }
-    let bs = legal::boxes_at(macs, spots);
-    let legal = legal::legal_boxes(die, fixes, k, bs, n);
-    let length = length_of(nets, t, pins, spots);
-    MeasureAnswer::Measured(legal, length)
-}
-
-// A chip whose test is passed, as one value.
-fn measure_passed(c: Chip, count: usize, spots: [Spot; Mac::COUNT]) -> MeasureAnswer
-    requires { ⌜ Accepted c ⌝ }
-    ensures { λ r. ⌜ measuredAs r ≡ measurePassed (chipOf c) (firstOf blankSpot count spots) ⌝ }
+// Whether the positions are legal.
+fn is_legal(c: Chip, spots: [Spot; Mac::COUNT]) -> bool
+    requires { ⌜ Passed c ⌝ }
+    requires { ⌜ Whole c ⌝ }
+    ensures { λ r. ⌜ r ≡ legal (chipOf c) (take (c .n) spots) ⌝ }
 {
     let die = c.die;
     let fixes = c.fixes;
     let macs = c.macs;
-    let nets = c.nets;
-    let pins = c.pins;
-    measure_parts(die, c.k, fixes, c.n, macs, c.t, nets, pins, count, spots)
+    let bs = legal::boxes_at(macs, spots);
+    legal::legal_boxes(die, fixes, c.k, bs, c.n)
+}
+
+// The number of the first test that the positions fail, or 0.
+fn measure_fault(c: Chip, count: usize, spots: [Spot; Mac::COUNT]) -> usize
+    requires { ⌜ Passed c ⌝ }
+    ensures { λ r. ⌜ r ≡ firstFailed (measureTests (chipOf c) (firstOf blankSpot count spots)) ⌝ }
+{
+    if count != c.n {
+        return 13;
+    }
+    if !in_range(spots, c.n) {
+        return 14;
+    }
+    0
+}
+
+// A chip whose test is passed: the refusal of the positions, or the measure.
+fn measure_passed(c: Chip, count: usize, spots: [Spot; Mac::COUNT]) -> MeasureAnswer
+    requires { ⌜ Passed c ⌝ }
+    requires { ⌜ Whole c ⌝ }
+    ensures { λ r. ⌜ measuredAs r ≡ measurePassed (chipOf c) (firstOf blankSpot count spots) ⌝ }
+{
+    let no = measure_fault(c, count, spots);
+    if no != 0 {
+        return MeasureAnswer::Refused(Refusal { no, line: 0 });
+    }
+    let legal = is_legal(c, spots);
+    let length = length_of(c, spots);
+    MeasureAnswer::Measured(legal, length)
 }
 
 // Measures the first count positions; a count above 8 stands for a list that is too long.

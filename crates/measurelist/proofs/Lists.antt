@@ -10,6 +10,7 @@ use borrow.Author.Tests.{ne-eqb}
 use Rattle.model.specs.declared.Spot.{Spot}
 use Rattle.model.specs.Meaning.{Chip, firstOf, blankSpot}
 use Rattle.model.proofs.FirstOf.{first-take, first-past}
+use Rattle.refusals.specs.Tests.{firstFailed}
 use Rattle.grammar.specs.Reading.{Reading, accepted, refused as notRead}
 use Rattle.chip.specs.Text.{readChip, chipText}
 use Rattle.chip.proofs.Accepted.{accepted-valid}
@@ -37,7 +38,7 @@ length-reads ys i (suc k) = ap suc (length-reads ys (suc i) k)
 
 module _ (c : Chip) where
   too-long : (d : Chip) → readChip (chipText c) ≡ accepted d → (ps : List Spot) → 8 < length ps → measurePassed c ps ≡ refused 13 0
-  unfolding measurePassed
+  unfolding measurePassed firstFailed
   too-long d e ps h =
       let few = accepted-valid (chipText c) d e .macCount in
       rw (ne-eqb (length ps) (length (c .macs)) (λ q. absurd (omega (arith, ap {B = ℕ} (λ (b : Chip). length (b .macs)) (text-read c d e)))))

@@ -11,7 +11,7 @@ use Rattle.model.specs.Meaning.{blankSpot}
 use Rattle.slots.specs.declared.Direction.{Direction}
 use Rattle.slots.specs.declared.Direction.the-variants.{Horizontal as horizontal, Vertical as vertical}
 use Rattle.slots.specs.Axes.{cornerOn, cornersOn}
-use Rattle.fit.proofs.Copies.{map-take, Copied, copied-more}
+use Rattle.fit_axes.proofs.Copies.{map-take, Copied, copied-more}
 use Rattle.halves.specs.Half.{spotsOf}
 use Rattle.halves.proofs.Halving.{spots-x}
 use Rattle.search_join.specs.Joined.{spotWith, spotsWith}

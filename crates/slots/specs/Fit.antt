@@ -1,4 +1,4 @@
--- What a fit answers. Document 01, "The fit" and "Refusal table": the refusal of the chip, tested as its text would be; then 11 where there is not one letter for each pair, 12 where a byte is no letter, 15 where the lent list is shorter than the slots; else a placement with its length, or no fit.
+-- What a fit answers. Document 01, "The fit" and "Refusal table": the refusal of the chip, tested as its text would be; then the first of 11, 12, 15 whose test fails; else a placement with its length, or no fit.
 use Prim.Native.Nat.{ℕ, _+_, _*_, _/_, _-_}
 use mathlib.Core.Path.{_≡_}
 use mathlib.Core.List.{List, [], _∷_, map}
@@ -7,6 +7,7 @@ use lib.Dec.{leb, eqb}
 use lib.ListN.{length, take, drop}
 use Rattle.model.specs.declared.Spot.{Spot}
 use Rattle.model.specs.Meaning.{Chip}
+use Rattle.refusals.specs.Tests.{Test, test, firstFailed, unlessFailed}
 use Rattle.grammar.specs.Reading.{Reading, accepted, refused}
 use Rattle.chip.specs.Kind.{pinCount}
 use Rattle.chip.specs.Text.{readChip, chipText}
@@ -49,20 +50,21 @@ letterCount c = lettersFor (length (c .macs)) (length (c .fixes))
 abbrev pub slotCount : Chip → ℕ
 slotCount c = 2 * (2 * length (c .macs) + letterCount c + 2 * pinCount (c .nets))
 
-abbrev pub demanded : Bool → ℕ → Fit → Fit
-demanded true number f = f
-demanded false number f = refusedBy number 0
-
 abbrev pub bestFit : ℕ → Best → Fit
 bestFit slots nothing = noFit
 bestFit slots (found l ps) = placed l slots ps
 
+-- 11 where there is not one letter for each pair, 12 where a byte is no letter, 15 where the lent list is shorter than the slots
+abbrev pub fitTests : Chip → List ℕ → ℕ → List Test
+fitTests c s room =
+    test 11 (eqb (length s) (letterCount c))
+    ∷ test 12 (areLetters s)
+    ∷ test 15 (leb (slotCount c) room)
+    ∷ []
+
 abbrev pub fitChip : Reading Chip → List ℕ → ℕ → Fit
 fitChip (refused number line) s room = refusedBy number line
-fitChip (accepted c) s room =
-    demanded (eqb (length s) (letterCount c)) 11
-    (demanded (areLetters s) 12
-    (demanded (leb (slotCount c) room) 15 (bestFit (slotCount c) (fitOf c (lettersOf s)))))
+fitChip (accepted c) s room = unlessFailed refusedBy (firstFailed (fitTests c s room)) (bestFit (slotCount c) (fitOf c (lettersOf s)))
 
 -- the fit of a chip and a letter string, with a list of that many slots lent
 unfoldable pub fitLetters : Chip → List ℕ → ℕ → Fit

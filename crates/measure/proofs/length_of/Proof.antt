@@ -5,10 +5,10 @@ use Rattle.measure.proofs.length_of.Statement.{statement}
 use Rattle.measure.proofs.length_of.Tie as tie
 
 abbrev Inv-loop : tie.InvT-loop
-Inv-loop t pins spots nets total₀ from₀ j₀ total from j = (j ≤ t) × Summed spots nets pins total from j
+Inv-loop c spots nets pins total₀ from₀ j₀ total from j = (j ≤ c .t) × Summed spots nets pins total from j
 
 abbrev μ-loop : tie.MeasureT-loop
-μ-loop t pins spots nets total₀ from₀ j₀ total from j = t - j
+μ-loop c spots nets pins total₀ from₀ j₀ total from j = c .t - j
 
 loop-holds : tie.Need-loop-holds Inv-loop μ-loop
 loop-holds c = (search needs, search none-summed)

@@ -1,6 +1,6 @@
 use Prim.Native.Nat.{_-_, _≤_}
 use Rattle.slots.specs.Axes.{cornerOn}
-use Rattle.fit.proofs.Copies.{Copied, copied-none, copied-all}
+use Rattle.fit_axes.proofs.Copies.{Copied, copied-none, copied-all}
 use Rattle.search_join.proofs.Cornering.{coordinates-more}
 use borrow.Author.Needs.{needs}
 use Rattle.search.proofs.root.coordinates.Statement.{statement}

@@ -1,0 +1,33 @@
+use Rattle.fit.proofs.Answering.{direction-told, ready-answered}
+use borrow.Author.Needs.{needs}
+use Rattle.fit.proofs.fit_ready.Statement.{statement}
+use Rattle.fit.proofs.fit_ready.Tie as tie
+
+solve-on-requires : tie.Need-solve-on-requires
+solve-on-requires c κs = search needs
+
+solve-on-requires-2 : tie.Need-solve-on-requires-2
+solve-on-requires-2 c κs = search needs
+
+put-slots-requires : tie.Need-put-slots-requires
+put-slots-requires c κs = search needs
+
+answer-of-requires : tie.Need-answer-of-requires
+answer-of-requires c κs = (search needs, (search direction-told, search direction-told))
+
+same-length : tie.Need-same-length
+same-length c = search needs
+
+returns : tie.Need-returns
+returns c = search (needs, ready-answered)
+
+pub fit-ready-spec : {M : Type 1} → statement M
+fit-ready-spec =
+    tie.close
+    (tie.spec
+    solve-on-requires
+    solve-on-requires-2
+    put-slots-requires
+    answer-of-requires
+    same-length
+    returns)

@@ -1,0 +1,34 @@
+// The slots of the pairs, in the order of their letters.
+use bounds::Axis;
+use bounds::Slot;
+use model::Chip;
+use pairs::first_pair;
+use pairs::next_pair;
+use pairslots::asked_by;
+use pairslots::slot_at;
+use slots::Direction;
+ghost use Rattle.fit_axes.specs.Axes.{PairsMade};
+
+pub(crate) fn pair_slots(c: Chip, letters: &[u8], d: Direction) -> [Slot; Axis::PAIRS]
+    ensures { λ r. ⌜ PairsMade c (now (letters .entry)) d r ⌝ }
+{
+    let macs = c.macs;
+    let fixes = c.fixes;
+    let mut pairs = [Slot {
+        tail: 0,
+        head: 0,
+        plus: 0,
+        minus: 0,
+    }; Axis::PAIRS];
+    let mut at = first_pair(c.n);
+    let mut s: usize = 0;
+    while s < Axis::PAIRS {
+        if letters.len() <= s {
+            return pairs;
+        }
+        pairs[s] = slot_at(at, asked_by(letters[s], d), macs, fixes, d);
+        at = next_pair(at, c.n, c.k);
+        s += 1;
+    }
+    pairs
+}

@@ -1,0 +1,3 @@
+pub mod Letters
+pub mod Pins
+pub mod Entering
