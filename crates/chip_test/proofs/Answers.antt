@@ -1,8 +1,7 @@
 -- A chip is tested as its text would be: each answer of the test, by its items' answer and the length of its text.
 use mathlib.Core.Path.{_≡_, refl, sym, ap, _∙_}
 use mathlib.Core.Bool.{true}
-use mathlib.Core.List.{List, [], _∷_}
-use Prim.{tt}
+use mathlib.Core.List.{List}
 use Prim.Native.Nat.{ℕ, _≤_, _<_}
 use native.Mathlib.Omega.{arith}
 use lib.ListN.{length}
@@ -13,10 +12,7 @@ use Rattle.model.specs.declared.Chip.{Chip as HeldChip}
 use Rattle.model.specs.Meaning.{Chip, chipOf}
 use Rattle.decimal.specs.Held.{Wrote}
 use Rattle.grammar.specs.Reading.{accepted, refused}
-use Rattle.grammar.proofs.Every.{Every, every-append}
-use Rattle.grammar.proofs.Items.{Within, runItems}
-use Rattle.grammar.proofs.Run.{run-keeps}
-use Rattle.grammar.proofs.Lengths.{brief, briefWord, items-short}
+use Rattle.grammar.proofs.Lengths.{brief, briefWord, run-short}
 use Rattle.chip.specs.declared.ChipWord.{ChipWord}
 use Rattle.chip.specs.declared.ChipWord.the-variants as word
 use Rattle.chip.specs.Words.{chipWords}
@@ -29,10 +25,6 @@ use Rattle.chipprinter.specs.Items.{ArraysOf}
 use Rattle.chip_items.specs.Tests.{itemsTested}
 use Rattle.chip_test.proofs.ChipRun.{items-accepted, items-refused}
 use Rattle.chip_test.proofs.Counts.{few-items}
-
--- the values of an accepted chip are in range
-all-within : (c : Chip) (s : Part) → runItems chipKind start 1 (chipItems c) ≡ accepted s → Every (Within chipWords) (chipItems c)
-all-within c s e = run-keeps chipKind (λ t js. Every (Within chipWords) js) (λ t u js i f p q. every-append (Within chipWords) js (i ∷ []) q (p .within, tt)) start s 1 [] (chipItems c) (items-formed c) e tt .0
 
 each-brief : (w : ChipWord) → briefWord chipWords w ≡ true
 unfolding brief
@@ -56,7 +48,7 @@ module _ (c : HeldChip) (ok : ArraysOf c) where
     unfolding chipText
     passed-short =
         let q = items-accepted c ok r a p in
-        let l = items-short chipWords each-brief (chipItems (chipOf c)) (all-within (chipOf c) (q .0) (q .1)) in
+        let l = run-short chipKind each-brief start (q .0) 1 (chipItems (chipOf c)) (items-formed (chipOf c)) (q .1) in
         let k = few-items c ok in
         omega arith
 

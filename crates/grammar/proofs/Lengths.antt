@@ -1,8 +1,9 @@
--- The text of an item whose values pass their tests has at most 62 bytes, where each word is brief: `items-short`. A number below 10 to the k has at
--- most k digits: `digits-short`.
+-- Each item of an accepted text has at most 62 bytes, where the words are brief: `run-short`. A number below 10 to the k has at most k digits:
+-- `digits-short`.
 use mathlib.Core.Path.{_≡_}
 use mathlib.Core.Bool.{Bool, true, false, _&&_, false≢true}
 use mathlib.Core.List.{List, [], _∷_}
+use Prim.{tt}
 use Prim.Native.Nat.{ℕ, zero, suc, _*_, _/_, _≤_, _<_}
 use native.Mathlib.Omega.{arith}
 use lib.Dec.{leb}
@@ -16,9 +17,11 @@ use Rattle.model.specs.Limits.{Range, isWithin}
 use Rattle.grammar.specs.Line.{Sort, numbers, strings, Value, number, string, absent, valueText, isOf, Rule, Form, over, one, either, fieldText, fieldsText}
 use Rattle.grammar.specs.Words.{Words, Item, itemText, itemsText}
 use Rattle.grammar.proofs.Lacks.{and-left, and-right}
-use Rattle.grammar.proofs.Items.{Within}
+use Rattle.grammar.specs.Reading.{Kind, accepted}
+use Rattle.grammar.proofs.Items.{Within, WellFormed, runItems}
+use Rattle.grammar.proofs.Run.{run-keeps}
 use Rattle.grammar.proofs.Values.{Passes, Passing, passing}
-use Rattle.grammar.proofs.Every.{Every}
+use Rattle.grammar.proofs.Every.{Every, every-append}
 
 -- ---- a number
 
@@ -109,7 +112,13 @@ module _ {W : Type 0} (d : Words W) where
         let f = fields-short 4 (d .form w) (i .values) (and-right (leb (length (d .spell w)) 5) (brief 4 (d .form w)) (all w)) (passing (d .form w) (i .values) (i .values) e) in
         rw (length-append, length-append) (omega arith)
 
-    pub items-short : (is : List (Item W)) → Every (Within d) is → length (itemsText d is) ≤ 62 * length is
+    items-short : (is : List (Item W)) → Every (Within d) is → length (itemsText d is) ≤ 62 * length is
     unfolding itemsText
     items-short [] e = omega arith
     items-short (i ∷ is) e = let a = item-short i (e .0) in let b = items-short is (e .1) in rw length-append (omega arith)
+
+-- the text of items that are accepted, of a kind of text whose words are brief
+pub run-short : {W S : Type 0} (k : Kind W S) → ((w : W) → briefWord (k .words) w ≡ true) → (s t : S) (n : ℕ) (is : List (Item W)) → WellFormed k is → runItems k s n is ≡ accepted t → length (itemsText (k .words) is) ≤ 62 * length is
+run-short k all s t n is f e =
+    items-short (k .words) all is
+    (run-keeps k (λ u js. Every (Within (k .words)) js) (λ u v js i g p q. every-append (Within (k .words)) js (i ∷ []) q (p .within, tt)) s t n [] is f e tt .0)

@@ -1,9 +1,9 @@
 -- The fault of a macro's spot, test by test, in the form of the needs.
 use mathlib.Core.Path.{_≡_, sym, ap, _∙_}
 use mathlib.Core.List.{List}
-use Prim.Native.Nat.{ℕ, _≤_, _<_, zero-le}
+use Prim.Native.Nat.{ℕ, _≤_, _<_}
 use lib.ListN.{getD}
-use borrow.Author.Tests.{lt-ltb, le-ltb, le-leb}
+use borrow.Author.Tests.{lt-ltb, le-ltb}
 use Rattle.model.specs.declared.Spot.{Spot}
 use Rattle.model.specs.declared.SpotMade.{SpotMade}
 use Rattle.model.specs.declared.SpotMade.the-variants as spot
@@ -23,7 +23,3 @@ module _ (s : List Spot) (i : ℕ) where
 
     pub spot-clear : (q : Spot) → r ≡ spot.Made q → 0 ≡ spotFault s i
     spot-clear q o = rw (lt-ltb i 8 h, kept (inCorners (getD s i blankSpot)) (getD s i blankSpot) q (ap meantSpot (sym o) ∙ e) .0)
-
-  -- a spot whose x and y are at most the greatest
-  pub no-fault : i < 8 → getD s i blankSpot .x ≤ 1024 → getD s i blankSpot .y ≤ 1024 → 0 ≡ spotFault s i
-  no-fault h x y = rw (lt-ltb i 8 h, le-leb 0 (getD s i blankSpot .x) zero-le, le-leb (getD s i blankSpot .x) 1024 x, le-leb 0 (getD s i blankSpot .y) zero-le, le-leb (getD s i blankSpot .y) 1024 y)

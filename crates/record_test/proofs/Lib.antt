@@ -1,3 +1,4 @@
 pub mod Faults
 pub mod SpotsRead
 pub mod LinesRead
+pub mod InRange

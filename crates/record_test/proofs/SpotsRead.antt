@@ -30,7 +30,7 @@ use Rattle.record.proofs.ItemsRun.{lines-run}
 use Rattle.record_test.specs.Parts.{inCorners, spotFault, linesRead}
 
 -- the word of the line before macro i + 1
-abbrev lastOf : ℕ → Last RecordWord
+abbrev pub lastOf : ℕ → Last RecordWord
 lastOf zero = after word.Least
 lastOf (suc i) = after word.At
 
@@ -39,13 +39,13 @@ unfolding isIn same
 at-follows zero = refl
 at-follows (suc i) = refl
 
-done-follows : (i : ℕ) → isIn recordWords word.Done (followers (lastOf i)) ≡ true
+pub done-follows : (i : ℕ) → isIn recordWords word.Done (followers (lastOf i)) ≡ true
 unfolding isIn same
 done-follows zero = refl
 done-follows (suc i) = refl
 
 -- what a fault found leads to; 0 is none
-abbrev stepBy : ℕ → Part → Step Part
+abbrev pub stepBy : ℕ → Part → Step Part
 stepBy zero s = next s
 stepBy (suc n) s = fault (suc n)
 
@@ -54,17 +54,17 @@ foundBy zero line more = more
 foundBy (suc n) line more = refused (suc n) line
 
 -- the range test that a macro in turn leaves open
-abbrev spotTests : Spot → ℕ
+abbrev pub spotTests : Spot → ℕ
 spotTests p = need (inCorners p) 4 0
 
 module _ (wl i : ℕ) (ps : List Spot) (p : Spot) (l : length ps ≡ i) where
-  abbrev before : Part
+  abbrev pub before : Part
   before = record { last = lastOf i; result = least wl ps }
 
-  abbrev next-part : Part
+  abbrev pub next-part : Part
   next-part = record { last = after word.At; result = least wl (ps ++ (p ∷ [])) }
 
-  spot-step : i < 8 → itemStep recordKind before (atItem (suc i) p) ≡ stepBy (spotTests p) next-part
+  pub spot-step : i < 8 → itemStep recordKind before (atItem (suc i) p) ≡ stepBy (spotTests p) next-part
   unfolding itemStep judged
   spot-step h =
       rw (at-follows i, l, lt-ltb i 8 h, le-leb 1 (suc i) (omega arith), le-leb 0 (p .x) (omega arith), le-leb 0 (p .y) (omega arith))
