@@ -1,4 +1,3 @@
 pub mod Tables
 pub mod Runs
-pub mod Items
 pub mod Chips

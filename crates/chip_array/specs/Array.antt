@@ -51,16 +51,16 @@ abbrev pub fixIn : List ℕ → ℕ → Fix
 fixIn s i = record { x = num s (fixesAt + 4 * i); y = num s (fixesAt + 4 * i + 1); w = num s (fixesAt + 4 * i + 2); h = num s (fixesAt + 4 * i + 3) }
 
 -- all items of each kind
-unfoldable pub macsIn : List ℕ → List Mac
+abbrev pub macsIn : List ℕ → List Mac
 macsIn s = tabulate (macIn s) mostMacs
 
-unfoldable pub netsIn : List ℕ → List HeldNet
+abbrev pub netsIn : List ℕ → List HeldNet
 netsIn s = tabulate (netIn s) mostNets
 
-unfoldable pub pinsIn : List ℕ → List HeldPin
+abbrev pub pinsIn : List ℕ → List HeldPin
 pinsIn s = tabulate (pinIn s) mostPins
 
-unfoldable pub fixesIn : List ℕ → List Fix
+abbrev pub fixesIn : List ℕ → List Fix
 fixesIn s = tabulate (fixIn s) mostFixes
 
 abbrev pub dieIn : List ℕ → Die

@@ -8,6 +8,8 @@ use model::Net;
 use model::Pin;
 ghost use mathlib.Core.Path.{_≡_};
 ghost use mathlib.Core.List.{flatMap};
+ghost use Prim.Native.Nat.{_+_, _≤_};
+ghost use lib.ListN.{take};
 ghost use lib.Seq.{sets};
 ghost use Rattle.chip_array.specs.Array.{macsAt, netsAt, pinsAt, fixesAt, macNumbers, netNumbers, pinNumbers, fixNumbers};
 ghost use Rattle.chip_array.specs.Array.{macsIn, netsIn, pinsIn, fixesIn, chipIn};
@@ -24,6 +26,18 @@ const PINS: usize = NETS + 2 * Net::COUNT;
 
 const FIXES: usize = PINS + 3 * Pin::COUNT;
 
+// The first w of four numbers, from place p on.
+fn put(v: [u64; 4], w: usize, p: usize, cs: &mut [u64; CELLS])
+    requires { ⌜ (w ≤ 4) × (p + w ≤ 640) ⌝ }
+    ensures { λ _. ⌜ now (cs .exit) ≡ sets (now (cs .entry)) p (take w v) ⌝ }
+{
+    let mut q: usize = 0;
+    while q < w {
+        cs[p + q] = v[q];
+        q += 1;
+    }
+}
+
 // The numbers of each macro, at its place.
 fn put_macs(macs: [Mac; Mac::COUNT], cs: &mut [u64; CELLS])
     ensures { λ _. ⌜ now (cs .exit) ≡ sets (now (cs .entry)) macsAt (flatMap macNumbers macs) ⌝ }
@@ -31,9 +45,7 @@ fn put_macs(macs: [Mac; Mac::COUNT], cs: &mut [u64; CELLS])
     let mut i: usize = 0;
     while i < Mac::COUNT {
         let m = macs[i];
-        let p = MACS + 2 * i;
-        cs[p] = m.w;
-        cs[p + 1] = m.h;
+        put([m.w, m.h, 0, 0], 2, MACS + 2 * i, cs);
         i += 1;
     }
 }
@@ -45,9 +57,7 @@ fn put_nets(nets: [Net; Net::COUNT], cs: &mut [u64; CELLS])
     let mut i: usize = 0;
     while i < Net::COUNT {
         let t = nets[i];
-        let p = NETS + 2 * i;
-        cs[p] = t.weight;
-        cs[p + 1] = t.pins as u64;
+        put([t.weight, t.pins as u64, 0, 0], 2, NETS + 2 * i, cs);
         i += 1;
     }
 }
@@ -59,10 +69,7 @@ fn put_pins(pins: [Pin; Pin::COUNT], cs: &mut [u64; CELLS])
     let mut i: usize = 0;
     while i < Pin::COUNT {
         let q = pins[i];
-        let p = PINS + 3 * i;
-        cs[p] = q.m as u64;
-        cs[p + 1] = q.xup;
-        cs[p + 2] = q.yup;
+        put([q.m as u64, q.xup, q.yup, 0], 3, PINS + 3 * i, cs);
         i += 1;
     }
 }
@@ -74,11 +81,7 @@ fn put_fixes(fixes: [Fix; Fix::COUNT], cs: &mut [u64; CELLS])
     let mut i: usize = 0;
     while i < Fix::COUNT {
         let f = fixes[i];
-        let p = FIXES + 4 * i;
-        cs[p] = f.x;
-        cs[p + 1] = f.y;
-        cs[p + 2] = f.w;
-        cs[p + 3] = f.h;
+        put([f.x, f.y, f.w, f.h], 4, FIXES + 4 * i, cs);
         i += 1;
     }
 }
