@@ -1,3 +1,2 @@
 pub mod Tables
-pub mod Runs
-pub mod Chips
+pub mod Read

@@ -69,18 +69,3 @@ dieIn s = record { w = num s 3; h = num s 4 }
 -- the chip
 unfoldable pub chipIn : List ℕ → HeldChip
 chipIn s = record { die = dieIn s; k = num s 0; fixes = fixesIn s; n = num s 1; macs = macsIn s; t = num s 2; nets = netsIn s; pins = pinsIn s }
-
--- ---- writing
-
--- the numbers of an item
-abbrev pub macNumbers : Mac → List ℕ
-macNumbers m = m .w ∷ m .h ∷ []
-
-abbrev pub netNumbers : HeldNet → List ℕ
-netNumbers t = t .weight ∷ t .pins ∷ []
-
-abbrev pub pinNumbers : HeldPin → List ℕ
-pinNumbers p = p .m ∷ p .xup ∷ p .yup ∷ []
-
-abbrev pub fixNumbers : Fix → List ℕ
-fixNumbers f = f .x ∷ f .y ∷ f .w ∷ f .h ∷ []

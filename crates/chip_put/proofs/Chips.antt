@@ -1,4 +1,4 @@
--- The whole chip: read from the array, and read back from the array that it is stored in.
+-- The whole chip is read back from the array that it is stored in.
 use Prim.Native.Nat.{ℕ, _+_, _<_}
 use mathlib.Core.Path.{_≡_, refl, ap, _∙_}
 use mathlib.Core.List.{List, [], _∷_, flatMap}
@@ -13,22 +13,10 @@ use Rattle.model.specs.declared.Chip.{Chip as HeldChip}
 use Rattle.model.specs.Meaning.{blankFix, blankMac, blankNet, blankPin}
 use Rattle.model.specs.Limits.{mostFixes, mostMacs, mostNets, mostPins}
 use Rattle.chip.proofs.Passing.{Whole}
-use Rattle.chip_array.specs.Array.{macsAt, netsAt, pinsAt, fixesAt, macNumbers, netNumbers, pinNumbers, fixNumbers}
+use Rattle.chip_array.specs.Array.{macsAt, netsAt, pinsAt, fixesAt}
 use Rattle.chip_array.specs.Array.{num, dieIn, macIn, netIn, pinIn, fixIn, macsIn, netsIn, pinsIn, fixesIn, chipIn}
-use Rattle.chip_array.proofs.Runs.{sets-before, sets-in, items-back}
-
-pub chip-read : (s : List ℕ) (fs : List Fix) (ms : List Mac) (ts : List Net) (ps : List Pin)
-    → fs ≡ fixesIn s → ms ≡ macsIn s → ts ≡ netsIn s → ps ≡ pinsIn s
-    → _≡_ {A = HeldChip} (record { die = dieIn s; k = num s 0; fixes = fs; n = num s 1; macs = ms; t = num s 2; nets = ts; pins = ps }) (chipIn s)
-unfolding chipIn
-chip-read s fs ms ts ps a b c d = rw (a, b, c, d)
-
--- the count of macros
-pub count-read : (s : List ℕ) → num s 1 ≡ chipIn s .n
-unfolding chipIn
-count-read s = refl
-
--- ---- stored and read back
+use Rattle.chip_put.specs.Numbers.{macNumbers, netNumbers, pinNumbers, fixNumbers}
+use Rattle.chip_put.proofs.Runs.{sets-before, sets-in, items-back}
 
 -- the counts and the die
 abbrev headNumbers : HeldChip → List ℕ

@@ -3,9 +3,9 @@ use mathlib.Core.Path.{_≡_}
 use lib.ListN.{take}
 use lib.Seq.{sets}
 use borrow.Author.Needs.{needs}
-use Rattle.chip_array.proofs.Runs.{put-more, put-all}
-use Rattle.chip_array.proofs.put.Statement.{statement}
-use Rattle.chip_array.proofs.put.Tie as tie
+use Rattle.chip_put.proofs.Runs.{put-more, put-all}
+use Rattle.chip_put.proofs.put.Statement.{statement}
+use Rattle.chip_put.proofs.put.Tie as tie
 
 abbrev Inv-loop : tie.InvT-loop
 Inv-loop w p cs₀ v q₀ cs q = (q ≤ w) × (cs ≡ sets cs₀ p (take q v))

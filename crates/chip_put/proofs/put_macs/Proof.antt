@@ -4,26 +4,27 @@ use mathlib.Core.Path.{_≡_}
 use mathlib.Core.List.{flatMap}
 use lib.ListN.{take}
 use lib.Seq.{sets}
-use Rattle.model.specs.Limits.{mostFixes}
-use Rattle.chip_array.specs.Array.{fixesAt, fixNumbers}
-use Rattle.chip_array.proofs.Runs.{items-none, items-more, items-all}
-use Rattle.chip_array.proofs.put_fixes.Statement.{statement}
-use Rattle.chip_array.proofs.put_fixes.Tie as tie
+use Rattle.model.specs.Limits.{mostMacs}
+use Rattle.chip_array.specs.Array.{macsAt}
+use Rattle.chip_put.specs.Numbers.{macNumbers}
+use Rattle.chip_put.proofs.Runs.{items-none, items-more, items-all}
+use Rattle.chip_put.proofs.put_macs.Statement.{statement}
+use Rattle.chip_put.proofs.put_macs.Tie as tie
 
 abbrev Inv-loop : tie.InvT-loop
-Inv-loop cs₀ fixes i₀ cs i = (i ≤ mostFixes) × (cs ≡ sets cs₀ fixesAt (flatMap fixNumbers (take i fixes)))
+Inv-loop cs₀ macs i₀ cs i = (i ≤ mostMacs) × (cs ≡ sets cs₀ macsAt (flatMap macNumbers (take i macs)))
 
 abbrev μ-loop : tie.MeasureT-loop
-μ-loop cs₀ fixes i₀ cs i = mostFixes - i
+μ-loop cs₀ macs i₀ cs i = mostMacs - i
 
 loop-holds : tie.Need-loop-holds Inv-loop μ-loop
 loop-holds c = (search needs, search items-none)
 
-mul-f : tie.Need-mul-f Inv-loop μ-loop
-mul-f c = search needs
+mul-m : tie.Need-mul-m Inv-loop μ-loop
+mul-m c = search needs
 
-array-copy-out-f : tie.Need-array-copy-out-f Inv-loop μ-loop
-array-copy-out-f c = search needs
+array-copy-out-m : tie.Need-array-copy-out-m Inv-loop μ-loop
+array-copy-out-m c = search needs
 
 mul-put : tie.Need-mul-put Inv-loop μ-loop
 mul-put c = search needs
@@ -46,15 +47,15 @@ loop-again c = (search needs, search (needs, items-more))
 returns : tie.Need-returns Inv-loop μ-loop
 returns c = search (needs, items-all)
 
-pub put-fixes-spec : {M : Type 1} → statement M
-put-fixes-spec =
+pub put-macs-spec : {M : Type 1} → statement M
+put-macs-spec =
     tie.close
     (tie.spec
     Inv-loop
     μ-loop
     loop-holds
-    mul-f
-    array-copy-out-f
+    mul-m
+    array-copy-out-m
     mul-put
     add-put
     put-requires
