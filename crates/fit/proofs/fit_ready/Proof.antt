@@ -13,10 +13,7 @@ put-slots-requires : tie.Need-put-slots-requires
 put-slots-requires c κs = search needs
 
 answer-of-requires : tie.Need-answer-of-requires
-answer-of-requires c κs =
-    let b = c .before .before .before .before in
-    let r = b .before .before .before .before .pre in
-    (r .asking, (direction-told _ _ _ _ r _ _ _ _ (b .before .solve-on .ensures), direction-told _ _ _ _ r _ _ _ _ (b .solve-on2 .ensures)))
+answer-of-requires c κs = (search needs, (search direction-told, search direction-told))
 
 same-length : tie.Need-same-length
 same-length c = search needs
