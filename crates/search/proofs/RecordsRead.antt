@@ -5,23 +5,24 @@ use mathlib.Core.Path.{_≡_, refl, sym, ap, _∙_}
 use mathlib.Core.List.{List, [], _∷_, _++_}
 use native.Mathlib.Numerals.{add-one}
 use native.Mathlib.Omega.{arith}
-use lib.ListN.{length, getD, length-append}
+use lib.ListN.{length, getD}
 use borrow.Author.Tests.{le-leb}
 use Rattle.model.specs.declared.Spot.{Spot}
 use Rattle.model.specs.Meaning.{Chip, Record, none, least, blankSpot, recordOf}
 use Rattle.model.proofs.FirstOf.{getD-first}
 use Rattle.grammar.specs.Reading.{accepted}
 use Rattle.grammar.proofs.Every.{Every}
-use Rattle.grammar.proofs.FieldsText.{ranges}
+use Rattle.grammar.proofs.FieldsText.{judged}
 use Rattle.grammar.proofs.Items.{Within}
 use Rattle.chip.specs.Valid.{Valid}
-use Rattle.chipwriter.proofs.Lengths.{items-short}
-use Rattle.record.specs.Text.{leastItem, noneItem, doneItem, atItem, atItems, recordItems, readRecord, recordRead, recordText}
+use Rattle.record.specs.Text.{doneItem, atItem, atItems, recordItems, readRecord, recordRead, recordText}
 use Rattle.record.proofs.ItemsRun.{lines-run, record-run}
-use Rattle.recordwriter.specs.Parts.{linesRead}
-use Rattle.recordwriter.proofs.Faults.{no-fault}
-use Rattle.recordwriter.proofs.SpotsRead.{LeftFrom, length-passed, spot-passed, all-passed}
-use Rattle.recordwriter.proofs.LinesRead.{none-passed}
+use Rattle.record.specs.Words.{recordWords}
+use Rattle.record.proofs.Short.{within-short}
+use Rattle.record_test.specs.Parts.{linesRead}
+use Rattle.record_test.proofs.Faults.{no-fault}
+use Rattle.record_test.proofs.SpotsRead.{LeftFrom, length-passed, spot-passed, all-passed}
+use Rattle.record_test.proofs.LinesRead.{none-passed}
 use Rattle.placement.specs.Length.{Near}
 use Rattle.placement.specs.Least.{Best, nothing, found, earliestLeast, bestRecord, chipRecord}
 use Rattle.placement.proofs.Demand.{earliest-least-found}
@@ -59,31 +60,24 @@ none-lines = sym (none-passed noRecord refl)
 
 -- ---- the length of the text
 
-at-within : (m : ℕ) (p : Spot) → 1 ≤ m → m ≤ 8 → p .x ≤ 1024 → p .y ≤ 1024 → Within (atItem m p)
-unfolding ranges
+at-within : (m : ℕ) (p : Spot) → 1 ≤ m → m ≤ 8 → p .x ≤ 1024 → p .y ≤ 1024 → Within recordWords (atItem m p)
+unfolding judged
 at-within m p a b x y = rw (le-leb 1 m a, le-leb m 8 b, le-leb 0 (p .x) (omega arith), le-leb (p .x) 1024 x, le-leb 0 (p .y) (omega arith), le-leb (p .y) 1024 y)
 
-spots-within : (m : ℕ) (ps : List Spot) → 1 ≤ m → m + length ps ≤ 9 → Near ps → Every Within (atItems m ps ++ (doneItem ∷ []))
-unfolding atItems ranges
+spots-within : (m : ℕ) (ps : List Spot) → 1 ≤ m → m + length ps ≤ 9 → Near ps → Every (Within recordWords) (atItems m ps ++ (doneItem ∷ []))
+unfolding atItems judged
 spots-within m [] a b near = (refl, tt)
 spots-within m (p ∷ ps) a b near = (at-within m p a (omega arith) (near .x 0 (omega arith)) (near .y 0 (omega arith)), spots-within (suc m) ps (omega arith) (omega arith) (record { x = λ i h. near .x (suc i) (omega arith); y = λ i h. near .y (suc i) (omega arith) }))
 
-spots-count : (m : ℕ) (ps : List Spot) → length (atItems m ps) ≡ length ps
-unfolding atItems
-spots-count m [] = refl
-spots-count m (p ∷ ps) = ap suc (spots-count (suc m) ps)
-
 least-short : (wl : ℕ) (ps : List Spot) → wl ≤ 589824000 → length ps ≤ 8 → Near ps → length (recordText (least wl ps)) ≤ 16384
-unfolding recordText recordItems ranges
+unfolding recordItems judged
 least-short wl ps h few near =
-    let a = items-short (leastItem wl ∷ (atItems 1 ps ++ (doneItem ∷ []))) (rw (le-leb 0 wl (omega arith), le-leb wl 589824000 h) refl, spots-within 1 ps (omega arith) (omega arith) near) in
-    let b = length-append (atItems 1 ps) (doneItem ∷ []) in
-    let d = spots-count 1 ps in
+    let a = within-short (least wl ps) (rw (le-leb 0 wl (omega arith), le-leb wl 589824000 h) refl, spots-within 1 ps (omega arith) (omega arith) near) in
     omega arith
 
 none-short : length (recordText none) ≤ 16384
-unfolding recordText recordItems ranges
-none-short = let a = items-short (noneItem ∷ (doneItem ∷ [])) (refl, (refl, tt)) in omega arith
+unfolding recordItems judged
+none-short = let a = within-short none (refl, (refl, tt)) in omega arith
 
 -- ---- the record
 
