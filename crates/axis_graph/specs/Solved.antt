@@ -51,7 +51,8 @@ pub record Solved (g : Graph) (nets : List Span) (c : ℕ) (x f : List ℕ) : Ty
   pub balance : Balance (tails (g .slots)) (heads (g .slots)) (at f) (atNode (los nets) (weights nets) c) (atNode (his nets) (weights nets) c) (g .m) (g .n)
   pub reaches : weigh (pluses (g .slots)) (at f) (g .m) + lower nets c x ≡ weigh (minuses (g .slots)) (at f) (g .m) + upper nets c x
   pub least : (z : List ℕ) → Holds (g .slots) (g .m) z → upper nets c x + lower nets c z ≤ upper nets c z + lower nets c x
-  pub smallest : (z : List ℕ) → Holds (g .slots) (g .m) z → upper nets c z + lower nets c x ≤ upper nets c x + lower nets c z → (k : ℕ) → Leads g 0 k → at x k + at z 0 ≤ at z k + at x 0
+  pub smallest : (z : List ℕ) → Holds (g .slots) (g .m) z → upper nets c z + lower nets c x ≤ upper nets c x + lower nets c z
+      → (k : ℕ) → Leads g 0 k → at x k + at z 0 ≤ at z k + at x 0
 
 -- a circulation, 0 or 1 on every slot and 0 where nothing is asked, whose pluses outweigh its minuses: no values keep all bounds
 pub record Refuted (g : Graph) (f : List ℕ) : Type 0 where

@@ -33,7 +33,8 @@ pub record Spare (f : List ℕ) (r : ℕ) : Type 0 where
 pub record Carried (g : Graph) (f : List ℕ) (lo hi q : ℕ) (f′ : List ℕ) : Type 0 where
   pub most : (s : ℕ) → at f′ s ≤ at f s + q
   pub idle : (s : ℕ) → tails (g .slots) s ≡ heads (g .slots) s → at f′ s ≡ at f s
-  pub balance : (sup dem : ℕ → ℕ) → Balance (tails (g .slots)) (heads (g .slots)) (at f) sup dem (g .m) (g .n) → Balance (tails (g .slots)) (heads (g .slots)) (at f′) (λ k. sup k + when (eqb lo k) q) (λ k. dem k + when (eqb hi k) q) (g .m) (g .n)
+  pub balance : (sup dem : ℕ → ℕ) → Balance (tails (g .slots)) (heads (g .slots)) (at f) sup dem (g .m) (g .n)
+      → Balance (tails (g .slots)) (heads (g .slots)) (at f′) (λ k. sup k + when (eqb lo k) q) (λ k. dem k + when (eqb hi k) q) (g .m) (g .n)
 
 -- one push of q, above 0 and at most r
 pub record TurnOk (g : Graph) (f : List ℕ) (lo hi r : ℕ) (x′ f′ : List ℕ) (q : ℕ) : Type 0 where

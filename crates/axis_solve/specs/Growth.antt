@@ -16,11 +16,20 @@ use Rattle.axis_graph.specs.Graph.{at, Fine, Small, TightAt, slackAt, Holds, Ti
 
 -- the set of one node
 abbrev pub seedOf : List ℕ → ℕ → ℕ → Growth
-seedOf x start r = record { x = x; rank = set (replicate nodeRoom 0) start 1; parent = replicate nodeRoom 0; room = set (replicate nodeRoom 0) start r; count = 1; start = start }
+seedOf x start r =
+    record {
+      x = x;
+      rank = set (replicate nodeRoom 0) start 1;
+      parent = replicate nodeRoom 0;
+      room = set (replicate nodeRoom 0) start r;
+      count = 1;
+      start = start;
+    }
 
 -- node v joined by slot p, with room q
 abbrev pub joinOf : Growth → List ℕ → ℕ → ℕ → ℕ → Growth
-joinOf w y v p q = record { x = y; rank = set (w .rank) v (w .count + 1); parent = set (w .parent) v p; room = set (w .room) v q; count = w .count + 1; start = w .start }
+joinOf w y v p q =
+    record { x = y; rank = set (w .rank) v (w .count + 1); parent = set (w .parent) v p; room = set (w .room) v q; count = w .count + 1; start = w .start }
 
 -- of the first i slots, the one of least slack that leaves
 pub record Least (ss : List Slot) (m : ℕ) (f x rank : List ℕ) (i best by : ℕ) : Type 0 where

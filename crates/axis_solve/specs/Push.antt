@@ -32,11 +32,13 @@ pub record Walked (g : Graph) (f : List ℕ) (w : Growth) (goal q : ℕ) (h : Li
   pub tight : Tights (g .slots) (g .m) h (w .x)
   pub most : (s : ℕ) → at h s ≤ at f s + q
   pub idle : (s : ℕ) → tails (g .slots) s ≡ heads (g .slots) s → at h s ≡ at f s
-  pub moved : (k : ℕ) → atNode (heads (g .slots)) (at h) (g .m) k + atNode (tails (g .slots)) (at f) (g .m) k + when (eqb c k) q ≡ atNode (tails (g .slots)) (at h) (g .m) k + atNode (heads (g .slots)) (at f) (g .m) k + when (eqb goal k) q
+  pub moved : (k : ℕ) → atNode (heads (g .slots)) (at h) (g .m) k + atNode (tails (g .slots)) (at f) (g .m) k + when (eqb c k) q
+      ≡ atNode (tails (g .slots)) (at h) (g .m) k + atNode (heads (g .slots)) (at f) (g .m) k + when (eqb goal k) q
 
 -- whatever balanced before balances now with q more at the start and at the goal
 pub record Pushed (g : Graph) (f : List ℕ) (w : Growth) (goal q : ℕ) (r : List ℕ) : Type 0 where
   pub tight : Tights (g .slots) (g .m) r (w .x)
   pub most : (s : ℕ) → at r s ≤ at f s + q
   pub idle : (s : ℕ) → tails (g .slots) s ≡ heads (g .slots) s → at r s ≡ at f s
-  pub balance : (sup dem : ℕ → ℕ) → Balance (tails (g .slots)) (heads (g .slots)) (at f) sup dem (g .m) (g .n) → Balance (tails (g .slots)) (heads (g .slots)) (at r) (λ k. sup k + when (eqb (w .start) k) q) (λ k. dem k + when (eqb goal k) q) (g .m) (g .n)
+  pub balance : (sup dem : ℕ → ℕ) → Balance (tails (g .slots)) (heads (g .slots)) (at f) sup dem (g .m) (g .n)
+      → Balance (tails (g .slots)) (heads (g .slots)) (at r) (λ k. sup k + when (eqb (w .start) k) q) (λ k. dem k + when (eqb goal k) q) (g .m) (g .n)

@@ -31,7 +31,8 @@ rankOf way k = at way (128 + k)
 pub record Parent (ss : List Slot) (m : ℕ) (f x way : List ℕ) (k : ℕ) : Type 0 where
   pub slot : parentOf way k < m
   pub tight : TightAt (slotAt ss (parentOf way k)) x
-  pub tied : Tied (slotAt ss (parentOf way k)) k (at f (parentOf way k)) (rankOf way (tails ss (parentOf way k))) (rankOf way (heads ss (parentOf way k))) (rankOf way k)
+  pub tied : Tied (slotAt ss (parentOf way k)) k (at f (parentOf way k))
+      (rankOf way (tails ss (parentOf way k))) (rankOf way (heads ss (parentOf way k))) (rankOf way k)
 
 -- of the first n nodes every one but 0 has a parent
 pub record Rooted (ss : List Slot) (m : ℕ) (f x way : List ℕ) (n : ℕ) : Type 0 where

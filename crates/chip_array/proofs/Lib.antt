@@ -1,4 +1,2 @@
 pub mod Tables
-pub mod Runs
-pub mod Items
-pub mod Chips
+pub mod Read

@@ -43,12 +43,12 @@ module _ {A : Type 0} where
   unfolding tabulate
   filled-none f n s l = record { long = l; are = refl }
 
-  pub filled-more : (f : ℕ → A) (n : ℕ) (s : List A) (i : ℕ) → i < n → Filled f n s i → Filled f n (set s i (f i)) (i + 1)
-  filled-more f n s i h e =
+  pub filled-more : (f : ℕ → A) (n : ℕ) (s : List A) (i : ℕ) (a : A) → i < n → a ≡ f i → Filled f n s i → Filled f n (set s i a) (i + 1)
+  filled-more f n s i a h q e =
       let l = e .long in
       record {
-        long = length-set s i (f i) ∙ l;
-        are = rw add-one (take-suc-set s i (f i) (omega arith) ∙ ap (λ (t : List A). t ++ (f i ∷ [])) (e .are) ∙ sym (tabulate-suc f i));
+        long = length-set s i a ∙ l;
+        are = rw (add-one, q) (take-suc-set s i (f i) (omega arith) ∙ ap (λ (t : List A). t ++ (f i ∷ [])) (e .are) ∙ sym (tabulate-suc f i));
       }
 
   pub filled-all : (f : ℕ → A) (n : ℕ) (s : List A) (i : ℕ) → i ≤ n → n ≤ i → Filled f n s i → s ≡ tabulate f n

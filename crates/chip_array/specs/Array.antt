@@ -51,16 +51,16 @@ abbrev pub fixIn : List ℕ → ℕ → Fix
 fixIn s i = record { x = num s (fixesAt + 4 * i); y = num s (fixesAt + 4 * i + 1); w = num s (fixesAt + 4 * i + 2); h = num s (fixesAt + 4 * i + 3) }
 
 -- all items of each kind
-unfoldable pub macsIn : List ℕ → List Mac
+abbrev pub macsIn : List ℕ → List Mac
 macsIn s = tabulate (macIn s) mostMacs
 
-unfoldable pub netsIn : List ℕ → List HeldNet
+abbrev pub netsIn : List ℕ → List HeldNet
 netsIn s = tabulate (netIn s) mostNets
 
-unfoldable pub pinsIn : List ℕ → List HeldPin
+abbrev pub pinsIn : List ℕ → List HeldPin
 pinsIn s = tabulate (pinIn s) mostPins
 
-unfoldable pub fixesIn : List ℕ → List Fix
+abbrev pub fixesIn : List ℕ → List Fix
 fixesIn s = tabulate (fixIn s) mostFixes
 
 abbrev pub dieIn : List ℕ → Die
@@ -69,18 +69,3 @@ dieIn s = record { w = num s 3; h = num s 4 }
 -- the chip
 unfoldable pub chipIn : List ℕ → HeldChip
 chipIn s = record { die = dieIn s; k = num s 0; fixes = fixesIn s; n = num s 1; macs = macsIn s; t = num s 2; nets = netsIn s; pins = pinsIn s }
-
--- ---- writing
-
--- the numbers of an item
-abbrev pub macNumbers : Mac → List ℕ
-macNumbers m = m .w ∷ m .h ∷ []
-
-abbrev pub netNumbers : HeldNet → List ℕ
-netNumbers t = t .weight ∷ t .pins ∷ []
-
-abbrev pub pinNumbers : HeldPin → List ℕ
-pinNumbers p = p .m ∷ p .xup ∷ p .yup ∷ []
-
-abbrev pub fixNumbers : Fix → List ℕ
-fixNumbers f = f .x ∷ f .y ∷ f .w ∷ f .h ∷ []

@@ -7,102 +7,19 @@ use model::Mac;
 use model::Net;
 use model::Pin;
 ghost use mathlib.Core.Path.{_≡_};
-ghost use mathlib.Core.List.{flatMap};
-ghost use lib.Seq.{sets};
-ghost use Rattle.chip_array.specs.Array.{macsAt, netsAt, pinsAt, fixesAt, macNumbers, netNumbers, pinNumbers, fixNumbers};
 ghost use Rattle.chip_array.specs.Array.{macsIn, netsIn, pinsIn, fixesIn, chipIn};
 
 // How many numbers the array has.
 pub const CELLS: usize = 640;
 
 // Where the first item of each kind begins.
-const MACS: usize = 8;
+pub const MACS: usize = 8;
 
-const NETS: usize = MACS + 2 * Mac::COUNT;
+pub const NETS: usize = MACS + 2 * Mac::COUNT;
 
-const PINS: usize = NETS + 2 * Net::COUNT;
+pub const PINS: usize = NETS + 2 * Net::COUNT;
 
-const FIXES: usize = PINS + 3 * Pin::COUNT;
-
-// The numbers of each macro, at its place.
-fn put_macs(macs: [Mac; Mac::COUNT], cs: &mut [u64; CELLS])
-    ensures { λ _. ⌜ now (cs .exit) ≡ sets (now (cs .entry)) macsAt (flatMap macNumbers macs) ⌝ }
-{
-    let mut i: usize = 0;
-    while i < Mac::COUNT {
-        let m = macs[i];
-        let p = MACS + 2 * i;
-        cs[p] = m.w;
-        cs[p + 1] = m.h;
-        i += 1;
-    }
-}
-
-// The numbers of each net, at its place.
-fn put_nets(nets: [Net; Net::COUNT], cs: &mut [u64; CELLS])
-    ensures { λ _. ⌜ now (cs .exit) ≡ sets (now (cs .entry)) netsAt (flatMap netNumbers nets) ⌝ }
-{
-    let mut i: usize = 0;
-    while i < Net::COUNT {
-        let t = nets[i];
-        let p = NETS + 2 * i;
-        cs[p] = t.weight;
-        cs[p + 1] = t.pins as u64;
-        i += 1;
-    }
-}
-
-// The numbers of each pin, at its place.
-fn put_pins(pins: [Pin; Pin::COUNT], cs: &mut [u64; CELLS])
-    ensures { λ _. ⌜ now (cs .exit) ≡ sets (now (cs .entry)) pinsAt (flatMap pinNumbers pins) ⌝ }
-{
-    let mut i: usize = 0;
-    while i < Pin::COUNT {
-        let q = pins[i];
-        let p = PINS + 3 * i;
-        cs[p] = q.m as u64;
-        cs[p + 1] = q.xup;
-        cs[p + 2] = q.yup;
-        i += 1;
-    }
-}
-
-// The numbers of each fix, at its place.
-fn put_fixes(fixes: [Fix; Fix::COUNT], cs: &mut [u64; CELLS])
-    ensures { λ _. ⌜ now (cs .exit) ≡ sets (now (cs .entry)) fixesAt (flatMap fixNumbers fixes) ⌝ }
-{
-    let mut i: usize = 0;
-    while i < Fix::COUNT {
-        let f = fixes[i];
-        let p = FIXES + 4 * i;
-        cs[p] = f.x;
-        cs[p + 1] = f.y;
-        cs[p + 2] = f.w;
-        cs[p + 3] = f.h;
-        i += 1;
-    }
-}
-
-// The array that stands for a chip.
-pub fn array_of(c: Chip) -> [u64; CELLS]
-    ensures { λ r. ⌜ chipIn r ≡ c ⌝ }
-{
-    let mut cs = [0u64; CELLS];
-    cs[0] = c.k as u64;
-    cs[1] = c.n as u64;
-    cs[2] = c.t as u64;
-    cs[3] = c.die.w;
-    cs[4] = c.die.h;
-    let macs = c.macs;
-    put_macs(macs, &mut cs);
-    let nets = c.nets;
-    put_nets(nets, &mut cs);
-    let pins = c.pins;
-    put_pins(pins, &mut cs);
-    let fixes = c.fixes;
-    put_fixes(fixes, &mut cs);
-    cs
-}
+pub const FIXES: usize = PINS + 3 * Pin::COUNT;
 
 // How many macros the chip has.
 pub fn macro_count(cs: &[u64; CELLS]) -> usize

@@ -3,7 +3,6 @@ use Prim.Native.Nat.{ℕ}
 use mathlib.Core.Path.{_≡_, refl, sym, ap, subst, _∙_}
 use mathlib.Core.Bool.{Bool, true, false, not, true≢false, false≢true}
 use mathlib.Core.List.{List, []}
-use native.Mathlib.Omega.{arith}
 use lib.ListN.{length}
 use borrow.Author.Tests.{not-true, not-false}
 use Rattle.model.specs.declared.Chip.{Chip as HeldChip}
@@ -48,15 +47,15 @@ module _ (c : HeldChip) (s : List ℕ) (d : Direction) (at f : List ℕ) where
 
 -- ---- a chip and letters that pass every test
 
-module _ (c : HeldChip) (s : List ℕ) (m room : ℕ) (ready : Ready c s room m) where
-  pub direction-told : (d : Direction) (v : Verdict) (at f : List ℕ) → Solves c s d v at f → Directed c s d v at f
-  direction-told d v at f o = o .told (taken c s m (ready .asking))
+pub direction-told : (c : HeldChip) (s : List ℕ) (room m : ℕ) → Ready c s room m → (d : Direction) (v : Verdict) (at f : List ℕ) → Solves c s d v at f → Directed c s d v at f
+direction-told c s room m ready d v at f o = o .told (taken c s m (ready .asking))
 
-  pub ready-answered : (v w : Verdict) (ax ay fx fy : List ℕ) → Solves c s horizontal v ax fx → Solves c s vertical w ay fy → (before after : List ℕ) → room ≡ length before → after ≡ slotsPut m v fx w fy before → (r : FitAnswer) → r ≡ answerFor (fitting c s) → Answered c s (fitting c s) r before after
-  ready-answered v w ax ay fx fy a b before after l e r q =
+module _ (c : HeldChip) (s : List ℕ) (m : ℕ) (before : List ℕ) (ready : Ready c s (length before) m) where
+  pub ready-answered : (v w : Verdict) (ax ay fx fy : List ℕ) → Solves c s horizontal v ax fx → Solves c s vertical w ay fy → (after : List ℕ) → after ≡ slotsPut m v fx w fy before → (r : FitAnswer) → r ≡ answerFor (fitting c s) → Answered c s (fitting c s) r before after
+  ready-answered v w ax ay fx fy a b after e r q =
       record {
         answer = q;
-        list = slots-filled c s m (ready .asking) before (let h = ready .enough in omega arith) ax ay fx fy v w (direction-told horizontal v ax fx a) (direction-told vertical w ay fy b) after e;
+        list = slots-filled c s m (ready .asking) before (ready .enough) ax ay fx fy v w (direction-told c s (length before) m ready horizontal v ax fx a) (direction-told c s (length before) m ready vertical w ay fy b) after e;
       }
 
 -- ---- the tests before the fit

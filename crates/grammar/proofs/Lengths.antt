@@ -3,7 +3,6 @@
 use mathlib.Core.Path.{_≡_}
 use mathlib.Core.Bool.{Bool, true, false, _&&_, false≢true}
 use mathlib.Core.List.{List, [], _∷_}
-use Prim.{tt}
 use Prim.Native.Nat.{ℕ, zero, suc, _*_, _/_, _≤_, _<_}
 use native.Mathlib.Omega.{arith}
 use lib.Dec.{leb}
@@ -19,9 +18,9 @@ use Rattle.grammar.specs.Words.{Words, Item, itemText, itemsText}
 use Rattle.grammar.proofs.Lacks.{and-left, and-right}
 use Rattle.grammar.specs.Reading.{Kind, accepted}
 use Rattle.grammar.proofs.Items.{Within, WellFormed, runItems}
-use Rattle.grammar.proofs.Run.{run-keeps}
+use Rattle.grammar.proofs.Run.{run-within}
 use Rattle.grammar.proofs.Values.{Passes, Passing, passing}
-use Rattle.grammar.proofs.Every.{Every, every-append}
+use Rattle.grammar.proofs.Every.{Every}
 
 -- ---- a number
 
@@ -119,6 +118,4 @@ module _ {W : Type 0} (d : Words W) where
 
 -- the text of items that are accepted, of a kind of text whose words are brief
 pub run-short : {W S : Type 0} (k : Kind W S) → ((w : W) → briefWord (k .words) w ≡ true) → (s t : S) (n : ℕ) (is : List (Item W)) → WellFormed k is → runItems k s n is ≡ accepted t → length (itemsText (k .words) is) ≤ 62 * length is
-run-short k all s t n is f e =
-    items-short (k .words) all is
-    (run-keeps k (λ u js. Every (Within (k .words)) js) (λ u v js i g p q. every-append (Within (k .words)) js (i ∷ []) q (p .within, tt)) s t n [] is f e tt .0)
+run-short k all s t n is f e = items-short (k .words) all is (run-within k s t n is f e)

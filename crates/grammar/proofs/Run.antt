@@ -1,13 +1,16 @@
--- Accepted runs of items, for any kind of text: what a step has passed (`step-passed`), and what every step keeps (`run-keeps`).
+-- Accepted runs of items, for any kind of text: what a step has passed (`step-passed`), what every step keeps (`run-keeps`), and that all values pass
+-- their tests (`run-within`).
 use mathlib.Core.Path.{_≡_, refl, ap, _∙_}
 use mathlib.Core.Bool.{Bool, true, false}
 use mathlib.Core.List.{List, [], _∷_, _++_, append-nil}
+use Prim.{tt}
 use Prim.Native.Nat.{ℕ, suc}
 use lib.Seq.{append-snoc}
 use Rattle.grammar.specs.Line.{Fields, got, faulty}
 use Rattle.grammar.specs.Words.{Item}
 use Rattle.grammar.specs.Reading.{Kind, next, accepted, inPlace, stepFields, ending}
 use Rattle.grammar.proofs.FieldsText.{judged, judged-same}
+use Rattle.grammar.proofs.Every.{Every, every-append}
 use Rattle.grammar.proofs.Items.{Formed, Within, WellFormed, itemStep, runItems, no-fault, no-refusal, word-next, onward-accepted}
 
 module _ {W S : Type 0} (k : Kind W S) where
@@ -37,3 +40,7 @@ module _ {W S : Type 0} (k : Kind W S) where
     run-keeps s s′ n js (i ∷ is) f e p =
         let o = onward-accepted k (itemStep k s i) n (λ t. runItems k t (suc n) is) s′ e in
         rw append-snoc at (run-keeps (o .0) s′ (suc n) (js ++ (i ∷ [])) is (f .1) (o .2) (step s (o .0) js i (f .0) (step-passed s (o .0) i (f .0) (o .1)) p))
+
+  -- the values of items that are accepted pass their tests
+  pub run-within : (s s′ : S) (n : ℕ) (is : List (Item W)) → WellFormed k is → runItems k s n is ≡ accepted s′ → Every (Within (k .words)) is
+  run-within s s′ n is f e = run-keeps (λ t js. Every (Within (k .words)) js) (λ t u js i g p q. every-append (Within (k .words)) js (i ∷ []) q (p .within, tt)) s s′ n [] is f e tt .0

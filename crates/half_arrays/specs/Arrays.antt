@@ -1,4 +1,5 @@
--- What two lent arrays mean, whatever they hold: bounds between the 9 nodes, and nets with their entries, as an axis. Node 0 is the die corner, nodes 1..8 the macros.
+-- What two lent arrays mean, whatever they hold: bounds between the 9 nodes, and nets with their entries, as an axis. Node 0 is the die corner, nodes 1..8
+-- the macros.
 use Prim.Native.Nat.{ℕ, zero, suc, _+_, _/_, _%_, _≤_, _<_}
 use mathlib.Core.List.{List, [], _∷_}
 use mathlib.Core.Bool.{cond}
@@ -62,7 +63,8 @@ pinAt n u = record { node = n; up = u }
 -- the pins of net j: two for each of the first k entries that is on it
 unfoldable pub entryPins : List ℕ → ℕ → ℕ → List AxisPin
 entryPins tab j zero = []
-entryPins tab j (suc k) = cond (eqb (netAt tab k) j) (pinAt (nodeAt tab k) (mostAt tab k) ∷ pinAt (nodeAt tab k) (leastAt tab k) ∷ entryPins tab j k) (entryPins tab j k)
+entryPins tab j (suc k) =
+    cond (eqb (netAt tab k) j) (pinAt (nodeAt tab k) (mostAt tab k) ∷ pinAt (nodeAt tab k) (leastAt tab k) ∷ entryPins tab j k) (entryPins tab j k)
 
 abbrev pub netOn : List ℕ → ℕ → NetOn
 netOn tab j = record { weight = weightAt tab j; pins = entryPins tab j (entryCount tab) }

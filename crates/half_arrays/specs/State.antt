@@ -10,7 +10,9 @@ abbrev pub coordinateAt : List ℕ → ℕ → ℕ → ℕ
 coordinateAt st o k = getD st (o % 4 * 608 + 544 + k % 16) 0 % 8192
 
 unfoldable pub coordinates : List ℕ → ℕ → List ℕ
-coordinates st o = coordinateAt st o 1 ∷ coordinateAt st o 2 ∷ coordinateAt st o 3 ∷ coordinateAt st o 4 ∷ coordinateAt st o 5 ∷ coordinateAt st o 6 ∷ coordinateAt st o 7 ∷ coordinateAt st o 8 ∷ []
+coordinates st o =
+    coordinateAt st o 1 ∷ coordinateAt st o 2 ∷ coordinateAt st o 3 ∷ coordinateAt st o 4
+    ∷ coordinateAt st o 5 ∷ coordinateAt st o 6 ∷ coordinateAt st o 7 ∷ coordinateAt st o 8 ∷ []
 
 -- each number modulo the die's side
 unfoldable pub limited : List ℕ → List ℕ

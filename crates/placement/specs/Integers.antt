@@ -1,4 +1,5 @@
--- Document 01 over the integers: corners are whole numbers, and that x and y are at least 0 is a test of legality, not a type. Widths and heights are sizes, so natural. The laws (proofs/Integers.antt) say that natural corners lose nothing legal.
+-- Document 01 over the integers: corners are whole numbers, and that x and y are at least 0 is a test of legality, not a type. Widths and heights are sizes,
+-- so natural. The laws (proofs/Integers.antt) say that natural corners lose nothing legal.
 use Prim.Native.Nat.{ℕ, zero, suc, _+_, _*_, _≤_}
 use mathlib.Core.Path.{_≡_}
 use mathlib.Core.List.{List, [], _∷_, map}

@@ -1,4 +1,6 @@
--- The earliest least placement. Document 01, "The search and its record": a legal placement is the chip's earliest least one when every other legal placement has at least its wirelength and each other one with the same wirelength comes later in the order. Here it is found by trying every placement in the die in that order and taking the first of least wirelength.
+-- The earliest least placement. Document 01, "The search and its record": a legal placement is the chip's earliest least one when every other legal placement
+-- has at least its wirelength and each other one with the same wirelength comes later in the order. Here it is found by trying every placement in the die in
+-- that order and taking the first of least wirelength.
 use Prim.Native.Nat.{ℕ, zero, suc}
 use mathlib.Core.List.{List, [], _∷_, _++_, map}
 use mathlib.Core.Bool.{Bool, true, false}

@@ -1,4 +1,5 @@
--- When a placement is legal. Document 01, "Legal, and how long": each macro lies in the die, and of each two macros, and of each macro and each fix, one is left of, right of, below or above the other; touching edges are allowed.
+-- When a placement is legal. Document 01, "Legal, and how long": each macro lies in the die, and of each two macros, and of each macro and each fix, one is
+-- left of, right of, below or above the other; touching edges are allowed.
 -- A placement is a list of corners, one for each macro. Corners are natural numbers: legal demands that x and y are at least 0, so no placement is lost.
 use Prim.Native.Nat.{ℕ}
 use mathlib.Core.List.{List, [], _∷_, map}

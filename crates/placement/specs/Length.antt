@@ -1,4 +1,5 @@
--- How long the nets are. Document 01, "Legal, and how long": a net's length is its weight times (greatest x - least x + greatest y - least y) over its pins; the wirelength is the sum.
+-- How long the nets are. Document 01, "Legal, and how long": a net's length is its weight times (greatest x - least x + greatest y - least y) over its pins;
+-- the wirelength is the sum.
 use Prim.Native.Nat.{ℕ, zero, suc, _+_, _*_, _≤_, _<_}
 use mathlib.Core.List.{List, [], _∷_, map}
 use mathlib.Core.Bool.{cond}

@@ -1,4 +1,5 @@
--- Letters on the pairs. Document 01, "The fit": one letter for each pair, macros 1-2, 1-3 .. 2-3 .., then macro 1 with fix 1, 2 .., macro 2 with fix 1 ..; the first of the pair stands L left, R right, B below, A above the second; `.` demands nothing.
+-- Letters on the pairs. Document 01, "The fit": one letter for each pair, macros 1-2, 1-3 .. 2-3 .., then macro 1 with fix 1, 2 .., macro 2 with fix 1 ..;
+-- the first of the pair stands L left, R right, B below, A above the second; `.` demands nothing.
 use mathlib.Core.List.{List, [], _∷_, _++_, map}
 use mathlib.Core.Bool.{Bool, true, false, _&&_}
 use Rattle.model.specs.declared.Spot.{Spot}

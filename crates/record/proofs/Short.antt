@@ -61,7 +61,7 @@ ats-short m (p ∷ ps) e =
     let b = ats-short (suc m) ps (e .1) in
     (omega arith, rw length-append (omega arith))
 
-within-short : (r : Record) → Every (Within recordWords) (recordItems r) → length (recordText r) ≤ 192
+pub within-short : (r : Record) → Every (Within recordWords) (recordItems r) → length (recordText r) ≤ 192
 unfolding recordText recordItems itemsText itemText fieldsText
 within-short none e = omega arith
 within-short (least wl ps) e =

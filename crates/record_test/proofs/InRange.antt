@@ -1,6 +1,5 @@
 -- A record whose numbers are in their ranges is accepted: `least-accepted`, `none-accepted`.
 use mathlib.Core.Path.{_≡_, refl, ap, _∙_}
-use mathlib.Core.Bool.{true}
 use mathlib.Core.List.{List, [], _∷_, _++_, append-assoc, append-nil}
 use Prim.{tt}
 use Prim.Native.Nat.{ℕ, zero, suc, _+_, _≤_, _<_}
@@ -14,33 +13,24 @@ use Rattle.grammar.specs.Reading.{accepted, after}
 use Rattle.grammar.proofs.FieldsText.{judged}
 use Rattle.grammar.proofs.Every.{Every}
 use Rattle.grammar.proofs.Items.{itemStep, runItems}
-use Rattle.grammar.proofs.Lengths.{brief, briefWord, run-short}
-use Rattle.record.specs.declared.RecordWord.{RecordWord}
+use Rattle.grammar.proofs.Run.{run-within}
 use Rattle.record.specs.declared.RecordWord.the-variants as word
-use Rattle.record.specs.Words.{recordWords}
 use Rattle.record.specs.Kind.{Part, start, recordKind}
-use Rattle.record.specs.Text.{doneItem, atItem, atItems, recordItems, recordRead, readRecord, recordText}
+use Rattle.record.specs.Text.{doneItem, atItems, recordItems, recordRead, readRecord, recordText}
 use Rattle.record.proofs.ItemsRun.{items-formed, record-run}
-use Rattle.record_test.proofs.SpotsRead.{lastOf, done-follows, stepBy, spotTests, before, spot-step}
-
-each-brief : (w : RecordWord) → briefWord recordWords w ≡ true
-unfolding brief
-each-brief word.Least = refl
-each-brief word.None = refl
-each-brief word.At = refl
-each-brief word.Done = refl
+use Rattle.record.proofs.Short.{within-short}
+use Rattle.record_test.proofs.SpotsRead.{lastOf, done-follows, spotTests, spot-step}
 
 abbrev ended : Record → Part
 ended r = record { last = after word.Done; result = r }
 
--- a record whose lines are accepted, of at most 16 lines
-read-as : (r : Record) → length (recordItems r) ≤ 16 → runItems recordKind start 1 (recordItems r) ≡ accepted (ended r) → readRecord (recordText r) ≡ accepted r
-unfolding recordText
-read-as r h e = let l = run-short recordKind each-brief start (ended r) 1 (recordItems r) (items-formed r) e in record-run r (omega arith) ∙ ap recordRead e
+-- a record whose lines are accepted: its text is not too long
+read-as : (r : Record) → runItems recordKind start 1 (recordItems r) ≡ accepted (ended r) → readRecord (recordText r) ≡ accepted r
+read-as r e = let l = within-short r (run-within recordKind start (ended r) 1 (recordItems r) (items-formed r) e) in record-run r (omega arith) ∙ ap recordRead e
 
 pub none-accepted : readRecord (recordText none) ≡ accepted none
 unfolding recordItems runItems itemStep isIn same judged
-none-accepted = read-as none (omega arith) refl
+none-accepted = read-as none refl
 
 -- ---- macros
 
@@ -63,19 +53,10 @@ spots-read wl i n qs (p ∷ ps) l h a =
     rw (spot-step wl i qs p l (omega arith), tests-pass p (a .0))
     (rw append-assoc at (spots-read wl (suc i) (suc n) (qs ++ (p ∷ [])) ps (rw length-append (omega arith)) (omega arith) (a .1)))
 
-spots-count : (m : ℕ) (ps : List Spot) → length (atItems m ps) ≡ length ps
-unfolding atItems
-spots-count m [] = refl
-spots-count m (p ∷ ps) = ap suc (spots-count (suc m) ps)
-
 module _ (wl : ℕ) (ps : List Spot) (short : wl ≤ 589824000) (few : length ps ≤ 8) where
-  few-lines : length (recordItems (least wl ps)) ≤ 16
-  unfolding recordItems
-  few-lines = let c = spots-count 1 ps in rw length-append (omega arith)
-
   lines-read : Every Low ps → runItems recordKind start 1 (recordItems (least wl ps)) ≡ accepted (ended (least wl ps))
   unfolding recordItems runItems itemStep isIn same judged
   lines-read a = rw (le-leb 0 wl (omega arith), le-leb wl 589824000 short) (spots-read wl 0 2 [] ps refl (omega arith) a)
 
   pub least-accepted : ((i : ℕ) → i < length ps → (getD ps i blankSpot .x ≤ 1024) × (getD ps i blankSpot .y ≤ 1024)) → readRecord (recordText (least wl ps)) ≡ accepted (least wl ps)
-  least-accepted near = read-as (least wl ps) few-lines (lines-read (low-all ps near))
+  least-accepted near = read-as (least wl ps) (lines-read (low-all ps near))

@@ -45,7 +45,7 @@ done-follows zero = refl
 done-follows (suc i) = refl
 
 -- what a fault found leads to; 0 is none
-abbrev pub stepBy : ℕ → Part → Step Part
+abbrev stepBy : ℕ → Part → Step Part
 stepBy zero s = next s
 stepBy (suc n) s = fault (suc n)
 
@@ -58,10 +58,10 @@ abbrev pub spotTests : Spot → ℕ
 spotTests p = need (inCorners p) 4 0
 
 module _ (wl i : ℕ) (ps : List Spot) (p : Spot) (l : length ps ≡ i) where
-  abbrev pub before : Part
+  abbrev before : Part
   before = record { last = lastOf i; result = least wl ps }
 
-  abbrev pub next-part : Part
+  abbrev next-part : Part
   next-part = record { last = after word.At; result = least wl (ps ++ (p ∷ [])) }
 
   pub spot-step : i < 8 → itemStep recordKind before (atItem (suc i) p) ≡ stepBy (spotTests p) next-part

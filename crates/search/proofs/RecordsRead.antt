@@ -1,5 +1,4 @@
 -- The record of a valid chip is accepted when it is read: at most 8 macros, each at 0..1,024, and a wirelength of at most 589,824,000.
-use Prim.Native.Nat.{ℕ, _≤_, _<_}
 use mathlib.Core.Path.{_≡_, refl}
 use native.Mathlib.Omega.{arith}
 use Rattle.model.specs.Meaning.{Chip}

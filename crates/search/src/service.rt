@@ -3,7 +3,7 @@ use crate::branch::search;
 use crate::root::first_fit;
 use crate::root::root;
 use crate::weights::all_weights;
-use chip_array::array_of;
+use chip_put::array_of;
 use chipreader::ChipAnswer;
 use half_fit::HELP;
 use half_fit::POOL;

@@ -1,5 +1,5 @@
 use borrow.Author.Needs.{needs}
-use Rattle.chip_array.proofs.Chips.{chip-read}
+use Rattle.chip_array.proofs.Read.{chip-read}
 use Rattle.chip_array.proofs.chip_in.Statement.{statement}
 use Rattle.chip_array.proofs.chip_in.Tie as tie
 

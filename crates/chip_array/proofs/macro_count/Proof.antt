@@ -1,4 +1,4 @@
-use Rattle.chip_array.proofs.Chips.{count-read}
+use Rattle.chip_array.proofs.Read.{count-read}
 use borrow.Author.Needs.{needs}
 use Rattle.chip_array.proofs.macro_count.Statement.{statement}
 use Rattle.chip_array.proofs.macro_count.Tie as tie

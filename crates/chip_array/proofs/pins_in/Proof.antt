@@ -2,8 +2,7 @@ use borrow.Author.Needs.{needs}
 use Prim.Native.Nat.{_-_, _≤_}
 use Rattle.model.specs.Limits.{mostPins}
 use Rattle.chip_array.specs.Array.{pinIn}
-use Rattle.chip_array.proofs.Tables.{Filled, filled-none}
-use Rattle.chip_array.proofs.Items.{pins-filled, pins-all}
+use Rattle.chip_array.proofs.Tables.{Filled, filled-none, filled-more, filled-all}
 use Rattle.chip_array.proofs.pins_in.Statement.{statement}
 use Rattle.chip_array.proofs.pins_in.Tie as tie
 
@@ -59,10 +58,10 @@ loop-less : tie.Need-loop-less Inv-loop μ-loop
 loop-less c = search needs
 
 loop-again : tie.Need-loop-again Inv-loop μ-loop
-loop-again c = (search needs, search (needs, pins-filled))
+loop-again c = (search needs, search (needs, filled-more))
 
 returns : tie.Need-returns Inv-loop μ-loop
-returns c = search (needs, pins-all)
+returns c = search (needs, filled-all)
 
 pub pins-in-spec : {M : Type 1} → statement M
 pins-in-spec =

@@ -19,7 +19,7 @@ same-length : tie.Need-same-length
 same-length c = search needs
 
 returns : tie.Need-returns
-returns c = search (needs, ready-answered)
+returns c = search ready-answered
 
 pub fit-ready-spec : {M : Type 1} → statement M
 fit-ready-spec =

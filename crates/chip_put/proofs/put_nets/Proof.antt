@@ -5,11 +5,11 @@ use mathlib.Core.List.{flatMap}
 use lib.ListN.{take}
 use lib.Seq.{sets}
 use Rattle.model.specs.Limits.{mostNets}
-use Rattle.chip_array.specs.Array.{netsAt, netNumbers}
-use Rattle.chip_array.proofs.Runs.{items-none, items-all}
-use Rattle.chip_array.proofs.Items.{nets-more}
-use Rattle.chip_array.proofs.put_nets.Statement.{statement}
-use Rattle.chip_array.proofs.put_nets.Tie as tie
+use Rattle.chip_array.specs.Array.{netsAt}
+use Rattle.chip_put.specs.Numbers.{netNumbers}
+use Rattle.chip_put.proofs.Runs.{items-none, items-more, items-all}
+use Rattle.chip_put.proofs.put_nets.Statement.{statement}
+use Rattle.chip_put.proofs.put_nets.Tie as tie
 
 abbrev Inv-loop : tie.InvT-loop
 Inv-loop cs₀ nets i₀ cs i = (i ≤ mostNets) × (cs ≡ sets cs₀ netsAt (flatMap netNumbers (take i nets)))
@@ -26,26 +26,14 @@ mul-t c = search needs
 array-copy-out-t : tie.Need-array-copy-out-t Inv-loop μ-loop
 array-copy-out-t c = search needs
 
-mul-p : tie.Need-mul-p Inv-loop μ-loop
-mul-p c = search needs
+mul-put : tie.Need-mul-put Inv-loop μ-loop
+mul-put c = search needs
 
-add-p : tie.Need-add-p Inv-loop μ-loop
-add-p c = search needs
+add-put : tie.Need-add-put Inv-loop μ-loop
+add-put c = search needs
 
-mul-cs : tie.Need-mul-cs Inv-loop μ-loop
-mul-cs c = search needs
-
-element-write-cs : tie.Need-element-write-cs Inv-loop μ-loop
-element-write-cs c = search needs
-
-add-cs : tie.Need-add-cs Inv-loop μ-loop
-add-cs c = search needs
-
-mul-cs-2 : tie.Need-mul-cs-2 Inv-loop μ-loop
-mul-cs-2 c = search needs
-
-element-write-cs-2 : tie.Need-element-write-cs-2 Inv-loop μ-loop
-element-write-cs-2 c = search needs
+put-requires : tie.Need-put-requires Inv-loop μ-loop
+put-requires c κs = search needs
 
 add-i : tie.Need-add-i Inv-loop μ-loop
 add-i c = search needs
@@ -54,7 +42,7 @@ loop-less : tie.Need-loop-less Inv-loop μ-loop
 loop-less c = search needs
 
 loop-again : tie.Need-loop-again Inv-loop μ-loop
-loop-again c = (search needs, search (needs, nets-more))
+loop-again c = (search needs, search (needs, items-more))
 
 returns : tie.Need-returns Inv-loop μ-loop
 returns c = search (needs, items-all)
@@ -68,13 +56,9 @@ put-nets-spec =
     loop-holds
     mul-t
     array-copy-out-t
-    mul-p
-    add-p
-    mul-cs
-    element-write-cs
-    add-cs
-    mul-cs-2
-    element-write-cs-2
+    mul-put
+    add-put
+    put-requires
     add-i
     loop-less
     loop-again

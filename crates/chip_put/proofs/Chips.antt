@@ -1,4 +1,4 @@
--- The whole chip: read from the array, and read back from the array that it is stored in.
+-- The whole chip is read back from the array that it is stored in.
 use Prim.Native.Nat.{ℕ, _+_, _<_}
 use mathlib.Core.Path.{_≡_, refl, ap, _∙_}
 use mathlib.Core.List.{List, [], _∷_, flatMap}
@@ -11,24 +11,12 @@ use Rattle.model.specs.declared.Net.{Net}
 use Rattle.model.specs.declared.Pin.{Pin}
 use Rattle.model.specs.declared.Chip.{Chip as HeldChip}
 use Rattle.model.specs.Meaning.{blankFix, blankMac, blankNet, blankPin}
+use Rattle.model.specs.Limits.{mostFixes, mostMacs, mostNets, mostPins}
 use Rattle.chip.proofs.Passing.{Whole}
-use Rattle.chip_array.specs.Array.{macsAt, netsAt, pinsAt, fixesAt, macNumbers, netNumbers, pinNumbers, fixNumbers}
-use Rattle.chip_array.specs.Array.{num, dieIn, macsIn, netsIn, pinsIn, fixesIn, chipIn}
-use Rattle.chip_array.proofs.Runs.{sets-before, sets-in, stand-put}
-use Rattle.chip_array.proofs.Items.{macs-back, nets-back, pins-back, fixes-back}
-
-pub chip-read : (s : List ℕ) (fs : List Fix) (ms : List Mac) (ts : List Net) (ps : List Pin)
-    → fs ≡ fixesIn s → ms ≡ macsIn s → ts ≡ netsIn s → ps ≡ pinsIn s
-    → _≡_ {A = HeldChip} (record { die = dieIn s; k = num s 0; fixes = fs; n = num s 1; macs = ms; t = num s 2; nets = ts; pins = ps }) (chipIn s)
-unfolding chipIn
-chip-read s fs ms ts ps a b c d = rw (a, b, c, d)
-
--- the count of macros
-pub count-read : (s : List ℕ) → num s 1 ≡ chipIn s .n
-unfolding chipIn
-count-read s = refl
-
--- ---- stored and read back
+use Rattle.chip_array.specs.Array.{macsAt, netsAt, pinsAt, fixesAt}
+use Rattle.chip_array.specs.Array.{num, dieIn, macIn, netIn, pinIn, fixIn, macsIn, netsIn, pinsIn, fixesIn, chipIn}
+use Rattle.chip_put.specs.Numbers.{macNumbers, netNumbers, pinNumbers, fixNumbers}
+use Rattle.chip_put.proofs.Runs.{sets-before, sets-in, items-back}
 
 -- the counts and the die
 abbrev headNumbers : HeldChip → List ℕ
@@ -77,32 +65,20 @@ module _ (z : List ℕ) (long : length z ≡ 640) (c : HeldChip) (whole : Whole 
   after-head j h = after-macs j (omega arith) ∙ sets-before head (flatMap macNumbers (c .macs)) macsAt j h
 
   macs-stand : macsIn withFixes ≡ c .macs
-  macs-stand =
-      let l = whole .macs in
-      let h = head-long in
-      macs-back withFixes (c .macs) l
-      (stand-put macNumbers 2 (λ a. refl) macsAt (c .macs) blankMac head withFixes (omega arith) (λ j b. after-macs j (omega arith)))
+  macs-stand = let h = head-long in items-back macNumbers 2 (λ a. refl) macsAt mostMacs (c .macs) (whole .macs) blankMac head withFixes (omega arith)
+      (λ j b. after-macs j (omega arith)) (macIn withFixes) (omega arith) (λ i a f at. rw (f, at 1 (omega arith)))
 
   nets-stand : netsIn withFixes ≡ c .nets
-  nets-stand =
-      let l = whole .nets in
-      let h = macs-long in
-      nets-back withFixes (c .nets) l
-      (stand-put netNumbers 2 (λ a. refl) netsAt (c .nets) blankNet withMacs withFixes (omega arith) (λ j b. after-nets j (omega arith)))
+  nets-stand = let h = macs-long in items-back netNumbers 2 (λ a. refl) netsAt mostNets (c .nets) (whole .nets) blankNet withMacs withFixes (omega arith)
+      (λ j b. after-nets j (omega arith)) (netIn withFixes) (omega arith) (λ i a f at. rw (f, at 1 (omega arith)))
 
   pins-stand : pinsIn withFixes ≡ c .pins
-  pins-stand =
-      let l = whole .pins in
-      let h = nets-long in
-      pins-back withFixes (c .pins) l
-      (stand-put pinNumbers 3 (λ a. refl) pinsAt (c .pins) blankPin withNets withFixes (omega arith) (λ j b. after-pins j (omega arith)))
+  pins-stand = let h = nets-long in items-back pinNumbers 3 (λ a. refl) pinsAt mostPins (c .pins) (whole .pins) blankPin withNets withFixes (omega arith)
+      (λ j b. after-pins j (omega arith)) (pinIn withFixes) (omega arith) (λ i a f at. rw (f, at 1 (omega arith), at 2 (omega arith)))
 
   fixes-stand : fixesIn withFixes ≡ c .fixes
-  fixes-stand =
-      let l = whole .fixes in
-      let h = pins-long in
-      fixes-back withFixes (c .fixes) l
-      (stand-put fixNumbers 4 (λ a. refl) fixesAt (c .fixes) blankFix withPins withFixes (omega arith) (λ j b. refl))
+  fixes-stand = let h = pins-long in items-back fixNumbers 4 (λ a. refl) fixesAt mostFixes (c .fixes) (whole .fixes) blankFix withPins withFixes (omega arith)
+      (λ j b. refl) (fixIn withFixes) (omega arith) (λ i a f at. rw (f, at 1 (omega arith), at 2 (omega arith), at 3 (omega arith)))
 
   head-stands : (j : ℕ) → j < 5 → num withFixes j ≡ getD (headNumbers c) j 0
   head-stands j h =

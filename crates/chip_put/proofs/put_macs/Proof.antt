@@ -5,11 +5,11 @@ use mathlib.Core.List.{flatMap}
 use lib.ListN.{take}
 use lib.Seq.{sets}
 use Rattle.model.specs.Limits.{mostMacs}
-use Rattle.chip_array.specs.Array.{macsAt, macNumbers}
-use Rattle.chip_array.proofs.Runs.{items-none, items-all}
-use Rattle.chip_array.proofs.Items.{macs-more}
-use Rattle.chip_array.proofs.put_macs.Statement.{statement}
-use Rattle.chip_array.proofs.put_macs.Tie as tie
+use Rattle.chip_array.specs.Array.{macsAt}
+use Rattle.chip_put.specs.Numbers.{macNumbers}
+use Rattle.chip_put.proofs.Runs.{items-none, items-more, items-all}
+use Rattle.chip_put.proofs.put_macs.Statement.{statement}
+use Rattle.chip_put.proofs.put_macs.Tie as tie
 
 abbrev Inv-loop : tie.InvT-loop
 Inv-loop cs₀ macs i₀ cs i = (i ≤ mostMacs) × (cs ≡ sets cs₀ macsAt (flatMap macNumbers (take i macs)))
@@ -26,26 +26,14 @@ mul-m c = search needs
 array-copy-out-m : tie.Need-array-copy-out-m Inv-loop μ-loop
 array-copy-out-m c = search needs
 
-mul-p : tie.Need-mul-p Inv-loop μ-loop
-mul-p c = search needs
+mul-put : tie.Need-mul-put Inv-loop μ-loop
+mul-put c = search needs
 
-add-p : tie.Need-add-p Inv-loop μ-loop
-add-p c = search needs
+add-put : tie.Need-add-put Inv-loop μ-loop
+add-put c = search needs
 
-mul-cs : tie.Need-mul-cs Inv-loop μ-loop
-mul-cs c = search needs
-
-element-write-cs : tie.Need-element-write-cs Inv-loop μ-loop
-element-write-cs c = search needs
-
-add-cs : tie.Need-add-cs Inv-loop μ-loop
-add-cs c = search needs
-
-mul-cs-2 : tie.Need-mul-cs-2 Inv-loop μ-loop
-mul-cs-2 c = search needs
-
-element-write-cs-2 : tie.Need-element-write-cs-2 Inv-loop μ-loop
-element-write-cs-2 c = search needs
+put-requires : tie.Need-put-requires Inv-loop μ-loop
+put-requires c κs = search needs
 
 add-i : tie.Need-add-i Inv-loop μ-loop
 add-i c = search needs
@@ -54,7 +42,7 @@ loop-less : tie.Need-loop-less Inv-loop μ-loop
 loop-less c = search needs
 
 loop-again : tie.Need-loop-again Inv-loop μ-loop
-loop-again c = (search needs, search (needs, macs-more))
+loop-again c = (search needs, search (needs, items-more))
 
 returns : tie.Need-returns Inv-loop μ-loop
 returns c = search (needs, items-all)
@@ -68,13 +56,9 @@ put-macs-spec =
     loop-holds
     mul-m
     array-copy-out-m
-    mul-p
-    add-p
-    mul-cs
-    element-write-cs
-    add-cs
-    mul-cs-2
-    element-write-cs-2
+    mul-put
+    add-put
+    put-requires
     add-i
     loop-less
     loop-again

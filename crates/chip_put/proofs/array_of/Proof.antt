@@ -1,16 +1,16 @@
 use Prim.Native.Nat.{ℕ}
 use lib.ListN.{replicate, length-replicate}
 use Rattle.chip.proofs.Passing.{Whole, whole}
-use Rattle.chip_array.proofs.Chips.{chip-back}
+use Rattle.chip_put.proofs.Chips.{chip-back}
 use borrow.Author.Needs.{needs}
-use Rattle.chip_array.proofs.array_of.Statement.{statement}
-use Rattle.chip_array.proofs.array_of.Tie as tie
-use Rattle.chip_array.proofs.array_of.Reads as reads
-use Rattle.chip_array.proofs.array_of.Lts as lts
-use Rattle.chip_array.proofs.put_fixes.Reads as put-fixes-reads
-use Rattle.chip_array.proofs.put_macs.Reads as put-macs-reads
-use Rattle.chip_array.proofs.put_nets.Reads as put-nets-reads
-use Rattle.chip_array.proofs.put_pins.Reads as put-pins-reads
+use Rattle.chip_put.proofs.array_of.Statement.{statement}
+use Rattle.chip_put.proofs.array_of.Tie as tie
+use Rattle.chip_put.proofs.array_of.Reads as reads
+use Rattle.chip_put.proofs.array_of.Lts as lts
+use Rattle.chip_put.proofs.put_fixes.Reads as put-fixes-reads
+use Rattle.chip_put.proofs.put_macs.Reads as put-macs-reads
+use Rattle.chip_put.proofs.put_nets.Reads as put-nets-reads
+use Rattle.chip_put.proofs.put_pins.Reads as put-pins-reads
 
 -- the chip's arrays are as long as its type says
 shape : (t : lts.Start (put-macs-reads.Asked, put-macs-reads.Learnt, put-nets-reads.Asked, put-nets-reads.Learnt, put-pins-reads.Asked, put-pins-reads.Learnt, put-fixes-reads.Asked, put-fixes-reads.Learnt) reads.Pre reads.Post) → Whole (t .args .c)

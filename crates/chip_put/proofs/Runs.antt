@@ -8,6 +8,8 @@ use native.Mathlib.Omega.{arith}
 use lib.ListN.{length, getD, take, set, length-set, length-append, List·getD-append}
 use lib.Seq.{sets, take-suc, take-all, length-take-le, getD-set-same, getD-set-other, getD-append-add}
 use Rattle.numbers.proofs.Stores.{sets-append}
+use Rattle.chip_array.specs.Array.{tabulate}
+use Rattle.chip_array.proofs.Tables.{tabulate-of}
 
 -- ---- runs of stores
 
@@ -25,19 +27,13 @@ sets-in d (v ∷ vs) a (suc j) h g =
     let l = length-set d a v in
     ap (λ (k : ℕ). getD (sets (set d a v) (suc a) vs) k 0) q ∙ sets-in (set d a v) vs (suc a) j (le-of-suc-le-suc h) (omega arith)
 
--- stores one after the other, as the code makes them
-pub two-stores : (s : List ℕ) (p a b : ℕ) → set (set s p a) (p + 1) b ≡ sets s p (a ∷ b ∷ [])
-two-stores s p a b = rw add-one
+-- numbers stored one by one
+module _ (d s v : List ℕ) (p q : ℕ) (e : s ≡ sets d p (take q v)) where
+  pub put-more : (w : ℕ) → length v ≡ 4 → w ≤ 4 → q < w → set s (p + q) (getD v q 0) ≡ sets d p (take (q + 1) v)
+  put-more w k g h = let l = length-take-le q v (omega arith) in rw (add-one, take-suc v q 0 (omega arith), sets-append, l, e)
 
-pub three-stores : (s : List ℕ) (p a b c : ℕ) → set (set (set s p a) (p + 1) b) (p + 2) c ≡ sets s p (a ∷ b ∷ c ∷ [])
-three-stores s p a b c =
-    let e : p + 2 ≡ suc (suc p) = omega arith in
-    rw (add-one, e)
-
-pub four-stores : (s : List ℕ) (p a b c d : ℕ) → set (set (set (set s p a) (p + 1) b) (p + 2) c) (p + 3) d ≡ sets s p (a ∷ b ∷ c ∷ d ∷ [])
-four-stores s p a b c d =
-    let e : p + 3 ≡ suc (suc (suc p)) = omega arith in
-    rw e (ap (λ (t : List ℕ). set t (suc (suc (suc p))) d) (three-stores s p a b c))
+  pub put-all : (w : ℕ) → q ≤ w → w ≤ q → s ≡ sets d p (take w v)
+  put-all w h g = let k : q ≡ w = omega arith in e ∙ ap (λ (t : ℕ). sets d p (take t v)) k
 
 -- ---- items
 
@@ -90,16 +86,12 @@ module _ {A : Type 0} (numbers : A → List ℕ) (w : ℕ) (wide : (a : A) → l
       ∙ getD-append-add (numbers x) (flatMap numbers xs) (w * i + q) 0 ∙ item-at xs i q z (le-of-suc-le-suc h) g
 
   -- one item more is stored
-  pub items-more : (d s : List ℕ) (at i : ℕ) (xs : List A) (z : A) → i < length xs
-      → s ≡ sets d at (flatMap numbers (take i xs)) → sets s (at + w * i) (numbers (getD xs i z)) ≡ sets d at (flatMap numbers (take (i + 1) xs))
-  items-more d s at i xs z h e =
-      let t = length-take-le i xs (omega arith) in
-      let l : length (flatMap numbers (take i xs)) ≡ w * i = length-items (take i xs) ∙ ap (λ (k : ℕ). w * k) t in
-      rw (add-one, items-suc xs i z h, sets-append, l, e)
-
-  -- the items xs stand in s, the first at place p
-  pub record Stand (p : ℕ) (xs : List A) (z : A) (s : List ℕ) : Type 0 where
-    pub at : (i q : ℕ) → i < length xs → q < w → getD s (p + w * i + q) 0 ≡ getD (numbers (getD xs i z)) q 0
+  pub items-more : (d s t : List ℕ) (at i : ℕ) (xs : List A) (z : A) → i < length xs
+      → s ≡ sets d at (flatMap numbers (take i xs)) → t ≡ sets s (at + w * i) (numbers (getD xs i z)) → t ≡ sets d at (flatMap numbers (take (i + 1) xs))
+  items-more d s t at i xs z h e f =
+      let k = length-take-le i xs (omega arith) in
+      let l : length (flatMap numbers (take i xs)) ≡ w * i = length-items (take i xs) ∙ ap (λ (k : ℕ). w * k) k in
+      rw (f, add-one, items-suc xs i z h, sets-append, l, e)
 
   -- item i ends before the items' end
   item-ends : (n i q : ℕ) → i < n → q < w → w * i + q < w * n
@@ -108,22 +100,20 @@ module _ {A : Type 0} (numbers : A → List ℕ) (w : ℕ) (wide : (a : A) → l
       let e : w * suc i ≡ w * i + w = omega arith in
       omega arith
 
-  -- items stored into d stand in every s that is the same up to their end
-  pub stand-put : (p : ℕ) (xs : List A) (z : A) (d s : List ℕ) → p + w * length xs ≤ length d
-      → ((j : ℕ) → j < p + w * length xs → getD s j 0 ≡ getD (sets d p (flatMap numbers xs)) j 0) → Stand p xs z s
-  stand-put p xs z d s h same = record { at = at }
-    where
-      at : (i q : ℕ) → i < length xs → q < w → getD s (p + w * i + q) 0 ≡ getD (numbers (getD xs i z)) q 0
-      at i q a b =
-          let l = length-items xs in
-          let m = item-ends (length xs) i q a b in
-          let e : p + w * i + q ≡ p + (w * i + q) = omega arith in
-          same (p + w * i + q) (omega arith) ∙ ap (λ (k : ℕ). getD (sets d p (flatMap numbers xs)) k 0) e
-          ∙ sets-in d (flatMap numbers xs) p (w * i + q) (omega arith) (omega arith) ∙ item-at xs i q z a b
+  -- n items stored into d at place p are read from every s that is the same up to their end: `read` makes an item of its numbers
+  module _ (p n : ℕ) (xs : List A) (l : length xs ≡ n) (z : A) (d s : List ℕ) (fit : p + w * n ≤ length d)
+      (same : (j : ℕ) → j < p + w * n → getD s j 0 ≡ getD (sets d p (flatMap numbers xs)) j 0) where
+    number-at : (i q : ℕ) → i < n → q < w → getD s (p + w * i + q) 0 ≡ getD (numbers (getD xs i z)) q 0
+    number-at i q a b =
+        let k = length-items xs ∙ ap (λ (t : ℕ). w * t) l in
+        let m = item-ends n i q a b in
+        let e : p + w * i + q ≡ p + (w * i + q) = omega arith in
+        same (p + w * i + q) (omega arith) ∙ ap (λ (k : ℕ). getD (sets d p (flatMap numbers xs)) k 0) e
+        ∙ sets-in d (flatMap numbers xs) p (w * i + q) (omega arith) (omega arith) ∙ item-at xs i q z (omega arith) b
 
-  -- the first number of item i
-  pub stand-first : (p : ℕ) (xs : List A) (z : A) (s : List ℕ) → Stand p xs z s → (i : ℕ) → i < length xs → 0 < w
-      → getD s (p + w * i) 0 ≡ getD (numbers (getD xs i z)) 0 0
-  stand-first p xs z s t i h g =
-      let e : p + w * i ≡ p + w * i + 0 = omega arith in
-      ap (λ (k : ℕ). getD s k 0) e ∙ t .at i 0 h g
+    pub items-back : (read : ℕ → A) → 0 < w
+        → ((i : ℕ) (a : A) → getD s (p + w * i) 0 ≡ getD (numbers a) 0 0 → ((q : ℕ) → q < w → getD s (p + w * i + q) 0 ≡ getD (numbers a) q 0) → read i ≡ a)
+        → tabulate read n ≡ xs
+    items-back read some is = tabulate-of read n xs z l (λ i h.
+        let e : p + w * i ≡ p + w * i + 0 = omega arith in
+        is i (getD xs i z) (ap (λ (k : ℕ). getD s k 0) e ∙ number-at i 0 h some) (λ q g. number-at i q h g))
