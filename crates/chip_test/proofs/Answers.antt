@@ -9,14 +9,14 @@ use Rattle.model.specs.declared.Refusal.{Refusal}
 use Rattle.model.specs.declared.Tested.{Tested}
 use Rattle.model.specs.declared.Tested.the-variants as tested
 use Rattle.model.specs.declared.Chip.{Chip as HeldChip}
-use Rattle.model.specs.Meaning.{Chip, chipOf}
+use Rattle.model.specs.Meaning.{chipOf}
 use Rattle.decimal.specs.Held.{Wrote}
 use Rattle.grammar.specs.Reading.{accepted, refused}
 use Rattle.grammar.proofs.Lengths.{brief, briefWord, run-short}
 use Rattle.chip.specs.declared.ChipWord.{ChipWord}
 use Rattle.chip.specs.declared.ChipWord.the-variants as word
 use Rattle.chip.specs.Words.{chipWords}
-use Rattle.chip.specs.Kind.{Part, start, chipKind}
+use Rattle.chip.specs.Kind.{start, chipKind}
 use Rattle.chip.specs.Text.{chipRead, readChip, chipItems, chipText}
 use Rattle.chip.proofs.ItemsRun.{items-formed, chip-run}
 use Rattle.chip.proofs.ReadText.{too-long}

@@ -22,16 +22,12 @@ use Rattle.grammar.proofs.Items.{runItems}
 use Rattle.chip.specs.Kind.{Part, start, chipKind}
 use Rattle.chip.specs.Text.{Item, dieItem, fixItem, macItem, pinItem, endItem, netItems, chipItems}
 use Rattle.chipprinter.specs.Items.{weightItem, ArraysOf}
+use Rattle.chipprinter.proofs.Nets.{held-items}
 use Rattle.chip_faults.specs.declared.Row.the-variants as row
 use Rattle.chip_faults.specs.Faults.{netFault, rowFault}
 use Rattle.chip_items.specs.Tests.{rowTested, netsTested, itemsTested}
 use Rattle.chip_test.proofs.Runs.{Run, passes, refuses, run-none, run-item, run-then, too-many, run-many}
 use Rattle.chip_test.proofs.Parts.{Fixes, Macs, Nets, Pins, Ended, die-steps, fix-steps, macs-next, mac-steps, nets-next, net-steps, pin-steps, end-steps, net-next}
-
-pin-items : (ps : List HeldPin) → map pinItem (pinsOf ps) ≡ map (λ p. pinItem (pinOf p)) ps
-unfolding pinsOf
-pin-items [] = refl
-pin-items (p ∷ ps) = ap (λ (is : List Item). pinItem (pinOf p) ∷ is) (pin-items ps)
 
 module _ {P : Part → Type 0} (s : Part) (is : List Item) (r : Tested) where
   line-is : {a b : ℕ} → a ≡ b → Run P s a is r → Run P s b is r
@@ -51,7 +47,7 @@ module _ (c : HeldChip) (ok : ArraysOf c) where
   pins-run : (q j line : ℕ) (s : Part) → q ≤ 128 → Pins n q j 0 s → (count : ℕ) → Run (Pins n q j count) s line (map pinItem (pinsOf (firstOf blankPin count (drop q ps)))) (rowTested c row.Pins q line count)
   pins-run q j line s h p count =
       let l : length (drop q ps) ≡ 128 - q = length-drop q ps ∙ ap (λ (k : ℕ). k - q) (ok .pins) in
-      rw pin-items (line-is s _ _ (omega arith)
+      rw held-items (line-is s _ _ (omega arith)
       (run-many (λ x. pinItem (pinOf x)) blankPin (drop q ps) (Pins n q j) (λ i. rowFault c row.Pins (q + i)) line (λ i t o. (let f = o .few .1 in omega arith)) (pin-steps n ps q j) (rw (le-ltb (q + length (drop q ps)) 128 (omega arith))) count 0 count s (omega arith) p))
 
   pins-length : (q count : ℕ) → q + count ≤ 128 → length (map pinItem (pinsOf (firstOf blankPin count (drop q ps)))) ≡ count

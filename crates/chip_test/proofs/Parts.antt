@@ -26,7 +26,7 @@ use Rattle.chip.specs.Words.{chipWords}
 use Rattle.chip.specs.Kind.{Part, start, followers, pinCount, fixInDie, clearOf, addPin, chipKind}
 use Rattle.chip.specs.Text.{dieItem, fixItem, macItem, pinItem, endItem}
 use Rattle.chipprinter.specs.Items.{weightItem}
-use Rattle.chip_faults.specs.Faults.{isMade, fixMade, macMade, netMade, dieFault, fixFault, macFault, bareBefore, netFault, pinFault}
+use Rattle.chip_faults.specs.Faults.{dieFault, fixFault, macFault, bareBefore, netFault, pinFault}
 use Rattle.chip_test.proofs.Fields.{die-fields, fix-fields, mac-fields, net-fields, pin-fields, end-fields}
 use Rattle.chip_test.proofs.Steps.{Steps, goes, steps-check, item-steps}
 

@@ -39,7 +39,7 @@ drop-least ps q n c l e = by (decLe n c)
     by (yes h) = let i : q ≡ n = omega arith in rw i
     by (no h) = drop-of-length-le ps {i = q} (omega arith) ∙ sym (drop-of-length-le ps {i = n} (omega arith))
 
-held-items : (ps : List HeldPin) → map pinItem (pinsOf ps) ≡ map (λ p. pinItem (pinOf p)) ps
+pub held-items : (ps : List HeldPin) → map pinItem (pinsOf ps) ≡ map (λ p. pinItem (pinOf p)) ps
 unfolding pinsOf
 held-items [] = refl
 held-items (p ∷ ps) = ap (λ (t : List Item). pinItem (pinOf p) ∷ t) (held-items ps)

@@ -1,9 +1,7 @@
 -- The values of an item by its word, in the form of the needs.
-use mathlib.Core.Path.{_≡_, refl}
+use mathlib.Core.Path.{_≡_}
 use mathlib.Core.List.{List, [], _∷_}
 use Prim.Native.Nat.{ℕ}
-use native.Mathlib.Omega.{arith}
-use lib.IntN.{subℕ}
 use lib.ListN.{getD}
 use Rattle.model.specs.declared.Fix.{Fix}
 use Rattle.model.specs.declared.Mac.{Mac}

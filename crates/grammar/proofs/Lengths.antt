@@ -12,7 +12,6 @@ use lib.Signed.{leZ}
 use borrow.Author.Tests.{leb-true}
 use Rattle.decimal.specs.Number.{digits, numberText, allOf}
 use Rattle.decimal.proofs.Digits.{digits-small, digits-large, by-digits}
-use Rattle.model.specs.Limits.{Range, isWithin}
 use Rattle.grammar.specs.Line.{Sort, numbers, strings, Value, number, string, absent, valueText, isOf, Rule, Form, over, one, either, fieldText, fieldsText}
 use Rattle.grammar.specs.Words.{Words, Item, itemText, itemsText}
 use Rattle.grammar.proofs.Lacks.{and-left, and-right}

@@ -2,7 +2,6 @@ use Rattle.record_test.proofs.Faults.{no-room, spot-over, spot-clear}
 use borrow.Author.Needs.{needs}
 use Rattle.record_test.proofs.spot_fault.Statement.{statement}
 use Rattle.record_test.proofs.spot_fault.Tie as tie
-use Rattle.record_test.proofs.spot_fault.Lts as lts
 
 returns : tie.Need-returns
 returns c = search no-room
