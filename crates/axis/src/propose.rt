@@ -45,6 +45,11 @@ const REV: u32 = 65536;
 
 const LO: u32 = 196608;
 
+// The ends of a net, by the part of the table that has its entries' greatest or least places.
+const HI_SIDE: usize = 1;
+
+const LO_SIDE: usize = 2;
+
 // More than any length.
 const ROOM: u64 = 4000000000;
 
@@ -185,75 +190,62 @@ fn put_macros(
     }
 }
 
-// The hi of net j at the greatest place, on the entry there whose node has the lowest rank.
-fn put_hi(
-    tab: &[u32; TAB],
-    picks: &[u32; PICKS],
-    st: &[u32; POOL],
-    lane: usize,
-    base: u64,
-    j: usize,
-    hi: usize,
-    x: &mut [u64; NODE_ROOM],
-    way: &mut [usize; WAYS],
-) {
-    let to = wide(part(tab, 4, j % 64 + 1));
-    let mut e = wide(part(tab, 4, j));
-    let mut at = e;
-    let mut high: u32 = 0;
-    let mut rank = NODES;
-    while e < to {
-        let y = place(tab, st, 1, e);
-        let r = rank_of(st, wide(part(tab, 0, e)));
-        if high < y {
-            high = y;
-            rank = NODES;
-        }
-        if high == y {
-            if r < rank {
-                rank = r;
-                at = e;
-            }
-        }
-        e += 1;
-    }
-    put_value(x, hi, high, base);
-    put_tie(way, hi, hi_slot(picks, lane, at), rank % 16 * 2 + 1);
+// An end of a net: its place, and the entry that it hangs on, with the rank of that entry's node.
+struct End {
+    y: u32,
+    at: usize,
+    rank: usize,
 }
 
-// The lo of net j at the least place, on the entry that carries whose node has the lowest rank.
-fn put_lo(
-    tab: &[u32; TAB],
-    picks: &[u32; PICKS],
-    st: &[u32; POOL],
-    lane: usize,
-    base: u64,
-    j: usize,
-    lo: usize,
-    x: &mut [u64; NODE_ROOM],
-    way: &mut [usize; WAYS],
-) {
+// Below all places of hi, above all of lo.
+fn before_all(side: usize) -> u32 {
+    if side == HI_SIDE {
+        return 0;
+    }
+    FAR
+}
+
+// Whether b is above a, for hi; below it, for lo.
+fn past(side: usize, a: u32, b: u32) -> bool {
+    if side == HI_SIDE {
+        return a < b;
+    }
+    b < a
+}
+
+// Whether an end may hang on entry e: hi on every entry at its place, lo on one that carries.
+fn may_hang(st: &[u32; POOL], side: usize, e: usize) -> bool {
+    if side == HI_SIDE {
+        return true;
+    }
+    0 < get(st, L, e)
+}
+
+// The hi of net j at the greatest place, or its lo at the least, on the entry there whose node has the lowest rank.
+fn net_end(tab: &[u32; TAB], st: &[u32; POOL], side: usize, j: usize) -> End {
     let to = wide(part(tab, 4, j % 64 + 1));
     let mut e = wide(part(tab, 4, j));
     let mut at = e;
-    let mut low = FAR;
+    let mut best = before_all(side);
     let mut rank = NODES;
     while e < to {
-        let y = place(tab, st, 2, e);
+        let y = place(tab, st, side, e);
         let r = rank_of(st, wide(part(tab, 0, e)));
-        if y < low {
-            low = y;
+        if past(side, best, y) {
+            best = y;
+            rank = NODES;
         }
-        if 0 < get(st, L, e) {
-            if r < rank {
-                rank = r;
-                at = e;
+        if best == y {
+            if may_hang(st, side, e) {
+                if r < rank {
+                    rank = r;
+                    at = e;
+                }
             }
         }
         e += 1;
     }
-    put_value(x, lo, low, base);
-    put_tie(way, lo, lo_slot(picks, lane, at), rank % 16 * 2 + 1);
+    End { y: best, at, rank }
 }
 
 // The ends of t nets behind n macros.
@@ -274,8 +266,17 @@ fn put_spans(
             return;
         }
         let hi = n % 16 + 1 + 2 * j;
-        put_hi(tab, picks, st, lane, base, j, hi, x, way);
-        put_lo(tab, picks, st, lane, base, j, hi + 1, x, way);
+        let top = net_end(tab, st, HI_SIDE, j);
+        put_value(x, hi, top.y, base);
+        put_tie(way, hi, hi_slot(picks, lane, top.at), top.rank % 16 * 2 + 1);
+        let low = net_end(tab, st, LO_SIDE, j);
+        put_value(x, hi + 1, low.y, base);
+        put_tie(
+            way,
+            hi + 1,
+            lo_slot(picks, lane, low.at),
+            low.rank % 16 * 2 + 1,
+        );
         j += 1;
     }
 }

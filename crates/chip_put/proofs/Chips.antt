@@ -5,16 +5,12 @@ use mathlib.Core.List.{List, [], _∷_, flatMap}
 use native.Mathlib.Omega.{arith}
 use lib.ListN.{length, getD}
 use lib.Seq.{sets, length-sets}
-use Rattle.model.specs.declared.Fix.{Fix}
-use Rattle.model.specs.declared.Mac.{Mac}
-use Rattle.model.specs.declared.Net.{Net}
-use Rattle.model.specs.declared.Pin.{Pin}
 use Rattle.model.specs.declared.Chip.{Chip as HeldChip}
 use Rattle.model.specs.Meaning.{blankFix, blankMac, blankNet, blankPin}
 use Rattle.model.specs.Limits.{mostFixes, mostMacs, mostNets, mostPins}
 use Rattle.chip.proofs.Passing.{Whole}
 use Rattle.chip_array.specs.Array.{macsAt, netsAt, pinsAt, fixesAt}
-use Rattle.chip_array.specs.Array.{num, dieIn, macIn, netIn, pinIn, fixIn, macsIn, netsIn, pinsIn, fixesIn, chipIn}
+use Rattle.chip_array.specs.Array.{num, macIn, netIn, pinIn, fixIn, macsIn, netsIn, pinsIn, fixesIn, chipIn}
 use Rattle.chip_put.specs.Numbers.{macNumbers, netNumbers, pinNumbers, fixNumbers}
 use Rattle.chip_put.proofs.Runs.{sets-before, sets-in, items-back}
 

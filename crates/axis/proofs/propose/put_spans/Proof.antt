@@ -24,14 +24,47 @@ mul-hi c = search needs
 add-hi-2 : tie.Need-add-hi-2 Inv-loop μ-loop
 add-hi-2 c = search needs
 
-put-hi-requires : tie.Need-put-hi-requires Inv-loop μ-loop
-put-hi-requires c κs = search needs
+net-end-requires : tie.Need-net-end-requires Inv-loop μ-loop
+net-end-requires c κs = search needs
 
-add-put-lo : tie.Need-add-put-lo Inv-loop μ-loop
-add-put-lo c = search needs
+put-value-requires : tie.Need-put-value-requires Inv-loop μ-loop
+put-value-requires c κs = search needs
 
-put-lo-requires : tie.Need-put-lo-requires Inv-loop μ-loop
-put-lo-requires c κs = search needs
+hi-slot-requires : tie.Need-hi-slot-requires Inv-loop μ-loop
+hi-slot-requires c κs = search needs
+
+mul-put-tie : tie.Need-mul-put-tie Inv-loop μ-loop
+mul-put-tie c = search needs
+
+add-put-tie : tie.Need-add-put-tie Inv-loop μ-loop
+add-put-tie c = search needs
+
+put-tie-requires : tie.Need-put-tie-requires Inv-loop μ-loop
+put-tie-requires c κs = search needs
+
+net-end-requires-2 : tie.Need-net-end-requires-2 Inv-loop μ-loop
+net-end-requires-2 c κs = search needs
+
+add-put-value : tie.Need-add-put-value Inv-loop μ-loop
+add-put-value c = search needs
+
+put-value-requires-2 : tie.Need-put-value-requires-2 Inv-loop μ-loop
+put-value-requires-2 c κs = search needs
+
+add-put-tie-2 : tie.Need-add-put-tie-2 Inv-loop μ-loop
+add-put-tie-2 c = search needs
+
+lo-slot-requires : tie.Need-lo-slot-requires Inv-loop μ-loop
+lo-slot-requires c κs = search needs
+
+mul-put-tie-2 : tie.Need-mul-put-tie-2 Inv-loop μ-loop
+mul-put-tie-2 c = search needs
+
+add-put-tie-3 : tie.Need-add-put-tie-3 Inv-loop μ-loop
+add-put-tie-3 c = search needs
+
+put-tie-requires-2 : tie.Need-put-tie-requires-2 Inv-loop μ-loop
+put-tie-requires-2 c κs = search needs
 
 add-j : tie.Need-add-j Inv-loop μ-loop
 add-j c = search needs
@@ -56,9 +89,20 @@ put-spans-spec =
     add-hi
     mul-hi
     add-hi-2
-    put-hi-requires
-    add-put-lo
-    put-lo-requires
+    net-end-requires
+    put-value-requires
+    hi-slot-requires
+    mul-put-tie
+    add-put-tie
+    put-tie-requires
+    net-end-requires-2
+    add-put-value
+    put-value-requires-2
+    add-put-tie-2
+    lo-slot-requires
+    mul-put-tie-2
+    add-put-tie-3
+    put-tie-requires-2
     add-j
     loop-less
     loop-again

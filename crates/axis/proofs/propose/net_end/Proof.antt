@@ -1,13 +1,13 @@
 use Prim.Native.Nat.{_-_, _≤_}
 use borrow.Author.Needs.{needs}
-use Rattle.axis.proofs.propose.put_lo.Statement.{statement}
-use Rattle.axis.proofs.propose.put_lo.Tie as tie
+use Rattle.axis.proofs.propose.net_end.Statement.{statement}
+use Rattle.axis.proofs.propose.net_end.Tie as tie
 
 abbrev Inv-loop : tie.InvT-loop
-Inv-loop tab picks st lane base j lo x way to e₀ at₀ low₀ rank₀ e at low rank = 0 ≤ 0
+Inv-loop tab st side j to e₀ at₀ best₀ rank₀ e at best rank = 0 ≤ 0
 
 abbrev μ-loop : tie.MeasureT-loop
-μ-loop tab picks st lane base j lo x way to e₀ at₀ low₀ rank₀ e at low rank = to - e
+μ-loop tab st side j to e₀ at₀ best₀ rank₀ e at best rank = to - e
 
 add-part : tie.Need-add-part Inv-loop μ-loop
 add-part c = search needs
@@ -24,6 +24,9 @@ part-requires-2 c κs = search needs
 wide-requires-2 : tie.Need-wide-requires-2 Inv-loop μ-loop
 wide-requires-2 c κs = search needs
 
+before-all-requires : tie.Need-before-all-requires Inv-loop μ-loop
+before-all-requires c κs = search needs
+
 loop-holds : tie.Need-loop-holds Inv-loop μ-loop
 loop-holds c = search needs
 
@@ -39,8 +42,11 @@ wide-requires-3 c κs = search needs
 rank-of-requires : tie.Need-rank-of-requires Inv-loop μ-loop
 rank-of-requires c κs = search needs
 
-get-requires : tie.Need-get-requires Inv-loop μ-loop
-get-requires c κs = search needs
+past-requires : tie.Need-past-requires Inv-loop μ-loop
+past-requires c κs = search needs
+
+may-hang-requires : tie.Need-may-hang-requires Inv-loop μ-loop
+may-hang-requires c κs = search needs
 
 add-e : tie.Need-add-e Inv-loop μ-loop
 add-e c = search needs
@@ -51,26 +57,11 @@ loop-less c = search needs
 loop-again : tie.Need-loop-again Inv-loop μ-loop
 loop-again c = search needs
 
-put-value-requires : tie.Need-put-value-requires Inv-loop μ-loop
-put-value-requires c κs = search needs
-
-lo-slot-requires : tie.Need-lo-slot-requires Inv-loop μ-loop
-lo-slot-requires c κs = search needs
-
-mul-put-tie : tie.Need-mul-put-tie Inv-loop μ-loop
-mul-put-tie c = search needs
-
-add-put-tie : tie.Need-add-put-tie Inv-loop μ-loop
-add-put-tie c = search needs
-
-put-tie-requires : tie.Need-put-tie-requires Inv-loop μ-loop
-put-tie-requires c κs = search needs
-
 returns : tie.Need-returns Inv-loop μ-loop
 returns c = search needs
 
-pub put-lo-spec : {M : Type 1} → statement M
-put-lo-spec =
+pub net-end-spec : {M : Type 1} → statement M
+net-end-spec =
     tie.close
     (tie.spec
     Inv-loop
@@ -80,18 +71,15 @@ put-lo-spec =
     wide-requires
     part-requires-2
     wide-requires-2
+    before-all-requires
     loop-holds
     place-requires
     part-requires-3
     wide-requires-3
     rank-of-requires
-    get-requires
+    past-requires
+    may-hang-requires
     add-e
     loop-less
     loop-again
-    put-value-requires
-    lo-slot-requires
-    mul-put-tie
-    add-put-tie
-    put-tie-requires
     returns)
