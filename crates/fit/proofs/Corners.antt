@@ -10,7 +10,7 @@ use Rattle.model.specs.declared.Spot.{Spot}
 use Rattle.model.specs.Meaning.{blankSpot}
 use Rattle.slots.specs.declared.Direction.the-variants.{Horizontal as horizontal, Vertical as vertical}
 use Rattle.slots.specs.Axes.{cornersOn}
-use Rattle.measure.specs.Measuring.{inRange}
+use Rattle.measure_tests.specs.Positions.{inRange}
 use Rattle.fit_lists.specs.Lists.{spotsOf}
 
 pub past : (f : List ℕ) (s : ℕ) → length f ≤ s → getD f s 0 ≡ 0

@@ -1,7 +1,7 @@
 -- Both directions solved: their coordinates are the fit, and its measured length is the answer's.
 use Prim.Native.Nat.{ℕ, _+_, _-_, _≤_, _<_}
 use mathlib.Core.Path.{_≡_, sym, ap, subst, _∙_}
-use mathlib.Core.Bool.{Bool, true, false, false≢true}
+use mathlib.Core.Bool.{true}
 use mathlib.Core.List.{List, [], _++_, map}
 use native.Mathlib.Decide.{decLt}
 use native.Mathlib.Omega.{arith}
@@ -9,7 +9,6 @@ use lib.ListN.{length, getD, take, replicate}
 use lib.Seq.{length-take-le}
 use borrow.Author.Tests.{eq-eqb}
 use Rattle.model.specs.declared.Chip.{Chip as HeldChip}
-use Rattle.model.specs.declared.Refusal.{Refusal}
 use Rattle.model.specs.declared.Spot.{Spot}
 use Rattle.model.specs.Meaning.{Chip, chipOf, blankSpot, firstOf}
 use Rattle.model.proofs.FirstOf.{first-take}
@@ -29,26 +28,16 @@ use Rattle.slots.specs.Fit.{placed, lettersOf, slotCount, bestFit}
 use Rattle.slots.proofs.Fineness.{die-most}
 use Rattle.slots.proofs.Lengths.{lengths-split}
 use Rattle.slots.proofs.Fitting.{both-fit}
-use Rattle.measure.specs.declared.MeasureAnswer.{MeasureAnswer}
-use Rattle.measure.specs.declared.MeasureAnswer.the-variants as answer
-use Rattle.measure.specs.Measuring.{measuredAs, Measure, refused, measured, measurePositions, measurePassed, inRange}
+use Rattle.measure_tests.specs.Positions.{inRange}
+use Rattle.measure.specs.Measuring.{measured, lengthIn, measurePassed, measurePositions}
 use Rattle.fit_axes.specs.Axes.{SolvedBy}
 use Rattle.fit_lists.specs.Lists.{spotsOf}
 use Rattle.fit_lists.proofs.Corners.{spots-length}
 use Rattle.fit_tests.specs.Entry.{Asking, fitting}
-use Rattle.fit.specs.declared.FitAnswer.{FitAnswer}
 use Rattle.fit.specs.declared.FitOutcome.the-variants as outcome
 use Rattle.fit.specs.Answer.{answerFor, padded}
 use Rattle.fit.proofs.Asked.{el}
 use Rattle.fit.proofs.Corners.{past, take-spots, corners-x, corners-y, spots-in-range, spots-padded}
-
-abbrev lengthOf : Measure → ℕ
-lengthOf (refused k n) = 0
-lengthOf (measured r l) = l
-
-abbrev isMeasured : Measure → Bool
-isMeasured (refused k n) = false
-isMeasured (measured r l) = true
 
 -- a coordinate that keeps the die is within 0..1,024
 coordinate-most : (d : Direction) (C : Chip) (ls : List Letter) → Valid C → (z : List ℕ) → Keeps (axisFor d C ls) z → (i : ℕ) → getD z i 0 ≤ 1024
@@ -138,18 +127,8 @@ module _ (c : HeldChip) (s : List ℕ) (m : ℕ) (ask : Asking c s m) (ax ay fx 
       spots-padded (c .n) ax ay (let a = few in let l = wx in omega arith) (wx ∙ sym wy) (sx .rest) (sy .rest)
       ∙ ap (λ (k : ℕ). ps ++ replicate k blankSpot) (let e = long-ps in let l = wx in let f = ask .passed .macs in let q : length ax - c .n ≡ 8 - length ps = omega arith in q)
 
-  module _ (those : List Spot) (es : those ≡ spots) (a : MeasureAnswer) (em : measuredAs a ≡ measurePositions C (firstOf blankSpot (c .n) those)) where
-    told : measuredAs a ≡ measured (legal C ps) (wirelength C ps)
-    told = em ∙ ap (λ (t : List Spot). measurePositions C (firstOf blankSpot (c .n) t)) es ∙ is-measured
-
-    -- from the measured length
-    pub placed-answer : (r : Bool) (l : ℕ) → a ≡ answer.Measured r l → record { outcome = outcome.Placed (record { length = l; slots = m + m }); spots = those } ≡ answerFor (fitting c s)
-    placed-answer r l e =
-        let q : measured r l ≡ measured (legal C ps) (wirelength C ps) = ap measuredAs (sym e) ∙ told in
-        let w : l ≡ wirelength C ps = ap {B = ℕ} lengthOf q in
-        rw (w, ask .slots .both, es, padded-spots, the-fitting)
-
-    pub never-refused : (f : Refusal) → a ≡ answer.Refused f → (r : FitAnswer) → r ≡ answerFor (fitting c s)
-    never-refused f e r =
-        let q : refused (f .no) (f .line) ≡ measured (legal C ps) (wirelength C ps) = ap measuredAs (sym e) ∙ told in
-        absurd (false≢true (ap isMeasured q))
+  -- from the measured length
+  pub placed-answer : (those : List Spot) → those ≡ spots → (l : ℕ) → l ≡ lengthIn (measurePositions C (firstOf blankSpot (c .n) those)) → record { outcome = outcome.Placed (record { length = l; slots = m + m }); spots = those } ≡ answerFor (fitting c s)
+  placed-answer those es l e =
+      let w : l ≡ wirelength C ps = e ∙ ap (λ (t : List Spot). lengthIn (measurePositions C (firstOf blankSpot (c .n) t))) es ∙ ap lengthIn is-measured in
+      rw (w, ask .slots .both, es, padded-spots, the-fitting)

@@ -5,7 +5,6 @@ use fit_lists::is_solved;
 use fit_lists::put_slots;
 use fit_lists::spots_at;
 use fit_tests::Entry;
-use measure::MeasureAnswer;
 use model::Chip;
 use model::Mac;
 use model::Refusal;
@@ -60,16 +59,13 @@ fn placed(c: Chip, letters: &[u8], a: Solution, b: Solution, m: usize) -> FitAns
     let xs = a.at;
     let ys = b.at;
     let spots = spots_at(xs, ys);
-    let measured = measure::measure_array(c, c.n, spots);
-    match measured {
-        MeasureAnswer::Measured(legal, length) => FitAnswer {
-            outcome: FitOutcome::Placed(Fitted {
-                length,
-                slots: m + m,
-            }),
-            spots,
-        },
-        MeasureAnswer::Refused(f) => bare(FitOutcome::Refused(f)),
+    let length = measure::length_at(c, spots);
+    FitAnswer {
+        outcome: FitOutcome::Placed(Fitted {
+            length,
+            slots: m + m,
+        }),
+        spots,
     }
 }
 

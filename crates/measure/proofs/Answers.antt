@@ -1,103 +1,95 @@
--- What measuring a chip whose test is passed answers, in the form of the needs of `measure_fault` and `measure_passed`.
-use mathlib.Core.Path.{_≡_, sym, ap, _∙_}
-use mathlib.Core.Bool.{Bool, true, false, not}
+-- What measuring answers, in the form of the needs: by what the tests tell, and of positions that they accept.
+use mathlib.Core.Path.{_≡_, refl, sym, ap, _∙_}
+use mathlib.Core.Bool.{Bool}
 use mathlib.Core.List.{List, [], map}
-use Prim.Native.Nat.{ℕ, _≤_}
-use native.Mathlib.Decide.{decLe}
-use native.Mathlib.Omega.{arith}
-use lib.Dec.{eqb}
-use lib.ListN.{length, take, length-append}
-use borrow.Author.Tests.{eq-eqb, ne-eqb, eqb-true, not-true, not-false}
-use Rattle.model.specs.declared.Fix.{Fix}
-use Rattle.model.specs.declared.Spot.{Spot}
+use Prim.Native.Nat.{ℕ, zero, suc}
+use lib.ListN.{length, take}
 use Rattle.model.specs.declared.Chip.{Chip as HeldChip}
-use Rattle.model.specs.Meaning.{chipOf, firstOf, blankSpot}
-use Rattle.model.proofs.FirstOf.{first-take, first-past, length-first}
-use Rattle.refusals.specs.Tests.{test, firstFailed}
-use Rattle.refusals.proofs.FirstFailed.{none-failed, fails-here, fails-later, first-passes, rest-passes, number-refused, number-none}
-use Rattle.chip.specs.Passed.{Passed}
+use Rattle.model.specs.declared.Refusal.{Refusal}
+use Rattle.model.specs.declared.Spot.{Spot}
+use Rattle.model.specs.declared.Tested.{Tested}
+use Rattle.model.specs.declared.Tested.the-variants as tested
+use Rattle.model.specs.Meaning.{Chip, chipOf, firstOf, blankSpot}
+use Rattle.refusals.specs.Tests.{firstFailed, unlessFailed}
+use Rattle.grammar.specs.Reading.{Reading, accepted, refused as notRead}
+use Rattle.chip.specs.Text.{readChip, chipText}
 use Rattle.chip.proofs.Passing.{Whole}
 use Rattle.placement.specs.Legal.{boxes, legal}
-use Rattle.placement.specs.Length.{Near, wirelength}
+use Rattle.placement.specs.Length.{wirelength}
 use Rattle.placement.proofs.LengthBound.{wirelength-bound}
-use Rattle.measure.specs.Measuring.{refused, measured, inRange, measureTests, measurePassed}
 use Rattle.geometry.specs.declared.Box.{Box}
 use Rattle.geometry.specs.Box.{boxOf}
 use Rattle.legal.specs.Turn.{legalAfter}
-use Rattle.measure.specs.Held.{lengthTo, Summable}
-use Rattle.measure.proofs.Ranges.{in-range-near}
+use Rattle.measure_tests.specs.Positions.{measureTests, testedBy}
+use Rattle.measure_tests.proofs.Testing.{chip-is-passed, the-spots, are-near}
+use Rattle.measure.specs.declared.MeasureAnswer.{MeasureAnswer}
+use Rattle.measure.specs.declared.MeasureAnswer.the-variants as answer
+use Rattle.measure.specs.Measuring.{Measure, refused, measured, measuredAs, afterReading, lengthIn, measurePassed, measurePositions}
+use Rattle.measure.specs.Held.{lengthTo, Summable, Measurable}
 use Rattle.measure.proofs.IsLegal.{legal-told}
 use Rattle.measure.proofs.HeldNet.{pins-placed, length-whole}
 
-module _ (c : HeldChip) (p : Passed c) where
-  pub few-macros : c .n ≤ 8
-  few-macros = p .fine .macCount
+-- ---- positions that the tests accept
 
-  pub boxes-legal : (w : Whole c) (s : List Spot) → length s ≡ 8 → (bs : List Box) (a : Bool) → bs ≡ boxes (c .macs) s → a ≡ legalAfter 0 (c .die) (map boxOf (take (c .k) (c .fixes))) [] (take (c .n) bs) → a ≡ legal (chipOf c) (take (c .n) s)
-  boxes-legal w s l bs a f g = rw (g, f) (legal-told c (p .fine) s (w .fixes) (w .macs) l)
+module _ (c : HeldChip) (s : List Spot) (v : Measurable c s) where
+  pub boxes-legal : length s ≡ 8 → (bs : List Box) (a : Bool) → bs ≡ boxes (c .macs) s → a ≡ legalAfter 0 (c .die) (map boxOf (take (c .k) (c .fixes))) [] (take (c .n) bs) → a ≡ legal (chipOf c) (take (c .n) s)
+  boxes-legal l bs a f g = rw (g, f) (legal-told c (v .passed .fine) s (v .whole .fixes) (v .whole .macs) l)
 
-  module _ (s : List Spot) (l : length s ≡ 8) (count : ℕ) where
-    -- ---- 13, 14, or none
+  whole : lengthTo s (c .nets) (c .pins) (c .t) ≡ wirelength (chipOf c) (take (c .n) s)
+  whole = length-whole c (v .passed .fine) s (v .near) (v .whole .nets) (v .whole .pins)
 
-    -- as many positions as macros
-    counted : length (firstOf blankSpot count s) ≡ length (chipOf c .macs) → count ≡ c .n
-    counted e = by (decLe count 8)
-      where
-        by : Dec (count ≤ 8) → count ≡ c .n
-        by (yes h) = sym (length-first blankSpot count s (omega arith)) ∙ e ∙ p .macs
-        by (no h) =
-            let a : length (firstOf blankSpot count s) ≡ 9 = rw (first-past blankSpot count s (omega arith), length-append, l) in
-            let b = p .macs in
-            absurd (omega (arith, few-macros))
+  pub summable : Summable s (c .nets) (c .pins) (c .t)
+  summable = record {
+    nets = v .passed .fine .netCount;
+    pins = v .passed .fine .pins;
+    some = λ j g. v .passed .fine .net j g .some;
+    placed = pins-placed c (v .passed .fine) s (v .near);
+    small = rw whole (wirelength-bound (chipOf c) (take (c .n) s) (v .passed .valid) (v .near));
+  }
 
-    pub wrong-count : (count ≡ c .n → ⊥) → 13 ≡ firstFailed (measureTests (chipOf c) (firstOf blankSpot count s))
-    wrong-count n = fails-here 13 _ _ (ne-eqb (length (firstOf blankSpot count s)) (length (chipOf c .macs)) (λ e. n (counted e)))
+  pub its-measure : (a : Bool) (wl : ℕ) → a ≡ legal (chipOf c) (take (c .n) s) → wl ≡ lengthTo s (c .nets) (c .pins) (c .t) → measured a wl ≡ measured (legal (chipOf c) (take (c .n) s)) (wirelength (chipOf c) (take (c .n) s))
+  its-measure a wl g k = rw (g, k, whole)
 
-    module _ (e : count ≡ c .n) where
-      its-spots : firstOf blankSpot count s ≡ take (c .n) s
-      its-spots = rw e (first-take blankSpot (c .n) s (omega (arith, few-macros)))
+-- ---- the answer
 
-      as-many : eqb (length (firstOf blankSpot count s)) (length (chipOf c .macs)) ≡ true
-      as-many = eq-eqb _ _ (length-first blankSpot count s (omega (arith, few-macros)) ∙ e ∙ sym (p .macs))
+-- by what the tests tell
+abbrev said : Tested → Measure → Measure
+said (tested.Refused f) more = refused (f .no) (f .line)
+said tested.Passed more = more
 
-      module _ (r : Bool) (q : r ≡ inRange (take (c .n) s)) where
-        its-range : inRange (firstOf blankSpot count s) ≡ r
-        its-range = ap inRange its-spots ∙ sym q
+said-answer : (r : Reading Chip) (k : ℕ) (more : Measure) → said (testedBy r k) more ≡ afterReading r (unlessFailed refused k more)
+said-answer (accepted c) zero more = refl
+said-answer (accepted c) (suc k) more = refl
+said-answer (notRead n l) k more = refl
 
-        pub out-of-range : not r ≡ true → 14 ≡ firstFailed (measureTests (chipOf c) (firstOf blankSpot count s))
-        out-of-range h = fails-later 13 _ _ 14 as-many (fails-here 14 _ _ (its-range ∙ not-true r h))
+module _ (c : HeldChip) (s : List Spot) (count : ℕ) (t : Tested) (q : t ≡ testedBy (readChip (chipText (chipOf c))) (firstFailed (measureTests (chipOf c) (firstOf blankSpot count s)))) where
+  abbrev first : ℕ
+  first = firstFailed (measureTests (chipOf c) (firstOf blankSpot count s))
 
-        pub all-pass : not r ≡ false → 0 ≡ firstFailed (measureTests (chipOf c) (firstOf blankSpot count s))
-        all-pass h = fails-later 13 _ _ 0 as-many (fails-later 14 _ _ 0 (its-range ∙ not-false r h) none-failed)
+  abbrev its : Measure
+  its = measured (legal (chipOf c) (firstOf blankSpot count s)) (wirelength (chipOf c) (firstOf blankSpot count s))
 
-    -- ---- the answer, by that number
+  answered : (u : Tested) → t ≡ u → said u its ≡ measurePositions (chipOf c) (firstOf blankSpot count s)
+  unfolding measurePassed
+  answered u z = ap (λ (v : Tested). said v its) (sym z ∙ q) ∙ said-answer (readChip (chipText (chipOf c))) first its
 
-    module _ (no : ℕ) (q : no ≡ firstFailed (measureTests (chipOf c) (firstOf blankSpot count s))) where
-      pub told-refused : (no ≡ 0 → ⊥) → refused no 0 ≡ measurePassed (chipOf c) (firstOf blankSpot count s)
-      unfolding measurePassed
-      told-refused h = rw (← q) (number-refused refused _ no h)
+  pub is-refused : (f : Refusal) → t ≡ tested.Refused f → refused (f .no) (f .line) ≡ measurePositions (chipOf c) (firstOf blankSpot count s)
+  is-refused f z = answered (tested.Refused f) z
 
-      module _ (w : Whole c) (z : no ≡ 0) where
-        the-count : count ≡ c .n
-        the-count = counted (eqb-true _ _ (first-passes 12 _ _ (sym q ∙ z)))
+  module _ (w : Whole c) (l : length s ≡ 8) (z : t ≡ tested.Passed) where
+    pub measurable : Measurable c s
+    measurable = record { passed = chip-is-passed c w s l count t q z; whole = w; near = are-near c w s l count t q z }
 
-        near : Near (take (c .n) s)
-        near =
-            let e = rest-passes 12 _ _ (sym q ∙ z) in
-            in-range-near (take (c .n) s) (sym (first-passes 13 _ _ e) ∙ ap inRange (its-spots the-count))
+    pub is-measured : (m : Measure) → m ≡ measured (legal (chipOf c) (take (c .n) s)) (wirelength (chipOf c) (take (c .n) s)) → m ≡ measurePositions (chipOf c) (firstOf blankSpot count s)
+    is-measured m e =
+        e ∙ ap (λ (ps : List Spot). measured (legal (chipOf c) ps) (wirelength (chipOf c) ps)) (sym (the-spots c w s l count t q z))
+        ∙ answered tested.Passed z
 
-        whole : lengthTo s (c .nets) (c .pins) (c .t) ≡ wirelength (chipOf c) (take (c .n) s)
-        whole = length-whole c (p .fine) s near (w .nets) (w .pins)
+-- ---- the length in an answer
 
-        pub summable : Summable s (c .nets) (c .pins) (c .t)
-        summable = record {
-          nets = p .fine .netCount;
-          pins = p .fine .pins;
-          some = λ j g. p .fine .net j g .some;
-          placed = pins-placed c (p .fine) s near;
-          small = rw whole (wirelength-bound (chipOf c) (take (c .n) s) (p .valid) near);
-        }
+module _ (m : Measure) (a : MeasureAnswer) (e : measuredAs a ≡ m) where
+  pub length-measured : (legality : Bool) (l : ℕ) → a ≡ answer.Measured legality l → l ≡ lengthIn m
+  length-measured legality l q = rw (← e, q)
 
-        pub told-measured : (a : Bool) (wl : ℕ) → a ≡ legal (chipOf c) (take (c .n) s) → wl ≡ lengthTo s (c .nets) (c .pins) (c .t) → measured a wl ≡ measurePassed (chipOf c) (firstOf blankSpot count s)
-        unfolding measurePassed
-        told-measured a wl g k = rw (← q, ← number-none refused (measured _ _) no z, its-spots the-count, ← g, k, whole)
+  pub length-refused : (f : Refusal) → a ≡ answer.Refused f → 0 ≡ lengthIn m
+  length-refused f q = rw (← e, q)

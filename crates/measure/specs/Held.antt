@@ -1,17 +1,20 @@
 -- What the helpers of measuring compute and need, over the arrays of a chip.
 use Prim.Native.Nat.{ℕ, zero, suc, _+_, _*_, _≤_, _<_, min, max}
 use mathlib.Core.List.{List, [], map}
-use lib.ListN.{getD}
+use lib.ListN.{getD, take}
 use lib.Seq.{slice}
 use lib.IntN.{natAbs}
 use Rattle.model.specs.declared.Spot.{Spot}
+use Rattle.model.specs.declared.Chip.{Chip as HeldChip}
 use Rattle.model.specs.declared.Net.{Net as HeldNet}
 use Rattle.model.specs.declared.Pin.{Pin as HeldPin}
 use Rattle.model.specs.Meaning.{blankNet, blankPin, pinUp}
 use Rattle.model.specs.Limits.{mostMacs, mostNets, mostPins, mostPlace, placedCorner, recordLength}
 use Rattle.chip.specs.Valid.{pinsBefore}
+use Rattle.chip.specs.Passed.{Passed}
+use Rattle.chip.proofs.Passing.{Whole}
 use Rattle.numbers.specs.Spread.{spread}
-use Rattle.placement.specs.Length.{origin}
+use Rattle.placement.specs.Length.{origin, Near}
 use Rattle.placement.proofs.Spans.{upX, upY}
 use Rattle.measure.specs.declared.Extent.{Extent}
 
@@ -46,3 +49,9 @@ pub record Summable (ps : List Spot) (ts : List HeldNet) (hs : List HeldPin) (t 
   pub some : (j : ℕ) → j < t → 0 < getD ts j blankNet .pins
   pub placed : PlacedTo ps hs (pinsBefore t ts)
   pub small : lengthTo ps ts hs t ≤ natAbs (recordLength .most)
+
+-- a chip whose test is passed, with arrays as long as its type says, and positions within 0..1,024
+pub record Measurable (c : HeldChip) (ps : List Spot) : Type 0 where
+  pub passed : Passed c
+  pub whole : Whole c
+  pub near : Near (take (c .n) ps)

@@ -12,37 +12,15 @@ ghost use lib.ListN.{length, take};
 ghost use lib.Seq.{slice};
 ghost use Rattle.model.specs.Meaning.{firstOf, blankSpot, chipOf};
 ghost use Rattle.placement.specs.Legal.{legal};
-ghost use Rattle.placement.specs.Length.{origin};
+ghost use Rattle.placement.specs.Length.{origin, wirelength};
 ghost use Rattle.placement.proofs.Spans.{upX, upY};
-ghost use Rattle.measure.specs.Measuring.{measuredAs, inRange, measureTests, measurePassed, measurePositions};
-ghost use Rattle.measure.specs.Held.{withPin, halfAround, lengthTo, Placed, PlacedTo, Summable};
-ghost use Rattle.chip.specs.Passed.{Passed};
-ghost use Rattle.chip.proofs.Passing.{Whole};
-ghost use Rattle.refusals.specs.Tests.{firstFailed};
+ghost use Rattle.measure.specs.Measuring.{measured as measuredAt, measuredAs, lengthIn, measurePositions};
+ghost use Rattle.measure.specs.Held.{withPin, halfAround, lengthTo, Placed, PlacedTo, Summable, Measurable};
 
 // What measuring answers: legal or not and the wirelength, or the refusal.
 pub enum MeasureAnswer {
     Measured(bool, u64),
     Refused(Refusal),
-}
-
-// Whether each of the first count positions is within 0..1,024.
-fn in_range(spots: [Spot; Mac::COUNT], count: usize) -> bool
-    requires { ⌜ count ≤ 8 ⌝ }
-    ensures { λ r. ⌜ r ≡ inRange (take count spots) ⌝ }
-{
-    let mut i: usize = 0;
-    while i < count {
-        let p = spots[i];
-        if Spot::MOST < p.x {
-            return false;
-        }
-        if Spot::MOST < p.y {
-            return false;
-        }
-        i += 1;
-    }
-    true
 }
 
 // The corner that a pin's x and y are added to: the macro's, or 0,0 for a pad.
@@ -152,8 +130,7 @@ fn length_of(c: Chip, spots: [Spot; Mac::COUNT]) -> u64
 
 // Whether the positions are legal.
 fn is_legal(c: Chip, spots: [Spot; Mac::COUNT]) -> bool
-    requires { ⌜ Passed c ⌝ }
-    requires { ⌜ Whole c ⌝ }
+    requires { ⌜ Measurable c spots ⌝ }
     ensures { λ r. ⌜ r ≡ legal (chipOf c) (take (c .n) spots) ⌝ }
 {
     let die = c.die;
@@ -163,30 +140,11 @@ fn is_legal(c: Chip, spots: [Spot; Mac::COUNT]) -> bool
     legal::legal_boxes(die, fixes, c.k, bs, c.n)
 }
 
-// The number of the first test that the positions fail, or 0.
-fn measure_fault(c: Chip, count: usize, spots: [Spot; Mac::COUNT]) -> usize
-    requires { ⌜ Passed c ⌝ }
-    ensures { λ r. ⌜ r ≡ firstFailed (measureTests (chipOf c) (firstOf blankSpot count spots)) ⌝ }
+// The measure of positions that every test accepts.
+fn measured(c: Chip, spots: [Spot; Mac::COUNT]) -> MeasureAnswer
+    requires { ⌜ Measurable c spots ⌝ }
+    ensures { λ r. ⌜ measuredAs r ≡ measuredAt (legal (chipOf c) (take (c .n) spots)) (wirelength (chipOf c) (take (c .n) spots)) ⌝ }
 {
-    if count != c.n {
-        return 13;
-    }
-    if !in_range(spots, c.n) {
-        return 14;
-    }
-    0
-}
-
-// A chip whose test is passed: the refusal of the positions, or the measure.
-fn measure_passed(c: Chip, count: usize, spots: [Spot; Mac::COUNT]) -> MeasureAnswer
-    requires { ⌜ Passed c ⌝ }
-    requires { ⌜ Whole c ⌝ }
-    ensures { λ r. ⌜ measuredAs r ≡ measurePassed (chipOf c) (firstOf blankSpot count spots) ⌝ }
-{
-    let no = measure_fault(c, count, spots);
-    if no != 0 {
-        return MeasureAnswer::Refused(Refusal { no, line: 0 });
-    }
     let legal = is_legal(c, spots);
     let length = length_of(c, spots);
     MeasureAnswer::Measured(legal, length)
@@ -196,9 +154,20 @@ fn measure_passed(c: Chip, count: usize, spots: [Spot; Mac::COUNT]) -> MeasureAn
 pub fn measure_array(c: Chip, count: usize, spots: [Spot; Mac::COUNT]) -> MeasureAnswer
     ensures { λ r. ⌜ measuredAs r ≡ measurePositions (chipOf c) (firstOf blankSpot count spots) ⌝ }
 {
-    let tested = chip_test::test_chip(c);
+    let tested = measure_tests::test_positions(c, count, spots);
     match tested {
         Tested::Refused(f) => MeasureAnswer::Refused(f),
-        Tested::Passed => measure_passed(c, count, spots),
+        Tested::Passed => measured(c, spots),
+    }
+}
+
+// The wirelength of the first positions, one for each macro; 0 where measuring refuses them.
+pub fn length_at(c: Chip, spots: [Spot; Mac::COUNT]) -> u64
+    ensures { λ r. ⌜ r ≡ lengthIn (measurePositions (chipOf c) (firstOf blankSpot (c .n) spots)) ⌝ }
+{
+    let answer = measure_array(c, c.n, spots);
+    match answer {
+        MeasureAnswer::Measured(_, length) => length,
+        MeasureAnswer::Refused(_) => 0,
     }
 }

@@ -18,7 +18,8 @@ use Rattle.record.specs.Text.{readRecord, recordText, writeRecord}
 use Rattle.placement.specs.Legal.{legal}
 use Rattle.placement.specs.Length.{wirelength}
 use Rattle.placement.specs.Least.{Best, nothing, found, fitOf, chipRecord}
-use Rattle.measure.specs.Measuring.{Measure, measured, refused as notMeasured, afterReading, measureTests, measurePassed, measurePositions}
+use Rattle.measure_tests.specs.Positions.{measureTests}
+use Rattle.measure.specs.Measuring.{Measure, measured, refused as notMeasured, afterReading, measurePassed, measurePositions}
 use Rattle.slots.specs.Fit.{refusedBy, lettersOf, slotCount, bestFit, fitTests, fitChip, fitLetters}
 use Rattle.search.specs.Place.{searchChip, placeRead, placeText}
 use Rattle.printed.specs.Printed.{printed, printText}

@@ -16,6 +16,7 @@ use Rattle.model.proofs.FirstOf.{first-take}
 use Rattle.chip.specs.Passed.{Passed}
 use Rattle.placement.specs.Letters.{Letter}
 use Rattle.placement.specs.Least.{Best, nothing, found, fitOf}
+use Rattle.refusals.specs.Tests.{firstFailed}
 use Rattle.slots.specs.Fit.{Fit, refusedBy, noFit, placed, letterCount, slotCount, bestFit, fitLetters}
 use Rattle.branches.proofs.Betters.{Sized}
 use Rattle.branches.proofs.Closing.{fit-sized}
@@ -61,7 +62,7 @@ module _ (c : HeldChip) (letters : List ℕ) (p : ℕ) (ok : Passed c) (e : Lett
 
   -- 784 slots are lent, so that no refusal is left
   fits : fitLetters C (take p letters) 784 ≡ bestFit (slotCount C) (fitOf C ls)
-  unfolding fitLetters
+  unfolding fitLetters firstFailed
   fits = rw (← ok .read, eq-eqb (length (take p letters)) (letterCount C) (long ∙ e .count), e .bytes, le-leb (slotCount C) 784 enough)
 
   module _ (room : ℕ) (m : room ≡ 784) (a : FitAnswer) (q : a ≡ answerFor (fitLetters C (take p letters) room)) where

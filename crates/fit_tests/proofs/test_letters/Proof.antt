@@ -1,16 +1,8 @@
-use Rattle.chip.proofs.Passing.{Whole, whole, test-passed}
+use Rattle.chip.proofs.Passing.{whole, test-passed}
 use Rattle.fit_tests.proofs.Entering.{test-refused}
 use borrow.Author.Needs.{needs}
 use Rattle.fit_tests.proofs.test_letters.Statement.{statement}
 use Rattle.fit_tests.proofs.test_letters.Tie as tie
-use Rattle.fit_tests.proofs.test_letters.Reads as reads
-use Rattle.fit_tests.proofs.test_letters.Lts as lts
-use Rattle.chip_test.proofs.test_chip.Reads as test-chip-reads
-use Rattle.fit_tests.proofs.test_passed.Reads as test-passed-reads
-
--- the chip's arrays are as long as its type says
-shape : (t : lts.Start (test-chip-reads.Asked, test-chip-reads.Learnt, test-passed-reads.Asked, test-passed-reads.Learnt) reads.Pre reads.Post) → Whole (t .args .c)
-shape t = search whole
 
 test-chip-requires : tie.Need-test-chip-requires
 test-chip-requires c κs = search needs
@@ -22,10 +14,7 @@ enum-told : tie.Need-enum-told
 enum-told c = search needs
 
 test-passed-requires : tie.Need-test-passed-requires
-test-passed-requires c κs =
-    let h = c .before .before in
-    let w = shape (h .before .before) in
-    (test-passed _ w (h .test-chip .result) (h .test-chip .ensures) (c .enum-told .given .1), w)
+test-passed-requires c κs = (search (needs, test-passed, whole), search (needs, whole))
 
 returns : tie.Need-returns
 returns c = search test-refused

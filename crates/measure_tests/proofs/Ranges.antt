@@ -14,7 +14,7 @@ use Rattle.model.specs.declared.Spot.{Spot}
 use Rattle.model.specs.Meaning.{blankSpot}
 use Rattle.grammar.proofs.Lacks.{and-left, and-right}
 use Rattle.placement.specs.Length.{Near}
-use Rattle.measure.specs.Measuring.{inRange}
+use Rattle.measure_tests.specs.Positions.{inRange}
 
 -- what the loop has left to test
 module _ (s : List Spot) (n : ℕ) where

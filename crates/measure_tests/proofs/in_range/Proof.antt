@@ -1,8 +1,8 @@
 use Prim.Native.Nat.{_-_, _≤_}
-use Rattle.measure.proofs.Ranges.{Left, x-above, y-above, one-within, all-tested}
+use Rattle.measure_tests.proofs.Ranges.{Left, x-above, y-above, one-within, all-tested}
 use borrow.Author.Needs.{needs}
-use Rattle.measure.proofs.in_range.Statement.{statement}
-use Rattle.measure.proofs.in_range.Tie as tie
+use Rattle.measure_tests.proofs.in_range.Statement.{statement}
+use Rattle.measure_tests.proofs.in_range.Tie as tie
 
 abbrev Inv-loop : tie.InvT-loop
 Inv-loop count spots i₀ i = (i ≤ count) × Left spots count i
