@@ -4,9 +4,9 @@ use mathlib.Core.Bool.{Bool, true, false, not}
 use mathlib.Core.List.{List}
 use Prim.Native.Nat.{ℕ}
 use lib.ListN.{replicate}
-use Rattle.bounds.specs.declared.Axis.{Axis as HeldAxis}
-use Rattle.bounds.specs.Axis.{axisOf}
-use Rattle.bounds.specs.Held.{Held}
+use Rattle.axis_bounds.specs.declared.Axis.{Axis as HeldAxis}
+use Rattle.axis_bounds.specs.Axis.{axisOf}
+use Rattle.axis_bounds.specs.Held.{Held}
 use Rattle.axis_graph.specs.declared.Graph.{Graph}
 use Rattle.axis_graph.specs.declared.Span.{Span}
 use Rattle.axis_graph.specs.Graph.{Shows}

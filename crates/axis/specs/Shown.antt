@@ -1,7 +1,7 @@
 -- What the test of a proposed answer shows of the axis.
 use Prim.Native.Nat.{ℕ}
 use mathlib.Core.List.{List}
-use Rattle.bounds.specs.declared.Axis.{Axis as HeldAxis}
+use Rattle.axis_bounds.specs.declared.Axis.{Axis as HeldAxis}
 use Rattle.axis_graph.specs.Service.{SolvedOk}
 use Rattle.axis_held.specs.Graphs.{Placed}
 

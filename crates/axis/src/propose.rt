@@ -18,7 +18,7 @@ use axis_graph::NODE_ROOM;
 use axis_graph::NODES;
 use axis_graph::SLOT_ROOM;
 use axis_graph::WAYS;
-use bounds::Axis;
+use axis_bounds::Axis;
 use half_fit::service::HalfOutcome;
 use half_fit::service::first_half;
 use std::num::wrapping_add_u32;

@@ -13,11 +13,11 @@ use mir.Val.{Fits}
 use lib.Dec.{eqb, ltb}
 use lib.ListN.{length, set, replicate, length-set, length-replicate}
 use lib.Seq.{getD-set-same, getD-set-other}
-use Rattle.numbers.specs.Sum.{sum, when}
-use Rattle.numbers.proofs.Sums.{when-le, sum-le, sum-grows}
-use Rattle.flow.specs.Flow.{atNode, weigh}
-use Rattle.bounds.specs.declared.Slot.{Slot}
-use Rattle.bounds.specs.Listed.{tails, heads, pluses, minuses}
+use Rattle.num_laws.specs.Sum.{sum, when}
+use Rattle.num_laws.proofs.Sums.{when-le, sum-le, sum-grows}
+use Rattle.flow_laws.specs.Flow.{atNode, weigh}
+use Rattle.axis_bounds.specs.declared.Slot.{Slot}
+use Rattle.axis_bounds.specs.Listed.{tails, heads, pluses, minuses}
 use Rattle.axis_graph.specs.declared.Graph.{Graph}
 use Rattle.axis_graph.specs.declared.Span.{Span}
 use Rattle.axis_graph.specs.Limits.{nodeRoom, slotRoom, netRoom, sideMost, weightMost, amountMost}

@@ -7,9 +7,9 @@ use native.Mathlib.Decide.{decLt}
 use native.Mathlib.Omega.{arith}
 use borrow.Author.Count.{below-none, below-more}
 use lib.ListN.{length, getD, List·getD-eq-default}
-use Rattle.bounds.specs.declared.Slot.{Slot}
+use Rattle.axis_bounds.specs.declared.Slot.{Slot}
 use Rattle.axis_graph.proofs.Answers.{shows-yes, shown-by}
-use Rattle.bounds.specs.Listed.{tails, heads, pluses, minuses}
+use Rattle.axis_bounds.specs.Listed.{tails, heads, pluses, minuses}
 use Rattle.axis_graph.specs.declared.Graph.{Graph}
 use Rattle.axis_graph.specs.declared.Span.{Span}
 use Rattle.axis_graph.specs.Solved.{noSpan}

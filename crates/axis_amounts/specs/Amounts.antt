@@ -3,9 +3,9 @@ use Prim.Native.Nat.{ℕ, _+_, _*_, _≤_, _<_}
 use mathlib.Core.Path.{_≡_}
 use mathlib.Core.List.{List}
 use lib.ListN.{length, getD}
-use Rattle.flow.specs.Flow.{atNode, weigh, Balance}
-use Rattle.numbers.specs.Sum.{sum}
-use Rattle.bounds.specs.Listed.{tails, heads, pluses, minuses}
+use Rattle.flow_laws.specs.Flow.{atNode, weigh, Balance}
+use Rattle.num_laws.specs.Sum.{sum}
+use Rattle.axis_bounds.specs.Listed.{tails, heads, pluses, minuses}
 use Rattle.axis_graph.specs.declared.Graph.{Graph}
 use Rattle.axis_graph.specs.declared.Span.{Span}
 use Rattle.axis_graph.specs.Limits.{nodeRoom, slotRoom, weightMost, amountMost}

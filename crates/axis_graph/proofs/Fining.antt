@@ -5,8 +5,8 @@ use mathlib.Core.List.{List}
 use Prim.Native.Nat.{ℕ, _+_, _≤_, _<_}
 use native.Mathlib.Omega.{arith}
 use borrow.Author.Count.{below-more}
-use Rattle.bounds.specs.declared.Slot.{Slot}
-use Rattle.bounds.specs.Listed.{slotAt}
+use Rattle.axis_bounds.specs.declared.Slot.{Slot}
+use Rattle.axis_bounds.specs.Listed.{slotAt}
 use Rattle.axis_graph.specs.declared.Graph.{Graph}
 use Rattle.axis_graph.specs.Limits.{nodeRoom, slotRoom, sideMost}
 use Rattle.axis_graph.specs.Graph.{Decides, FineEnds, Fine}

@@ -7,15 +7,15 @@ use native.Mathlib.Decide.{decLt}
 use native.Mathlib.Omega.{arith}
 use lib.ListN.{length, drop, replicate, length-replicate, List·getD-append}
 use lib.Seq.{sets-eq, length-sets, getD-drop}
-use Rattle.bounds.specs.declared.Slot.{Slot}
-use Rattle.bounds.specs.Axis.{Axis, noSlot, Fine as FineAxis}
-use Rattle.bounds.specs.Listed.{dieSlots, slotAt, tails, heads, pluses, minuses, hiNode, loNode, nodeCount}
-use Rattle.bounds.specs.Graph.{graphSlots, macroSlots, Holds as HoldsList}
-use Rattle.bounds.proofs.Counts.{length-die, length-macros, few-macro-slots, few-slots, few-nodes}
-use Rattle.bounds.proofs.Members.{Each, Stands, slot-right}
-use Rattle.bounds.proofs.Sorts.{OfMacros, each-macros, graph-macros, graph-pins}
-use Rattle.bounds.proofs.Limits.{FineSlot as FineOn, graph-fine, macro-fine, near, macro-near}
-use Rattle.bounds.proofs.Idle.{past-end}
+use Rattle.axis_bounds.specs.declared.Slot.{Slot}
+use Rattle.axis_bounds.specs.Axis.{Axis, noSlot, Fine as FineAxis}
+use Rattle.axis_bounds.specs.Listed.{dieSlots, slotAt, tails, heads, pluses, minuses, hiNode, loNode, nodeCount}
+use Rattle.axis_bounds.specs.Graph.{graphSlots, macroSlots, Holds as HoldsList}
+use Rattle.axis_bounds.proofs.Counts.{length-die, length-macros, few-macro-slots, few-slots, few-nodes}
+use Rattle.axis_bounds.proofs.Members.{Each, Stands, slot-right}
+use Rattle.axis_bounds.proofs.Sorts.{OfMacros, each-macros, graph-macros, graph-pins}
+use Rattle.axis_bounds.proofs.Limits.{FineSlot as FineOn, graph-fine, macro-fine, near, macro-near}
+use Rattle.axis_bounds.proofs.Idle.{past-end}
 use Rattle.axis_graph.specs.declared.Graph.{Graph}
 use Rattle.axis_graph.specs.Limits.{nodeRoom, slotRoom}
 use Rattle.axis_graph.specs.Graph.{at, Fine, Holds, Near, Leads, Net}

@@ -4,11 +4,11 @@ use mathlib.Core.Path.{_≡_}
 use mathlib.Core.List.{List}
 use Prim.Native.Nat.{ℕ, _+_, _≤_}
 use native.Mathlib.Omega.{arith}
-use Rattle.flow.specs.Flow.{atNode, weigh, Ends, Balance}
-use Rattle.flow.proofs.Duality.{exchange, weak, strong, tight-at-least}
+use Rattle.flow_laws.specs.Flow.{atNode, weigh, Ends, Balance}
+use Rattle.flow_laws.proofs.Duality.{exchange, weak, strong, tight-at-least}
 use Rattle.axis_graph.specs.declared.Graph.{Graph}
 use Rattle.axis_graph.specs.declared.Span.{Span}
-use Rattle.bounds.specs.Listed.{tails, heads, pluses, minuses}
+use Rattle.axis_bounds.specs.Listed.{tails, heads, pluses, minuses}
 use Rattle.axis_graph.specs.Graph.{at, Fine, Holds, Tights}
 use Rattle.axis_graph.specs.Solved.{los, his, weights, NetEnds, upper, lower}
 

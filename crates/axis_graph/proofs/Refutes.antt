@@ -3,10 +3,10 @@ use mathlib.Core.Path.{subst, _∙_}
 use mathlib.Core.List.{List}
 use Prim.Native.Nat.{ℕ, suc, _<_}
 use lib.ListN.{length}
-use Rattle.flow.specs.Flow.{weigh, Balance}
-use Rattle.bounds.specs.declared.Slot.{Slot}
-use Rattle.bounds.specs.Axis.{Axis, Fine as FineAxis}
-use Rattle.bounds.specs.Graph.{macroSlots, GraphRefuted}
+use Rattle.flow_laws.specs.Flow.{weigh, Balance}
+use Rattle.axis_bounds.specs.declared.Slot.{Slot}
+use Rattle.axis_bounds.specs.Axis.{Axis, Fine as FineAxis}
+use Rattle.axis_bounds.specs.Graph.{macroSlots, GraphRefuted}
 use Rattle.axis_graph.specs.Graph.{at}
 use Rattle.axis_graph.specs.Solved.{Refuted}
 use Rattle.axis_graph.specs.Build.{macroGraph}

@@ -6,7 +6,7 @@ use mir.Syntax.{w64}
 use mir.Val.{Fits}
 use Rattle.axis_graph.specs.declared.Graph.{Graph}
 use Rattle.axis_graph.specs.Limits.{nodeRoom}
-use Rattle.bounds.specs.Listed.{tails, heads, pluses, minuses}
+use Rattle.axis_bounds.specs.Listed.{tails, heads, pluses, minuses}
 use Rattle.axis_graph.specs.Graph.{at, Fine, Small}
 
 module _ (g : Graph) (i : ℕ) (fine : Fine g) (l : i < g .m) where

@@ -5,16 +5,16 @@ use Prim.Native.Nat.{ℕ, _+_, _*_, _<_}
 use native.Mathlib.Omega.{arith}
 use lib.ListN.{length, getD}
 use lib.Dec.{eqb}
-use Rattle.numbers.specs.Sum.{sum, when}
-use Rattle.numbers.proofs.Sums.{sum-eq}
-use Rattle.flow.specs.Flow.{atNode, weigh, Balance}
-use Rattle.bounds.specs.declared.Slot.{Slot}
-use Rattle.bounds.specs.Axis.{Axis, Fine as FineAxis}
-use Rattle.bounds.specs.Listed.{slotAt, tails, heads, pluses, minuses, hiNode, loNode, nodeCount, weightOf}
-use Rattle.bounds.specs.Answer.{supply, demand}
-use Rattle.bounds.specs.Graph.{graphSlots, Holds as HoldsList, upper as upperOn, lower as lowerOn, GraphSolved}
-use Rattle.bounds.proofs.Counts.{few-slots}
-use Rattle.bounds.proofs.Answers.{weights-most}
+use Rattle.num_laws.specs.Sum.{sum, when}
+use Rattle.num_laws.proofs.Sums.{sum-eq}
+use Rattle.flow_laws.specs.Flow.{atNode, weigh, Balance}
+use Rattle.axis_bounds.specs.declared.Slot.{Slot}
+use Rattle.axis_bounds.specs.Axis.{Axis, Fine as FineAxis}
+use Rattle.axis_bounds.specs.Listed.{slotAt, tails, heads, pluses, minuses, hiNode, loNode, nodeCount, weightOf}
+use Rattle.axis_bounds.specs.Answer.{supply, demand}
+use Rattle.axis_bounds.specs.Graph.{graphSlots, Holds as HoldsList, upper as upperOn, lower as lowerOn, GraphSolved}
+use Rattle.axis_bounds.proofs.Counts.{few-slots}
+use Rattle.axis_bounds.proofs.Answers.{weights-most}
 use Rattle.axis_graph.specs.declared.Span.{Span}
 use Rattle.axis_graph.specs.Graph.{at, Holds, Net}
 use Rattle.axis_graph.specs.Solved.{noSpan, los, his, weights, Nets, upper, lower, Solved}

@@ -6,7 +6,7 @@ use Prim.Native.Nat.{ℕ, _<_}
 use native.Mathlib.Decide.{ℕ-discrete}
 use native.Mathlib.Omega.{arith}
 use Rattle.axis_graph.specs.declared.Graph.{Graph}
-use Rattle.bounds.specs.Listed.{tails, heads}
+use Rattle.axis_bounds.specs.Listed.{tails, heads}
 use Rattle.axis_graph.specs.Graph.{at, Closed, Leads}
 
 -- a slot leads from its tail to its head; two ways make one

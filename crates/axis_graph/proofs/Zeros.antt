@@ -5,9 +5,9 @@ use Prim.Native.Nat.{ℕ, zero, suc}
 use native.Mathlib.Omega.{arith}
 use lib.ListN.{replicate}
 use lib.Dec.{eqb}
-use Rattle.numbers.specs.Sum.{sum, when}
-use Rattle.numbers.proofs.Sums.{when-zero}
-use Rattle.flow.specs.Flow.{atNode}
+use Rattle.num_laws.specs.Sum.{sum, when}
+use Rattle.num_laws.proofs.Sums.{when-zero}
+use Rattle.flow_laws.specs.Flow.{atNode}
 use Rattle.axis_graph.specs.Limits.{slotRoom}
 use Rattle.axis_graph.specs.Graph.{at}
 

@@ -4,11 +4,11 @@ use mathlib.Core.Path.{_≡_}
 use mathlib.Core.List.{List}
 use lib.ListN.{length, getD, replicate}
 use lib.Seq.{sets}
-use Rattle.bounds.specs.declared.Slot.{Slot}
-use Rattle.bounds.specs.declared.AxisNet.{AxisNet}
-use Rattle.bounds.specs.Axis.{Axis, noSlot, noNet}
-use Rattle.bounds.specs.Listed.{dieSlots, hiNode, loNode, nodeCount}
-use Rattle.bounds.specs.Graph.{graphSlots, macroSlots}
+use Rattle.axis_bounds.specs.declared.Slot.{Slot}
+use Rattle.axis_bounds.specs.declared.AxisNet.{AxisNet}
+use Rattle.axis_bounds.specs.Axis.{Axis, noSlot, noNet}
+use Rattle.axis_bounds.specs.Listed.{dieSlots, hiNode, loNode, nodeCount}
+use Rattle.axis_bounds.specs.Graph.{graphSlots, macroSlots}
 use Rattle.axis_graph.specs.declared.Graph.{Graph}
 use Rattle.axis_graph.specs.declared.Span.{Span}
 use Rattle.axis_graph.specs.Limits.{slotRoom}

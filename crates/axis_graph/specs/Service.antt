@@ -3,10 +3,10 @@ use Prim.Native.Nat.{ℕ, _≤_}
 use mathlib.Core.Path.{_≡_}
 use mathlib.Core.List.{List}
 use lib.ListN.{getD, take, replicate}
-use Rattle.bounds.specs.declared.Axis.{Axis as HeldAxis}
-use Rattle.bounds.specs.Axis.{axisOf}
-use Rattle.bounds.specs.Answer.{SolvedOn, UnsolvedOn}
-use Rattle.bounds.specs.Held.{Held}
+use Rattle.axis_bounds.specs.declared.Axis.{Axis as HeldAxis}
+use Rattle.axis_bounds.specs.Axis.{axisOf}
+use Rattle.axis_bounds.specs.Answer.{SolvedOn, UnsolvedOn}
+use Rattle.axis_bounds.specs.Held.{Held}
 use Rattle.axis_graph.specs.declared.Verdict.{Verdict}
 use Rattle.axis_graph.specs.declared.Verdict.the-variants as verdict
 use Rattle.axis_graph.specs.Limits.{slotRoom}

@@ -3,13 +3,13 @@ use Prim.Native.Nat.{ℕ, _+_, _≤_, _<_}
 use mathlib.Core.Path.{_≡_}
 use mathlib.Core.List.{List}
 use lib.ListN.{getD}
-use Rattle.numbers.specs.Sum.{sum}
-use Rattle.flow.specs.Flow.{atNode, weigh, Balance}
+use Rattle.num_laws.specs.Sum.{sum}
+use Rattle.flow_laws.specs.Flow.{atNode, weigh, Balance}
 use Rattle.axis_graph.specs.declared.Graph.{Graph}
 use Rattle.axis_graph.specs.declared.Span.{Span}
 use Rattle.axis_graph.specs.Limits.{amountMost}
-use Rattle.bounds.specs.Axis.{noSlot}
-use Rattle.bounds.specs.Listed.{slotAt, tails, heads, pluses, minuses}
+use Rattle.axis_bounds.specs.Axis.{noSlot}
+use Rattle.axis_bounds.specs.Listed.{slotAt, tails, heads, pluses, minuses}
 use Rattle.axis_graph.specs.Graph.{at, Holds, Leads, Net}
 
 abbrev pub noSpan : Span

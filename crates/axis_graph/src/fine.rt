@@ -2,7 +2,7 @@
 use crate::Graph;
 use crate::NODE_ROOM;
 use crate::SLOT_ROOM;
-use bounds::Slot;
+use axis_bounds::Slot;
 ghost use Rattle.axis_graph.specs.Graph.{Decides, FineEnds, Fine};
 
 // The most that a side of a bound adds to a value.

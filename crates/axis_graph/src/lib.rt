@@ -1,8 +1,8 @@
 // The graph of an axis and what solving it answers: the types that the parts of the solver share, with their definitions and laws.
 //
 // Nodes have values, and slots have bounds. Node 0 is the die corner, then come the macros, then hi and lo of each net.
-use bounds::Axis;
-use bounds::Slot;
+use axis_bounds::Axis;
+use axis_bounds::Slot;
 
 pub mod above;
 pub mod fine;

@@ -8,12 +8,12 @@ use native.Mathlib.Omega.{arith}
 use mir.Syntax.{w64}
 use mir.Val.{Fits}
 use lib.ListN.{getD}
-use Rattle.bounds.specs.declared.Slot.{Slot}
-use Rattle.bounds.specs.declared.AxisPin.{AxisPin}
-use Rattle.bounds.specs.declared.AxisNet.{AxisNet}
-use Rattle.bounds.specs.declared.Axis.{Axis as HeldAxis}
-use Rattle.bounds.specs.Axis.{noSlot, noPin, noNet, FinePair, FinePin}
-use Rattle.bounds.specs.Held.{pinsBefore}
+use Rattle.axis_bounds.specs.declared.Slot.{Slot}
+use Rattle.axis_bounds.specs.declared.AxisPin.{AxisPin}
+use Rattle.axis_bounds.specs.declared.AxisNet.{AxisNet}
+use Rattle.axis_bounds.specs.declared.Axis.{Axis as HeldAxis}
+use Rattle.axis_bounds.specs.Axis.{noSlot, noPin, noNet, FinePair, FinePin}
+use Rattle.axis_bounds.specs.Held.{pinsBefore}
 use Rattle.axis_graph.specs.Graph.{Decides}
 use Rattle.axis_held.specs.Accept.{PairsTo, PinsTo, NetCounts, NetTo, NetsTo, FrameTo}
 use Rattle.axis_graph.proofs.Answers.{says-yes, says-no, held-by, failed-by}

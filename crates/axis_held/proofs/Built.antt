@@ -9,15 +9,15 @@ use mir.Syntax.{w64}
 use mir.Val.{Fits}
 use lib.ListN.{length, getD, replicate, take, drop, set, length-take, length-drop, drop-of-length-le}
 use lib.Seq.{sets, drop-cons, drop-drop, getD-take, getD-set-same, getD-set-other}
-use Rattle.numbers.proofs.Stores.{sets-append}
-use Rattle.bounds.specs.declared.Slot.{Slot}
-use Rattle.bounds.specs.declared.AxisPin.{AxisPin}
-use Rattle.bounds.specs.declared.AxisNet.{AxisNet}
-use Rattle.bounds.specs.Axis.{noSlot, noPin, noNet, netsOf}
-use Rattle.bounds.specs.Listed.{slot, dieSlots, pinSlots, netSlots, hiNode, loNode}
-use Rattle.bounds.specs.Graph.{far}
-use Rattle.bounds.specs.Held.{pinsBefore}
-use Rattle.bounds.proofs.Counts.{length-pins}
+use Rattle.num_laws.proofs.Stores.{sets-append}
+use Rattle.axis_bounds.specs.declared.Slot.{Slot}
+use Rattle.axis_bounds.specs.declared.AxisPin.{AxisPin}
+use Rattle.axis_bounds.specs.declared.AxisNet.{AxisNet}
+use Rattle.axis_bounds.specs.Axis.{noSlot, noPin, noNet, netsOf}
+use Rattle.axis_bounds.specs.Listed.{slot, dieSlots, pinSlots, netSlots, hiNode, loNode}
+use Rattle.axis_bounds.specs.Graph.{far}
+use Rattle.axis_bounds.specs.Held.{pinsBefore}
+use Rattle.axis_bounds.proofs.Counts.{length-pins}
 use Rattle.axis_graph.specs.declared.Span.{Span}
 use Rattle.axis_graph.specs.Solved.{noSpan}
 use Rattle.axis_held.specs.Ends.{endsOf}

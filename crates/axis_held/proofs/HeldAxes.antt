@@ -6,12 +6,12 @@ use Prim.Native.Nat.{ℕ, zero, suc, _+_, _-_, _≤_, _<_}
 use native.Mathlib.Omega.{arith}
 use lib.ListN.{length, getD, take, length-take, length-map}
 use lib.Seq.{getD-take}
-use Rattle.bounds.specs.declared.Slot.{Slot}
-use Rattle.bounds.specs.declared.AxisPin.{AxisPin}
-use Rattle.bounds.specs.declared.AxisNet.{AxisNet}
-use Rattle.bounds.specs.declared.Axis.{Axis as HeldAxis}
-use Rattle.bounds.specs.Axis.{noSlot, noPin, noNet, bareNet, netsOf, axisOf, pinCount, FinePair, FinePin, FineNet, Fine}
-use Rattle.bounds.specs.Held.{pinsBefore, Held}
+use Rattle.axis_bounds.specs.declared.Slot.{Slot}
+use Rattle.axis_bounds.specs.declared.AxisPin.{AxisPin}
+use Rattle.axis_bounds.specs.declared.AxisNet.{AxisNet}
+use Rattle.axis_bounds.specs.declared.Axis.{Axis as HeldAxis}
+use Rattle.axis_bounds.specs.Axis.{noSlot, noPin, noNet, bareNet, netsOf, axisOf, pinCount, FinePair, FinePin, FineNet, Fine}
+use Rattle.axis_bounds.specs.Held.{pinsBefore, Held}
 use Rattle.axis_graph.specs.Graph.{Decides}
 use Rattle.axis_graph.specs.Above.{NoneAbove, FirstAbove}
 use Rattle.axis_held.specs.Accept.{PairsTo, PinsTo, NetCounts, NetsTo, FrameTo}

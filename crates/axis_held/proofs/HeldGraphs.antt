@@ -6,14 +6,14 @@ use Prim.Native.Nat.{ℕ, suc, _+_, _*_, _<_}
 use native.Mathlib.Omega.{arith}
 use lib.ListN.{length, getD, take, replicate}
 use lib.Seq.{sets, getD-take}
-use Rattle.bounds.specs.declared.Slot.{Slot}
-use Rattle.bounds.specs.declared.Axis.{Axis as HeldAxis}
-use Rattle.bounds.specs.Axis.{NetOn, noSlot, netsOf, axisOf}
-use Rattle.bounds.specs.Listed.{slot, dieSlots, netSlots, listed}
-use Rattle.bounds.specs.Graph.{far, endSlots, graphSlots, macroSlots}
-use Rattle.bounds.specs.Held.{pinsBefore, Held}
-use Rattle.bounds.proofs.Counts.{length-die, length-macros, length-listed, length-graph-all}
-use Rattle.bounds.proofs.Sorts.{listed-is, graph-is}
+use Rattle.axis_bounds.specs.declared.Slot.{Slot}
+use Rattle.axis_bounds.specs.declared.Axis.{Axis as HeldAxis}
+use Rattle.axis_bounds.specs.Axis.{NetOn, noSlot, netsOf, axisOf}
+use Rattle.axis_bounds.specs.Listed.{slot, dieSlots, netSlots, listed}
+use Rattle.axis_bounds.specs.Graph.{far, endSlots, graphSlots, macroSlots}
+use Rattle.axis_bounds.specs.Held.{pinsBefore, Held}
+use Rattle.axis_bounds.proofs.Counts.{length-die, length-macros, length-listed, length-graph-all}
+use Rattle.axis_bounds.proofs.Sorts.{listed-is, graph-is}
 use Rattle.axis_graph.specs.declared.Graph.{Graph}
 use Rattle.axis_graph.specs.declared.Span.{Span}
 use Rattle.axis_held.specs.Graphs.{blankGraph, GraphOf, SpansOfAxis}
@@ -22,7 +22,7 @@ use Rattle.axis_graph.specs.Limits.{slotRoom, netRoom}
 use Rattle.axis_graph.specs.Graph.{Decides}
 use Rattle.axis_graph.specs.Build.{slotsFrom, dieGraph, macroGraph, wholeGraph, SpansTo}
 use Rattle.axis_held.specs.Ends.{endsOf}
-use Rattle.numbers.proofs.Stores.{sets-append}
+use Rattle.num_laws.proofs.Stores.{sets-append}
 use Rattle.axis_graph.proofs.Answers.{held-by, failed-by}
 use Rattle.axis_held.proofs.HeldAxes.{Shaped, length-sizes, length-pairs, length-of-nets, count-of-nets}
 

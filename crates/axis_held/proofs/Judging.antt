@@ -5,14 +5,14 @@ use Prim.Native.Nat.{ℕ, suc, _≤_, _<_}
 use native.Mathlib.Omega.{arith}
 use lib.ListN.{length, getD, take, length-take, replicate}
 use lib.Seq.{getD-take}
-use Rattle.bounds.specs.declared.Axis.{Axis as HeldAxis}
-use Rattle.bounds.specs.Axis.{Axis, noNet, axisOf}
-use Rattle.bounds.specs.Listed.{hiNode, loNode}
-use Rattle.bounds.specs.Graph.{graphSlots, Coordinates}
-use Rattle.bounds.specs.Held.{Held}
-use Rattle.bounds.proofs.Sorts.{graph-macros}
-use Rattle.bounds.proofs.Limits.{KeptBy, holds-each, mac-from}
-use Rattle.bounds.proofs.Answers.{solved-on, unsolved-on}
+use Rattle.axis_bounds.specs.declared.Axis.{Axis as HeldAxis}
+use Rattle.axis_bounds.specs.Axis.{Axis, noNet, axisOf}
+use Rattle.axis_bounds.specs.Listed.{hiNode, loNode}
+use Rattle.axis_bounds.specs.Graph.{graphSlots, Coordinates}
+use Rattle.axis_bounds.specs.Held.{Held}
+use Rattle.axis_bounds.proofs.Sorts.{graph-macros}
+use Rattle.axis_bounds.proofs.Limits.{KeptBy, holds-each, mac-from}
+use Rattle.axis_bounds.proofs.Answers.{solved-on, unsolved-on}
 use Rattle.axis_graph.specs.declared.Graph.{Graph}
 use Rattle.axis_graph.specs.declared.Span.{Span}
 use Rattle.axis_graph.specs.Limits.{slotRoom}

@@ -6,10 +6,10 @@ use native.Mathlib.Nat.{le-of-suc-le-suc}
 use native.Mathlib.Omega.{arith}
 use lib.ListN.{length, getD, take, drop, length-take, length-drop}
 use lib.Seq.{drop-drop, getD-take, getD-drop}
-use Rattle.bounds.specs.declared.AxisPin.{AxisPin}
-use Rattle.bounds.specs.declared.AxisNet.{AxisNet}
-use Rattle.bounds.specs.Axis.{NetOn, noNet, noPin, bareNet, netsOf, pinCount}
-use Rattle.bounds.specs.Held.{pinsBefore}
+use Rattle.axis_bounds.specs.declared.AxisPin.{AxisPin}
+use Rattle.axis_bounds.specs.declared.AxisNet.{AxisNet}
+use Rattle.axis_bounds.specs.Axis.{NetOn, noNet, noPin, bareNet, netsOf, pinCount}
+use Rattle.axis_bounds.specs.Held.{pinsBefore}
 
 -- the pins before a net, and its own
 pub pins-next : (j : ℕ) (ts : List AxisNet) → pinsBefore (suc j) ts ≡ pinsBefore j ts + getD ts j noNet .pins

@@ -2,12 +2,12 @@
 use Prim.Native.Nat.{ℕ, suc, _-_, _≤_, _<_}
 use mathlib.Core.List.{List}
 use lib.ListN.{getD}
-use Rattle.bounds.specs.declared.Slot.{Slot}
-use Rattle.bounds.specs.declared.AxisPin.{AxisPin}
-use Rattle.bounds.specs.declared.AxisNet.{AxisNet}
-use Rattle.bounds.specs.declared.Axis.{Axis}
-use Rattle.bounds.specs.Axis.{noSlot, noPin, noNet, FinePair, FinePin}
-use Rattle.bounds.specs.Held.{pinsBefore}
+use Rattle.axis_bounds.specs.declared.Slot.{Slot}
+use Rattle.axis_bounds.specs.declared.AxisPin.{AxisPin}
+use Rattle.axis_bounds.specs.declared.AxisNet.{AxisNet}
+use Rattle.axis_bounds.specs.declared.Axis.{Axis}
+use Rattle.axis_bounds.specs.Axis.{noSlot, noPin, noNet, FinePair, FinePin}
+use Rattle.axis_bounds.specs.Held.{pinsBefore}
 
 -- the first k pairs, of n macros
 pub record PairsTo (n : ℕ) (ss : List Slot) (k : ℕ) : Type 0 where

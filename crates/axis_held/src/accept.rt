@@ -1,12 +1,12 @@
 // Whether an axis is within the limits of the solver.
 use axis_graph::above::first_above;
-use bounds::Axis;
-use bounds::AxisNet;
-use bounds::AxisPin;
-use bounds::Slot;
+use axis_bounds::Axis;
+use axis_bounds::AxisNet;
+use axis_bounds::AxisPin;
+use axis_bounds::Slot;
 ghost use Prim.Native.Nat.{_≤_};
-ghost use Rattle.bounds.specs.Axis.{FinePair, FinePin};
-ghost use Rattle.bounds.specs.Held.{Held};
+ghost use Rattle.axis_bounds.specs.Axis.{FinePair, FinePin};
+ghost use Rattle.axis_bounds.specs.Held.{Held};
 ghost use Rattle.axis_graph.specs.Graph.{Decides};
 ghost use Rattle.axis_held.specs.Accept.{PairsTo, PinsTo, NetCounts, NetsTo, FrameTo};
 

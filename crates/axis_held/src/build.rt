@@ -1,17 +1,17 @@
 // The slots and the nets of an axis, written into the arrays of a graph.
 use axis_graph::SLOT_ROOM;
 use axis_graph::Span;
-use bounds::Axis;
-use bounds::AxisNet;
-use bounds::AxisPin;
-use bounds::Slot;
+use axis_bounds::Axis;
+use axis_bounds::AxisNet;
+use axis_bounds::AxisPin;
+use axis_bounds::Slot;
 ghost use mathlib.Core.Path.{_≡_};
 ghost use Prim.Native.Nat.{_+_, _*_, _≤_};
 ghost use lib.ListN.{take};
 ghost use lib.Seq.{sets};
-ghost use Rattle.bounds.specs.Axis.{netsOf};
-ghost use Rattle.bounds.specs.Listed.{slot, dieSlots, netSlots};
-ghost use Rattle.bounds.specs.Held.{pinsBefore};
+ghost use Rattle.axis_bounds.specs.Axis.{netsOf};
+ghost use Rattle.axis_bounds.specs.Listed.{slot, dieSlots, netSlots};
+ghost use Rattle.axis_bounds.specs.Held.{pinsBefore};
 ghost use Rattle.axis_graph.specs.Limits.{slotRoom};
 ghost use Rattle.axis_held.specs.Ends.{endsOf};
 ghost use Rattle.axis_graph.specs.Build.{SpansTo};

@@ -1,6 +1,6 @@
 // The coordinates of the macros, from the values of the nodes.
 use axis_graph::NODE_ROOM;
-use bounds::Axis;
+use axis_bounds::Axis;
 ghost use mathlib.Core.Path.{_≡_};
 ghost use Prim.Native.Nat.{_-_};
 ghost use Rattle.axis_held.specs.Graphs.{Placed};

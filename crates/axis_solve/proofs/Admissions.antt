@@ -12,16 +12,16 @@ use native.Mathlib.Omega.{arith}
 use lib.ListN.{length, set}
 use lib.Seq.{getD-set-same, getD-set-other}
 use lib.Dec.{eqb}
-use Rattle.numbers.specs.Sum.{when}
-use Rattle.numbers.proofs.Sums.{sum-pick}
-use Rattle.flow.specs.Flow.{weigh, Balance}
-use Rattle.flow.proofs.Duality.{strong}
-use Rattle.bounds.specs.declared.Slot.{Slot}
+use Rattle.num_laws.specs.Sum.{when}
+use Rattle.num_laws.proofs.Sums.{sum-pick}
+use Rattle.flow_laws.specs.Flow.{weigh, Balance}
+use Rattle.flow_laws.proofs.Duality.{strong}
+use Rattle.axis_bounds.specs.declared.Slot.{Slot}
 use Rattle.axis_graph.specs.declared.Graph.{Graph}
 use Rattle.axis_solve.specs.declared.growth.Growth.{Growth}
 use Rattle.axis_graph.specs.Limits.{slotRoom, lowMost}
-use Rattle.bounds.specs.Axis.{noSlot}
-use Rattle.bounds.specs.Listed.{slotAt, tails, heads, pluses, minuses}
+use Rattle.axis_bounds.specs.Axis.{noSlot}
+use Rattle.axis_bounds.specs.Listed.{slotAt, tails, heads, pluses, minuses}
 use Rattle.axis_graph.specs.Graph.{at, Decides, Fine, Small, HoldsAt, Leads, Net}
 use Rattle.axis_solve.specs.Growth.{seedOf, Growing, Spread, Shifted}
 use Rattle.axis_solve.specs.Push.{Pushable, Pushed}

@@ -5,14 +5,14 @@ use Prim.Native.Nat.{ℕ, suc, _+_, _*_, _≤_, _<_}
 use native.Mathlib.Decide.{decLt}
 use native.Mathlib.Omega.{arith}
 use lib.ListN.{length, getD, replicate, getD-replicate, length-replicate, List·getD-append, List·getD-eq-default}
-use Rattle.bounds.specs.declared.Slot.{Slot}
-use Rattle.bounds.specs.Axis.{Axis, noSlot, Fine as FineAxis}
-use Rattle.bounds.specs.Listed.{slotAt, tails, heads}
-use Rattle.bounds.specs.Graph.{macroSlots, Holds as HoldsList}
-use Rattle.bounds.proofs.Counts.{length-die, length-macros}
-use Rattle.bounds.proofs.Sorts.{OfMacros, macros-each}
-use Rattle.bounds.proofs.Limits.{KeptBy, each-holds, macro-fine}
-use Rattle.bounds.proofs.Idle.{past-end}
+use Rattle.axis_bounds.specs.declared.Slot.{Slot}
+use Rattle.axis_bounds.specs.Axis.{Axis, noSlot, Fine as FineAxis}
+use Rattle.axis_bounds.specs.Listed.{slotAt, tails, heads}
+use Rattle.axis_bounds.specs.Graph.{macroSlots, Holds as HoldsList}
+use Rattle.axis_bounds.proofs.Counts.{length-die, length-macros}
+use Rattle.axis_bounds.proofs.Sorts.{OfMacros, macros-each}
+use Rattle.axis_bounds.proofs.Limits.{KeptBy, each-holds, macro-fine}
+use Rattle.axis_bounds.proofs.Idle.{past-end}
 use Rattle.axis_graph.specs.Limits.{nodeRoom, farthest, lowMost}
 use Rattle.axis_graph.specs.Graph.{at, FineSlot, Net}
 use Rattle.axis_solve.specs.Admit.{Free, Wanted}

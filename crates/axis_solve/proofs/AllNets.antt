@@ -6,13 +6,13 @@ use native.Mathlib.Numerals.{add-one}
 use native.Mathlib.Nat.{le-antisymm}
 use native.Mathlib.Omega.{arith}
 use lib.ListN.{replicate}
-use Rattle.numbers.specs.Sum.{sum}
-use Rattle.numbers.proofs.Sums.{sum-grows}
-use Rattle.flow.specs.Flow.{atNode}
+use Rattle.num_laws.specs.Sum.{sum}
+use Rattle.num_laws.proofs.Sums.{sum-grows}
+use Rattle.flow_laws.specs.Flow.{atNode}
 use Rattle.axis_graph.specs.declared.Graph.{Graph}
 use Rattle.axis_graph.specs.declared.Span.{Span}
 use Rattle.axis_graph.specs.Limits.{slotRoom}
-use Rattle.bounds.specs.Listed.{tails, heads}
+use Rattle.axis_bounds.specs.Listed.{tails, heads}
 use Rattle.axis_graph.specs.Graph.{Net}
 use Rattle.axis_solve.specs.Drain.{Sound, Spare, Drained}
 use Rattle.axis_solve.specs.Admit.{Free}

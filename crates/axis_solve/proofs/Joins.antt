@@ -13,13 +13,13 @@ use lib.ListN.{length, set}
 use lib.Seq.{getD-set-same, getD-set-other}
 use lib.Dec.{eqb}
 use borrow.Author.Tests.{eq-eqb, ne-eqb}
-use Rattle.numbers.specs.Sum.{when}
-use Rattle.numbers.proofs.Sums.{sum-change}
-use Rattle.bounds.specs.declared.Slot.{Slot}
+use Rattle.num_laws.specs.Sum.{when}
+use Rattle.num_laws.proofs.Sums.{sum-change}
+use Rattle.axis_bounds.specs.declared.Slot.{Slot}
 use Rattle.axis_graph.specs.declared.Graph.{Graph}
 use Rattle.axis_solve.specs.declared.growth.Growth.{Growth}
 use Rattle.axis_graph.specs.Limits.{nodeRoom, noSlack, valueMost}
-use Rattle.bounds.specs.Listed.{slotAt, tails, heads, pluses, minuses}
+use Rattle.axis_bounds.specs.Listed.{slotAt, tails, heads, pluses, minuses}
 use Rattle.axis_graph.specs.Graph.{at, Fine, Small, TightAt, slackAt, Holds, Tights}
 use Rattle.axis_solve.specs.Growth.{joinOf, Least, Raised, From, Forward, Backward, Link, Tree, outside, Growing, StepOk}
 

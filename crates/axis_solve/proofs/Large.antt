@@ -5,10 +5,10 @@ use Prim.Native.Nat.{ℕ, _+_, _*_, _<_}
 use native.Mathlib.Omega.{arith}
 use lib.ListN.{length, set, replicate, length-set}
 use lib.Seq.{getD-set-same, getD-set-other}
-use Rattle.bounds.specs.declared.Axis.{Axis as HeldAxis}
-use Rattle.bounds.specs.Axis.{axisOf}
-use Rattle.bounds.specs.Held.{Held}
-use Rattle.bounds.proofs.Answers.{oversize-on}
+use Rattle.axis_bounds.specs.declared.Axis.{Axis as HeldAxis}
+use Rattle.axis_bounds.specs.Axis.{axisOf}
+use Rattle.axis_bounds.specs.Held.{Held}
+use Rattle.axis_bounds.proofs.Answers.{oversize-on}
 use Rattle.axis_graph.specs.Limits.{slotRoom}
 use Rattle.axis_graph.specs.Graph.{at}
 use Rattle.axis_graph.specs.Above.{FirstAbove}

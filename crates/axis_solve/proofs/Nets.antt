@@ -5,16 +5,16 @@ use Prim.Native.Nat.{ℕ, suc, _+_, _≤_, _<_}
 use native.Mathlib.Decide.{decLt}
 use native.Mathlib.Omega.{arith}
 use lib.ListN.{length, getD}
-use Rattle.bounds.specs.declared.AxisPin.{AxisPin}
-use Rattle.bounds.specs.declared.Axis.{Axis as HeldAxis}
-use Rattle.bounds.specs.Axis.{Axis, noPin, noNet, axisOf}
-use Rattle.bounds.specs.Listed.{slot, tails, heads, hiNode, loNode}
-use Rattle.bounds.specs.Graph.{graphSlots, macroSlots, Holds as HoldsList}
-use Rattle.bounds.specs.Held.{pinsBefore, Held}
-use Rattle.bounds.proofs.Counts.{few-slots}
-use Rattle.bounds.proofs.Members.{Each}
-use Rattle.bounds.proofs.Sorts.{pinsOn, pinOn, OfMacros, OfEnds, each-macros, graph-each}
-use Rattle.bounds.proofs.Limits.{KeptBy, each-holds, macro-tails, macro-heads, mac-from, mac-to}
+use Rattle.axis_bounds.specs.declared.AxisPin.{AxisPin}
+use Rattle.axis_bounds.specs.declared.Axis.{Axis as HeldAxis}
+use Rattle.axis_bounds.specs.Axis.{Axis, noPin, noNet, axisOf}
+use Rattle.axis_bounds.specs.Listed.{slot, tails, heads, hiNode, loNode}
+use Rattle.axis_bounds.specs.Graph.{graphSlots, macroSlots, Holds as HoldsList}
+use Rattle.axis_bounds.specs.Held.{pinsBefore, Held}
+use Rattle.axis_bounds.proofs.Counts.{few-slots}
+use Rattle.axis_bounds.proofs.Members.{Each}
+use Rattle.axis_bounds.proofs.Sorts.{pinsOn, pinOn, OfMacros, OfEnds, each-macros, graph-each}
+use Rattle.axis_bounds.proofs.Limits.{KeptBy, each-holds, macro-tails, macro-heads, mac-from, mac-to}
 use Rattle.axis_graph.specs.declared.Graph.{Graph}
 use Rattle.axis_graph.specs.Limits.{farthest, lowMost}
 use Rattle.axis_graph.specs.Graph.{at, Small}

@@ -13,14 +13,14 @@ use lib.Seq.{getD-set-same, getD-set-other}
 use lib.Dec.{eqb}
 use mir.Syntax.{w64}
 use mir.Val.{Fits}
-use Rattle.numbers.specs.Sum.{when}
-use Rattle.numbers.proofs.Sums.{when-add, sum-change}
-use Rattle.flow.specs.Flow.{atNode}
-use Rattle.bounds.specs.declared.Slot.{Slot}
+use Rattle.num_laws.specs.Sum.{when}
+use Rattle.num_laws.proofs.Sums.{when-add, sum-change}
+use Rattle.flow_laws.specs.Flow.{atNode}
+use Rattle.axis_bounds.specs.declared.Slot.{Slot}
 use Rattle.axis_graph.specs.declared.Graph.{Graph}
 use Rattle.axis_solve.specs.declared.growth.Growth.{Growth}
 use Rattle.axis_graph.specs.Limits.{nodeRoom, slotRoom}
-use Rattle.bounds.specs.Listed.{tails, heads, pluses, minuses}
+use Rattle.axis_bounds.specs.Listed.{tails, heads, pluses, minuses}
 use Rattle.axis_graph.specs.Graph.{at, Fine}
 use Rattle.axis_solve.specs.Growth.{From, Forward, Backward, Link}
 use Rattle.axis_solve.specs.Push.{Pushable, Walked, Pushed}

@@ -7,8 +7,8 @@ use native.Mathlib.Omega.{arith}
 use lib.ListN.{set, replicate}
 use lib.Seq.{getD-set-same, getD-set-other}
 use lib.Dec.{eqb}
-use Rattle.numbers.specs.Sum.{sum}
-use Rattle.numbers.proofs.Sums.{when-le}
+use Rattle.num_laws.specs.Sum.{sum}
+use Rattle.num_laws.proofs.Sums.{when-le}
 use Rattle.axis_graph.specs.declared.Graph.{Graph}
 use Rattle.axis_solve.specs.declared.growth.Growth.{Growth}
 use Rattle.axis_graph.specs.Limits.{nodeRoom}

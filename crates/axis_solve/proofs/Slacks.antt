@@ -8,9 +8,9 @@ use native.Mathlib.Omega.{arith}
 use mir.Syntax.{w64}
 use mir.Val.{Fits}
 use borrow.Author.Count.{below-more}
-use Rattle.bounds.specs.declared.Slot.{Slot}
+use Rattle.axis_bounds.specs.declared.Slot.{Slot}
 use Rattle.axis_graph.specs.Limits.{noSlack}
-use Rattle.bounds.specs.Listed.{slotAt, tails, heads, pluses, minuses}
+use Rattle.axis_bounds.specs.Listed.{slotAt, tails, heads, pluses, minuses}
 use Rattle.axis_graph.specs.Graph.{at, Decides, FineSlot, Small, HoldsAt, slackAt, Holds, Leaving, LeavesBy}
 use Rattle.axis_graph.proofs.Answers.{says-yes, says-no}
 use Rattle.axis_solve.specs.Growth.{Least}

@@ -8,8 +8,8 @@ use mathlib.Core.Logic.{⊎-elim}
 use Prim.Native.Nat.{ℕ, zero, suc, _+_, _≤_, _<_}
 use native.Mathlib.Decide.{ℕ-discrete}
 use native.Mathlib.Omega.{arith}
-use Rattle.bounds.specs.declared.Slot.{Slot}
-use Rattle.bounds.specs.Listed.{tails, heads}
+use Rattle.axis_bounds.specs.declared.Slot.{Slot}
+use Rattle.axis_bounds.specs.Listed.{tails, heads}
 use Rattle.axis_graph.specs.Graph.{at, Holds, Tights}
 use Rattle.axis_solve.specs.Growth.{Tree}
 

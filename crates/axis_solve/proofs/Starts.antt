@@ -8,11 +8,11 @@ use mir.Syntax.{w64}
 use mir.Val.{Fits}
 use lib.ListN.{length, getD, set, length-set}
 use lib.Seq.{getD-set-same, getD-set-other}
-use Rattle.bounds.specs.declared.AxisPin.{AxisPin}
-use Rattle.bounds.specs.declared.AxisNet.{AxisNet}
-use Rattle.bounds.specs.Axis.{noPin, noNet}
-use Rattle.bounds.specs.Listed.{hiNode, loNode}
-use Rattle.bounds.specs.Held.{pinsBefore}
+use Rattle.axis_bounds.specs.declared.AxisPin.{AxisPin}
+use Rattle.axis_bounds.specs.declared.AxisNet.{AxisNet}
+use Rattle.axis_bounds.specs.Axis.{noPin, noNet}
+use Rattle.axis_bounds.specs.Listed.{hiNode, loNode}
+use Rattle.axis_bounds.specs.Held.{pinsBefore}
 use Rattle.axis_graph.specs.Limits.{nodeRoom, farthest, lowMost}
 use Rattle.axis_graph.specs.Graph.{at}
 use Rattle.axis_solve.specs.Start.{topmost, pinAt, PinsIn, NetsIn, Around, Resting, Started}

@@ -5,11 +5,11 @@ use mathlib.Core.Logic.{inl, inr, ⊎-elim}
 use Prim.Native.Nat.{ℕ, _≤_, _<_}
 use native.Mathlib.Omega.{arith}
 use lib.ListN.{length}
-use Rattle.bounds.specs.declared.Slot.{Slot}
+use Rattle.axis_bounds.specs.declared.Slot.{Slot}
 use Rattle.axis_graph.specs.declared.Graph.{Graph}
 use Rattle.axis_solve.specs.declared.growth.Growth.{Growth}
 use Rattle.axis_graph.specs.Limits.{nodeRoom, slotRoom, noSlack}
-use Rattle.bounds.specs.Listed.{slotAt, tails, heads}
+use Rattle.axis_bounds.specs.Listed.{slotAt, tails, heads}
 use Rattle.axis_graph.specs.Graph.{at, FineSlot, Fine, TightAt, slackAt, Leaves}
 use Rattle.axis_solve.specs.Growth.{joinOf, Least, Raised, Growing, Ready, StepOk}
 use Rattle.axis_solve.proofs.Joins.{outside-less, tight-up, room-v, from-new, joined}

@@ -6,12 +6,12 @@ use Prim.Native.Nat.{ℕ, _+_, _-_, _≤_, _<_, min}
 use native.Mathlib.Decide.{ℕ-discrete, decLt}
 use native.Mathlib.Omega.{arith}
 use lib.Dec.{eqb}
-use Rattle.numbers.specs.Sum.{when}
-use Rattle.flow.specs.Flow.{Balance}
+use Rattle.num_laws.specs.Sum.{when}
+use Rattle.flow_laws.specs.Flow.{Balance}
 use Rattle.axis_graph.specs.declared.Graph.{Graph}
 use Rattle.axis_solve.specs.declared.growth.Growth.{Growth}
 use Rattle.axis_graph.specs.Limits.{farthest, lowMost}
-use Rattle.bounds.specs.Listed.{tails, heads}
+use Rattle.axis_bounds.specs.Listed.{tails, heads}
 use Rattle.axis_graph.specs.Graph.{at, Fine, Small}
 use Rattle.axis_solve.specs.Growth.{seedOf, Spread, Shifted}
 use Rattle.axis_solve.specs.Push.{Pushable, Pushed}

@@ -5,12 +5,12 @@ use mathlib.Core.Bool.{Bool, true, false}
 use mathlib.Core.List.{List}
 use mathlib.Core.Logic.{_⊎_}
 use lib.ListN.{set, length}
-use Rattle.bounds.specs.declared.Slot.{Slot}
+use Rattle.axis_bounds.specs.declared.Slot.{Slot}
 use Rattle.axis_graph.specs.declared.Graph.{Graph}
 use Rattle.axis_solve.specs.declared.growth.Growth.{Growth}
 use Rattle.axis_graph.specs.Limits.{slotRoom, lowMost}
-use Rattle.bounds.specs.Axis.{noSlot}
-use Rattle.bounds.specs.Listed.{slotAt, tails, heads}
+use Rattle.axis_bounds.specs.Axis.{noSlot}
+use Rattle.axis_bounds.specs.Listed.{slotAt, tails, heads}
 use Rattle.axis_graph.specs.Solved.{Refuted}
 use Rattle.axis_graph.specs.Graph.{at, FineSlot, Holds, HoldsAt, Near, Net}
 use Rattle.axis_solve.specs.Growth.{Growing}

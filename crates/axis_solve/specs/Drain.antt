@@ -3,12 +3,12 @@ use Prim.Native.Nat.{ℕ, _+_, _≤_, _<_}
 use mathlib.Core.Path.{_≡_}
 use mathlib.Core.List.{List}
 use lib.Dec.{eqb}
-use Rattle.numbers.specs.Sum.{when}
-use Rattle.flow.specs.Flow.{Balance}
+use Rattle.num_laws.specs.Sum.{when}
+use Rattle.flow_laws.specs.Flow.{Balance}
 use Rattle.axis_graph.specs.declared.Graph.{Graph}
 use Rattle.axis_solve.specs.declared.growth.Growth.{Growth}
 use Rattle.axis_graph.specs.Limits.{lowMost, amountMost}
-use Rattle.bounds.specs.Listed.{tails, heads}
+use Rattle.axis_bounds.specs.Listed.{tails, heads}
 use Rattle.axis_graph.specs.Graph.{at, Holds, Tights, Near}
 use Rattle.axis_solve.specs.Growth.{Growing}
 

@@ -2,9 +2,9 @@
 use Prim.Native.Nat.{ℕ, _≤_}
 use mathlib.Core.Path.{_≡_}
 use mathlib.Core.List.{List}
-use Rattle.numbers.specs.Sum.{sum}
-use Rattle.flow.specs.Flow.{atNode, Balance}
-use Rattle.bounds.specs.Listed.{tails, heads}
+use Rattle.num_laws.specs.Sum.{sum}
+use Rattle.flow_laws.specs.Flow.{atNode, Balance}
+use Rattle.axis_bounds.specs.Listed.{tails, heads}
 use Rattle.axis_graph.specs.declared.Graph.{Graph}
 use Rattle.axis_graph.specs.declared.Span.{Span}
 use Rattle.axis_graph.specs.Graph.{at, Closed}

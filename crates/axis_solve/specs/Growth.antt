@@ -5,13 +5,13 @@ use mathlib.Core.List.{List}
 use mathlib.Core.Logic.{_⊎_}
 use lib.ListN.{getD, set, length, replicate}
 use lib.Dec.{eqb}
-use Rattle.numbers.specs.Sum.{sum, when}
-use Rattle.bounds.specs.declared.Slot.{Slot}
+use Rattle.num_laws.specs.Sum.{sum, when}
+use Rattle.axis_bounds.specs.declared.Slot.{Slot}
 use Rattle.axis_graph.specs.declared.Graph.{Graph}
 use Rattle.axis_solve.specs.declared.growth.Growth.{Growth}
 use Rattle.axis_graph.specs.Limits.{nodeRoom, farthest, lowMost, noSlack}
-use Rattle.bounds.specs.Axis.{noSlot}
-use Rattle.bounds.specs.Listed.{slotAt, tails, heads}
+use Rattle.axis_bounds.specs.Axis.{noSlot}
+use Rattle.axis_bounds.specs.Listed.{slotAt, tails, heads}
 use Rattle.axis_graph.specs.Graph.{at, Fine, Small, TightAt, slackAt, Holds, Tights, Near, LeavesBy, Closed}
 
 -- the set of one node

@@ -4,12 +4,12 @@ use mathlib.Core.Path.{_≡_}
 use mathlib.Core.List.{List}
 use lib.ListN.{length}
 use lib.Dec.{eqb}
-use Rattle.numbers.specs.Sum.{when}
-use Rattle.flow.specs.Flow.{atNode, Balance}
+use Rattle.num_laws.specs.Sum.{when}
+use Rattle.flow_laws.specs.Flow.{atNode, Balance}
 use Rattle.axis_graph.specs.declared.Graph.{Graph}
 use Rattle.axis_solve.specs.declared.growth.Growth.{Growth}
 use Rattle.axis_graph.specs.Limits.{slotRoom, amountMost}
-use Rattle.bounds.specs.Listed.{tails, heads}
+use Rattle.axis_bounds.specs.Listed.{tails, heads}
 use Rattle.axis_graph.specs.Graph.{at, Tights}
 use Rattle.axis_solve.specs.Growth.{Tree}
 

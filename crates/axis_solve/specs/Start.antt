@@ -4,11 +4,11 @@ use Prim.Native.Nat.{ℕ, suc, _+_, _≤_, _<_}
 use mathlib.Core.Path.{_≡_}
 use mathlib.Core.List.{List}
 use lib.ListN.{getD, length}
-use Rattle.bounds.specs.declared.AxisPin.{AxisPin}
-use Rattle.bounds.specs.declared.AxisNet.{AxisNet}
-use Rattle.bounds.specs.Axis.{noPin}
-use Rattle.bounds.specs.Listed.{hiNode, loNode}
-use Rattle.bounds.specs.Held.{pinsBefore}
+use Rattle.axis_bounds.specs.declared.AxisPin.{AxisPin}
+use Rattle.axis_bounds.specs.declared.AxisNet.{AxisNet}
+use Rattle.axis_bounds.specs.Axis.{noPin}
+use Rattle.axis_bounds.specs.Listed.{hiNode, loNode}
+use Rattle.axis_bounds.specs.Held.{pinsBefore}
 use Rattle.axis_graph.specs.Limits.{nodeRoom, farthest, lowMost}
 use Rattle.axis_graph.specs.Graph.{at}
 

@@ -8,7 +8,7 @@ use crate::push::push;
 use axis_graph::Graph;
 use axis_graph::NODE_ROOM;
 use axis_graph::SLOT_ROOM;
-use bounds::Slot;
+use axis_bounds::Slot;
 ghost use Prim.Native.Nat.{_≤_};
 ghost use Rattle.axis_graph.specs.Limits.{slotRoom};
 ghost use Rattle.axis_graph.specs.Graph.{FineSlot, Fine, Leads, Net};

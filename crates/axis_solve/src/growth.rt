@@ -7,7 +7,7 @@ ghost use mathlib.Core.Path.{_≡_};
 ghost use Prim.Native.Nat.{_<_, _≤_};
 ghost use lib.ListN.{getD};
 ghost use Rattle.axis_graph.specs.Limits.{noSlack, nodeRoom, slotRoom};
-ghost use Rattle.bounds.specs.Listed.{slotAt};
+ghost use Rattle.axis_bounds.specs.Listed.{slotAt};
 ghost use Rattle.axis_graph.specs.Graph.{FineSlot, Fine, Small, Holds, Leaving, Decides};
 ghost use Rattle.axis_solve.specs.Growth.{seedOf, joinOf, Least, Raised, Spread, Shifted, Growing, Ready, StepOk};
 

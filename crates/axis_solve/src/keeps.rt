@@ -1,6 +1,6 @@
 // The bound of one slot.
 use axis_graph::NODE_ROOM;
-use bounds::Slot;
+use axis_bounds::Slot;
 ghost use Rattle.axis_graph.specs.Graph.{FineSlot, Small, HoldsAt, Decides};
 
 // Whether the values x keep the bound of s.

@@ -8,7 +8,7 @@ use axis_graph::Graph;
 use axis_graph::NODE_ROOM;
 use axis_graph::SLOT_ROOM;
 use axis_graph::Span;
-use bounds::Axis;
+use axis_bounds::Axis;
 ghost use Prim.Native.Nat.{_<_, _≤_};
 ghost use Rattle.axis_graph.specs.Limits.{netRoom};
 ghost use Rattle.axis_graph.specs.Graph.{Fine};

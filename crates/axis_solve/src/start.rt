@@ -2,12 +2,12 @@
 use crate::drain::lesser;
 use crate::growth::FARTHEST;
 use axis_graph::NODE_ROOM;
-use bounds::Axis;
-use bounds::AxisNet;
-use bounds::AxisPin;
+use axis_bounds::Axis;
+use axis_bounds::AxisNet;
+use axis_bounds::AxisPin;
 ghost use mathlib.Core.Path.{_≡_};
 ghost use Prim.Native.Nat.{_+_, _≤_, max};
-ghost use Rattle.bounds.specs.Held.{pinsBefore};
+ghost use Rattle.axis_bounds.specs.Held.{pinsBefore};
 ghost use Rattle.axis_solve.specs.Start.{PinsIn, NetsIn, Around, Resting, Started};
 
 // The highest place of a pin at the start; the lowest is FARTHEST, where node 0 lies.

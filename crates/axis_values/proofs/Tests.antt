@@ -9,9 +9,9 @@ use borrow.Author.Count.{below-more}
 use mir.Syntax.{w64}
 use mir.Val.{Fits}
 use lib.ListN.{length}
-use Rattle.bounds.specs.declared.Slot.{Slot}
+use Rattle.axis_bounds.specs.declared.Slot.{Slot}
 use Rattle.axis_graph.proofs.Answers.{held-by, shows-yes, shown-by}
-use Rattle.bounds.specs.Listed.{slotAt, tails, heads, pluses, minuses}
+use Rattle.axis_bounds.specs.Listed.{slotAt, tails, heads, pluses, minuses}
 use Rattle.axis_graph.specs.declared.Graph.{Graph}
 use Rattle.axis_graph.specs.Limits.{nodeRoom, lowMost}
 use Rattle.axis_graph.specs.Graph.{at, Fine, Small, Holds, Tights, Shows, Decides}

@@ -10,7 +10,7 @@ use axis_graph::SLOT_ROOM;
 use axis_graph::WAYS;
 use axis_graph::above::first_above;
 use axis_graph::fine::is_fine;
-use bounds::Slot;
+use axis_bounds::Slot;
 ghost use Rattle.axis_graph.specs.Graph.{Fine, Small, Holds, Tights, Shows};
 ghost use Rattle.axis_values.specs.Values.{Kept, Tied, Rooted, Rests};
 

@@ -11,7 +11,7 @@ use Rattle.model.specs.declared.Net.{Net as HeldNet}
 use Rattle.model.specs.declared.Chip.{Chip as HeldChip}
 use Rattle.model.specs.Meaning.{blankNet}
 use Rattle.model.specs.Made.{Made}
-use Rattle.grammar.specs.Steps.{need}
+use Rattle.text_grammar.specs.Steps.{need}
 use Rattle.chip_faults.specs.declared.Row.{Row}
 use Rattle.chip_faults.specs.Faults.{isMade, bareBefore, rowFault}
 

@@ -13,8 +13,8 @@ use Rattle.model.specs.declared.Chip.{Chip as HeldChip}
 use Rattle.model.specs.Meaning.{blankFix, blankMac, blankNet, blankPin}
 use Rattle.model.specs.Limits.{mostFixes, mostMacs, mostNets, mostPins}
 use Rattle.model.specs.Made.{Made, made, refusedBy, makeDie, makeFix, makeMac, makeNet, remakePin}
-use Rattle.grammar.specs.Steps.{need}
-use Rattle.chip.specs.Kind.{fixInDie, clearOf}
+use Rattle.text_grammar.specs.Steps.{need}
+use Rattle.chip_text.specs.Kind.{fixInDie, clearOf}
 use Rattle.chip_faults.specs.declared.Row.{Row}
 use Rattle.chip_faults.specs.declared.Row.the-variants as row
 

@@ -34,10 +34,10 @@ fn fix_fault(d: Die, fixes: [Fix; Fix::COUNT], i: usize) -> usize
     let FixMade::Made(_) = Fix::new(f.x, f.y, f.w, f.h) else {
         return 4;
     };
-    if !chip::fix_in_die(d, f) {
+    if !chip_text::fix_in_die(d, f) {
         return 9;
     }
-    if !chip::clear_of_fixes(f, fixes, i) {
+    if !chip_text::clear_of_fixes(f, fixes, i) {
         return 10;
     }
     0

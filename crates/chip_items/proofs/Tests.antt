@@ -10,7 +10,7 @@ use borrow.Author.Tests.{le-ltb}
 use Rattle.model.specs.declared.Chip.{Chip as HeldChip}
 use Rattle.model.specs.declared.Tested.{Tested}
 use Rattle.model.specs.declared.Tested.the-variants as tested
-use Rattle.grammar.specs.Steps.{need}
+use Rattle.text_grammar.specs.Steps.{need}
 use Rattle.chip_faults.specs.declared.Row.{Row}
 use Rattle.chip_faults.specs.declared.Row.the-variants as row
 use Rattle.chip_faults.specs.Faults.{rowFault}

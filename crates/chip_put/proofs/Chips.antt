@@ -8,7 +8,7 @@ use lib.Seq.{sets, length-sets}
 use Rattle.model.specs.declared.Chip.{Chip as HeldChip}
 use Rattle.model.specs.Meaning.{blankFix, blankMac, blankNet, blankPin}
 use Rattle.model.specs.Limits.{mostFixes, mostMacs, mostNets, mostPins}
-use Rattle.chip.proofs.Passing.{Whole}
+use Rattle.chip_text.proofs.Passing.{Whole}
 use Rattle.chip_array.specs.Array.{macsAt, netsAt, pinsAt, fixesAt}
 use Rattle.chip_array.specs.Array.{num, macIn, netIn, pinIn, fixIn, macsIn, netsIn, pinsIn, fixesIn, chipIn}
 use Rattle.chip_put.specs.Numbers.{macNumbers, netNumbers, pinNumbers, fixNumbers}

@@ -7,7 +7,7 @@ use native.Mathlib.Numerals.{add-one}
 use native.Mathlib.Omega.{arith}
 use lib.ListN.{length, getD, take, set, length-set, length-append, List·getD-append}
 use lib.Seq.{sets, take-suc, take-all, length-take-le, getD-set-same, getD-set-other, getD-append-add}
-use Rattle.numbers.proofs.Stores.{sets-append}
+use Rattle.num_laws.proofs.Stores.{sets-append}
 use Rattle.chip_array.specs.Array.{tabulate}
 use Rattle.chip_array.proofs.Tables.{tabulate-of}
 

@@ -10,18 +10,18 @@ use Rattle.model.specs.declared.Tested.{Tested}
 use Rattle.model.specs.declared.Tested.the-variants as tested
 use Rattle.model.specs.declared.Chip.{Chip as HeldChip}
 use Rattle.model.specs.Meaning.{chipOf}
-use Rattle.decimal.specs.Held.{Wrote}
-use Rattle.grammar.specs.Reading.{accepted, refused}
-use Rattle.grammar.proofs.Lengths.{brief, briefWord, run-short}
-use Rattle.chip.specs.declared.ChipWord.{ChipWord}
-use Rattle.chip.specs.declared.ChipWord.the-variants as word
-use Rattle.chip.specs.Words.{chipWords}
-use Rattle.chip.specs.Kind.{start, chipKind}
-use Rattle.chip.specs.Text.{chipRead, readChip, chipItems, chipText}
-use Rattle.chip.proofs.ItemsRun.{items-formed, chip-run}
-use Rattle.chip.proofs.ReadText.{too-long}
-use Rattle.chip.proofs.TextRead.{text-read}
-use Rattle.chipprinter.specs.Items.{ArraysOf}
+use Rattle.num_text.specs.Held.{Wrote}
+use Rattle.text_grammar.specs.Reading.{accepted, refused}
+use Rattle.text_grammar.proofs.Lengths.{brief, briefWord, run-short}
+use Rattle.chip_text.specs.declared.ChipWord.{ChipWord}
+use Rattle.chip_text.specs.declared.ChipWord.the-variants as word
+use Rattle.chip_text.specs.Words.{chipWords}
+use Rattle.chip_text.specs.Kind.{start, chipKind}
+use Rattle.chip_text.specs.Text.{chipRead, readChip, chipItems, chipText}
+use Rattle.chip_text.proofs.ItemsRun.{items-formed, chip-run}
+use Rattle.chip_text.proofs.ReadText.{too-long}
+use Rattle.chip_text.proofs.TextRead.{text-read}
+use Rattle.chip_print.specs.Items.{ArraysOf}
 use Rattle.chip_items.specs.Tests.{itemsTested}
 use Rattle.chip_test.proofs.ChipRun.{items-accepted, items-refused}
 use Rattle.chip_test.proofs.Counts.{few-items}

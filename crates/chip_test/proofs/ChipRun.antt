@@ -17,12 +17,12 @@ use Rattle.model.specs.declared.Tested.the-variants as tested
 use Rattle.model.specs.Meaning.{firstOf, blankFix, blankMac, blankNet, blankPin, pinOf, pinsOf, netsOf, chipOf}
 use Rattle.model.proofs.FirstOf.{length-first}
 use Rattle.model.proofs.Nets.{length-pins}
-use Rattle.grammar.specs.Reading.{accepted, refused}
-use Rattle.grammar.proofs.Items.{runItems}
-use Rattle.chip.specs.Kind.{Part, start, chipKind}
-use Rattle.chip.specs.Text.{Item, dieItem, fixItem, macItem, pinItem, endItem, netItems, chipItems}
-use Rattle.chipprinter.specs.Items.{weightItem, ArraysOf}
-use Rattle.chipprinter.proofs.Nets.{held-items}
+use Rattle.text_grammar.specs.Reading.{accepted, refused}
+use Rattle.text_grammar.proofs.Items.{runItems}
+use Rattle.chip_text.specs.Kind.{Part, start, chipKind}
+use Rattle.chip_text.specs.Text.{Item, dieItem, fixItem, macItem, pinItem, endItem, netItems, chipItems}
+use Rattle.chip_print.specs.Items.{weightItem, ArraysOf}
+use Rattle.chip_print.proofs.Nets.{held-items}
 use Rattle.chip_faults.specs.declared.Row.the-variants as row
 use Rattle.chip_faults.specs.Faults.{netFault, rowFault}
 use Rattle.chip_items.specs.Tests.{rowTested, netsTested, itemsTested}

@@ -8,8 +8,8 @@ use Rattle.model.specs.declared.Pin.{Pin as HeldPin}
 use Rattle.model.specs.declared.Chip.{Chip as HeldChip}
 use Rattle.model.specs.Meaning.{firstOf, blankFix, blankMac, blankNet, blankPin, netsOf, chipOf}
 use Rattle.model.proofs.Nets.{length-pins}
-use Rattle.chip.specs.Text.{netItems, chipItems}
-use Rattle.chipprinter.specs.Items.{ArraysOf}
+use Rattle.chip_text.specs.Text.{netItems, chipItems}
+use Rattle.chip_print.specs.Items.{ArraysOf}
 
 first-and-rest : {A : Type 0} (z : A) (n : ℕ) (s : List A) → length (firstOf z n s) + length (drop n s) ≤ 1 + length s
 unfolding firstOf

@@ -11,11 +11,11 @@ use Rattle.model.specs.declared.Pin.{Pin as HeldPin}
 use Rattle.model.specs.Meaning.{pinOf}
 use Rattle.model.specs.Limits.{isWithin, dieSide, fixCorner, fixSide, macSide, netWeight, pinMacro, pinPlace}
 use Rattle.model.specs.Made.{ifWithin, makeDie, remakePin}
-use Rattle.grammar.specs.Line.{Value, number, ranged, Fields, got, faulty, valued}
-use Rattle.grammar.proofs.FieldsText.{judged}
-use Rattle.chip.specs.Words.{form}
-use Rattle.chip.specs.Text.{Item, dieItem, fixItem, macItem, pinItem, endItem}
-use Rattle.chipprinter.specs.Items.{weightItem}
+use Rattle.text_grammar.specs.Line.{Value, number, ranged, Fields, got, faulty, valued}
+use Rattle.text_grammar.proofs.FieldsText.{judged}
+use Rattle.chip_text.specs.Words.{form}
+use Rattle.chip_text.specs.Text.{Item, dieItem, fixItem, macItem, pinItem, endItem}
+use Rattle.chip_print.specs.Items.{weightItem}
 use Rattle.chip_faults.specs.Faults.{isMade, fixMade, macMade, netMade}
 
 -- all values of a line, or the fault of a range

@@ -15,17 +15,17 @@ use Rattle.model.specs.declared.Mac.{Mac}
 use Rattle.model.specs.declared.Net.{Net as HeldNet}
 use Rattle.model.specs.declared.Pin.{Pin as HeldPin}
 use Rattle.model.specs.Meaning.{Pin, Net, blankFix, blankMac, blankNet, blankPin, pinOf}
-use Rattle.grammar.specs.Words.{same, isIn}
-use Rattle.grammar.specs.Reading.{isLast}
-use Rattle.grammar.proofs.Every.{Every}
-use Rattle.grammar.proofs.Items.{itemStep}
-use Rattle.grammar.specs.Steps.{need}
-use Rattle.chip.specs.declared.ChipWord.{ChipWord}
-use Rattle.chip.specs.declared.ChipWord.the-variants as word
-use Rattle.chip.specs.Words.{chipWords}
-use Rattle.chip.specs.Kind.{Part, start, followers, pinCount, fixInDie, clearOf, addPin, chipKind}
-use Rattle.chip.specs.Text.{dieItem, fixItem, macItem, pinItem, endItem}
-use Rattle.chipprinter.specs.Items.{weightItem}
+use Rattle.text_grammar.specs.Words.{same, isIn}
+use Rattle.text_grammar.specs.Reading.{isLast}
+use Rattle.text_grammar.proofs.Every.{Every}
+use Rattle.text_grammar.proofs.Items.{itemStep}
+use Rattle.text_grammar.specs.Steps.{need}
+use Rattle.chip_text.specs.declared.ChipWord.{ChipWord}
+use Rattle.chip_text.specs.declared.ChipWord.the-variants as word
+use Rattle.chip_text.specs.Words.{chipWords}
+use Rattle.chip_text.specs.Kind.{Part, start, followers, pinCount, fixInDie, clearOf, addPin, chipKind}
+use Rattle.chip_text.specs.Text.{dieItem, fixItem, macItem, pinItem, endItem}
+use Rattle.chip_print.specs.Items.{weightItem}
 use Rattle.chip_faults.specs.Faults.{dieFault, fixFault, macFault, bareBefore, netFault, pinFault}
 use Rattle.chip_test.proofs.Fields.{die-fields, fix-fields, mac-fields, net-fields, pin-fields, end-fields}
 use Rattle.chip_test.proofs.Steps.{Steps, goes, steps-check, item-steps}

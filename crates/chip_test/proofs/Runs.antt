@@ -10,10 +10,10 @@ use Rattle.model.specs.declared.Refusal.{Refusal}
 use Rattle.model.specs.declared.Tested.{Tested}
 use Rattle.model.specs.declared.Tested.the-variants as tested
 use Rattle.model.specs.Meaning.{firstOf}
-use Rattle.grammar.specs.Reading.{next, refused}
-use Rattle.grammar.proofs.Items.{itemStep, runItems}
-use Rattle.chip.specs.Kind.{Part, chipKind}
-use Rattle.chip.specs.Text.{Item}
+use Rattle.text_grammar.specs.Reading.{next, refused}
+use Rattle.text_grammar.proofs.Items.{itemStep, runItems}
+use Rattle.chip_text.specs.Kind.{Part, chipKind}
+use Rattle.chip_text.specs.Text.{Item}
 use Rattle.chip_items.specs.Tests.{onFault, thenTested, tests}
 use Rattle.chip_test.proofs.Steps.{Steps, goes, stops}
 

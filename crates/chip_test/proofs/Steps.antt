@@ -3,15 +3,15 @@ use mathlib.Core.Path.{_≡_, refl}
 use mathlib.Core.Bool.{Bool, true, false}
 use mathlib.Core.List.{List}
 use Prim.Native.Nat.{ℕ, suc}
-use Rattle.grammar.specs.Line.{Value}
-use Rattle.grammar.specs.Words.{isIn}
-use Rattle.grammar.specs.Reading.{Step, next, fault, check, stepFields}
-use Rattle.grammar.specs.Steps.{need}
-use Rattle.grammar.proofs.Items.{itemStep}
-use Rattle.chip.specs.declared.ChipWord.{ChipWord}
-use Rattle.chip.specs.Words.{chipWords}
-use Rattle.chip.specs.Kind.{Part, counts, countsOf, followers, room, pinned, add, chipKind}
-use Rattle.chip.specs.Text.{Item}
+use Rattle.text_grammar.specs.Line.{Value}
+use Rattle.text_grammar.specs.Words.{isIn}
+use Rattle.text_grammar.specs.Reading.{Step, next, fault, check, stepFields}
+use Rattle.text_grammar.specs.Steps.{need}
+use Rattle.text_grammar.proofs.Items.{itemStep}
+use Rattle.chip_text.specs.declared.ChipWord.{ChipWord}
+use Rattle.chip_text.specs.Words.{chipWords}
+use Rattle.chip_text.specs.Kind.{Part, counts, countsOf, followers, room, pinned, add, chipKind}
+use Rattle.chip_text.specs.Text.{Item}
 use Rattle.chip_test.proofs.Fields.{within, FieldsOf}
 
 -- a step leads to a state that P holds of, or has the fault given

@@ -2,13 +2,13 @@
 use mathlib.Core.Path.{_≡_, refl}
 use mathlib.Core.Bool.{Bool, true, false, not}
 use borrow.Author.Tests.{not-true, not-false}
-use Rattle.grammar.specs.Words.{isWord, isIn}
-use Rattle.grammar.specs.Reading.{Last, isLast}
-use Rattle.grammar.specs.Steps.{entryFault}
-use Rattle.chip.specs.declared.ChipWord.{ChipWord}
-use Rattle.chip.specs.declared.ChipWord.the-variants as word
-use Rattle.chip.specs.Words.{chipWords}
-use Rattle.chip.specs.Kind.{Part, Counts, counts, countsOf, followers, room, pinned, chipKind}
+use Rattle.text_grammar.specs.Words.{isWord, isIn}
+use Rattle.text_grammar.specs.Reading.{Last, isLast}
+use Rattle.text_grammar.specs.Steps.{entryFault}
+use Rattle.chip_text.specs.declared.ChipWord.{ChipWord}
+use Rattle.chip_text.specs.declared.ChipWord.the-variants as word
+use Rattle.chip_text.specs.Words.{chipWords}
+use Rattle.chip_text.specs.Kind.{Part, Counts, counts, countsOf, followers, room, pinned, chipKind}
 use Rattle.chip_words.specs.Meant.{chipEntry}
 
 pub entry-is : (s : Part) (w : ChipWord) → chipEntry (s .last) (countsOf (s .chip)) w ≡ entryFault chipKind s w

@@ -2,17 +2,17 @@
 use mathlib.Core.Path.{_≡_, refl, _∙_}
 use mathlib.Core.Bool.{Bool, true, false, _||_}
 use mathlib.Core.List.{List, [], _∷_}
-use Rattle.line.specs.declared.Rule.{Rule}
-use Rattle.line.specs.declared.Layout.{Layout}
-use Rattle.line.specs.Held.{spelled}
-use Rattle.line.specs.Layout.{chain, allSane, isLayout, formOf, shortRule, laidOut, layoutFor}
-use Rattle.line.proofs.Walk.{Laying}
-use Rattle.grammar.specs.Words.{isWord, isIn}
-use Rattle.grammar.specs.Reading.{isLast, before, after}
-use Rattle.chip.specs.declared.ChipWord.{ChipWord}
-use Rattle.chip.specs.declared.ChipWord.the-variants as word
-use Rattle.chip.specs.Words.{spell, form, chipWords}
-use Rattle.chip.specs.Kind.{followers}
+use Rattle.text_line.specs.declared.Rule.{Rule}
+use Rattle.text_line.specs.declared.Layout.{Layout}
+use Rattle.text_line.specs.Held.{spelled}
+use Rattle.text_line.specs.Layout.{chain, allSane, isLayout, formOf, shortRule, laidOut, layoutFor}
+use Rattle.text_line.proofs.Walk.{Laying}
+use Rattle.text_grammar.specs.Words.{isWord, isIn}
+use Rattle.text_grammar.specs.Reading.{isLast, before, after}
+use Rattle.chip_text.specs.declared.ChipWord.{ChipWord}
+use Rattle.chip_text.specs.declared.ChipWord.the-variants as word
+use Rattle.chip_text.specs.Words.{spell, form, chipWords}
+use Rattle.chip_text.specs.Kind.{followers}
 use Rattle.chip_words.specs.declared.ChipLast.{ChipLast}
 use Rattle.chip_words.specs.declared.ChipLast.the-variants as last
 use Rattle.chip_words.specs.Meant.{lastOf}

@@ -1,11 +1,11 @@
 -- What the program's values mean: a word that was looked for, the word of the last line, and what has been read.
 use Prim.Native.Nat.{ℕ}
-use Rattle.grammar.specs.Words.{Found, known, unknown, isIn}
-use Rattle.grammar.specs.Reading.{Last, before, after}
-use Rattle.grammar.specs.Steps.{need}
-use Rattle.chip.specs.declared.ChipWord.{ChipWord}
-use Rattle.chip.specs.Words.{chipWords}
-use Rattle.chip.specs.Kind.{Counts, counts, followers, room, pinned}
+use Rattle.text_grammar.specs.Words.{Found, known, unknown, isIn}
+use Rattle.text_grammar.specs.Reading.{Last, before, after}
+use Rattle.text_grammar.specs.Steps.{need}
+use Rattle.chip_text.specs.declared.ChipWord.{ChipWord}
+use Rattle.chip_text.specs.Words.{chipWords}
+use Rattle.chip_text.specs.Kind.{Counts, counts, followers, room, pinned}
 use Rattle.chip_words.specs.declared.Counts.{Counts as HeldCounts}
 use Rattle.chip_words.specs.declared.ChipFound.{ChipFound}
 use Rattle.chip_words.specs.declared.ChipFound.the-variants as found

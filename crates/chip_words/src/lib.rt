@@ -1,7 +1,7 @@
 // The words of chips in code: which word some bytes spell, which word may follow which, and how a line is spelled and laid out.
-use chip::ChipWord;
-use line::Layout;
-use line::Spelling;
+use chip_text::ChipWord;
+use text_line::Layout;
+use text_line::Spelling;
 use model::Die;
 use model::Fix;
 use model::Mac;
@@ -9,12 +9,12 @@ use model::Net;
 use model::Pin;
 ghost use mathlib.Core.Path.{_≡_};
 ghost use mathlib.Core.List.{[], _∷_};
-ghost use Rattle.grammar.specs.Words.{isWord, isIn, wordIn};
-ghost use Rattle.grammar.specs.Reading.{isLast};
-ghost use Rattle.line.specs.Held.{spelled};
-ghost use Rattle.line.specs.Layout.{shortRule, laidOut, layoutFor};
-ghost use Rattle.chip.specs.Words.{spell, form, chipWords};
-ghost use Rattle.chip.specs.Kind.{followers, counts, room, pinned};
+ghost use Rattle.text_grammar.specs.Words.{isWord, isIn, wordIn};
+ghost use Rattle.text_grammar.specs.Reading.{isLast};
+ghost use Rattle.text_line.specs.Held.{spelled};
+ghost use Rattle.text_line.specs.Layout.{shortRule, laidOut, layoutFor};
+ghost use Rattle.chip_text.specs.Words.{spell, form, chipWords};
+ghost use Rattle.chip_text.specs.Kind.{followers, counts, room, pinned};
 ghost use Rattle.chip_words.specs.Meant.{foundOf, lastOf, countsIn, chipEntry};
 
 // The word that some bytes spell, or that there is none.
@@ -77,7 +77,7 @@ pub fn same_word(a: ChipWord, b: ChipWord) -> bool
     let q = spelling_of(b);
     let first = p.bytes;
     let other = q.bytes;
-    line::same_spelling(first, p.size, other, q.size)
+    text_line::same_spelling(first, p.size, other, q.size)
 }
 
 // The first of the words that s spells.
@@ -89,7 +89,7 @@ fn word_in(s: &[u8], words: [ChipWord; 6]) -> ChipFound
         let w = words[i];
         let p = spelling_of(w);
         let bytes = p.bytes;
-        if line::spells(bytes, p.size, s) {
+        if text_line::spells(bytes, p.size, s) {
             return ChipFound::Known(w);
         }
         i += 1;
@@ -218,9 +218,9 @@ pub fn entry_fault(last: ChipLast, held: Counts, w: ChipWord) -> usize
 fn sides(least: u64, most: u64) -> Layout
     ensures { λ r. ⌜ r ≡ laidOut (shortRule 119 0 least most ∷ shortRule 104 0 least most ∷ []) ⌝ }
 {
-    let w = line::short_rule(b'w', 0, least, most);
-    let h = line::short_rule(b'h', 0, least, most);
-    let none = line::no_rule();
+    let w = text_line::short_rule(b'w', 0, least, most);
+    let h = text_line::short_rule(b'h', 0, least, most);
+    let none = text_line::no_rule();
     Layout {
         count: 2,
         rules: [w, h, none, none],
@@ -231,10 +231,10 @@ fn sides(least: u64, most: u64) -> Layout
 fn fix_fields() -> Layout
     ensures { λ r. ⌜ r ≡ layoutFor (form ChipWord.Fix) ⌝ }
 {
-    let x = line::short_rule(b'x', 0, 0, Fix::CORNER_MOST);
-    let y = line::short_rule(b'y', 0, 0, Fix::CORNER_MOST);
-    let w = line::short_rule(b'w', 0, Fix::SIDE_LEAST, Fix::SIDE_MOST);
-    let h = line::short_rule(b'h', 0, Fix::SIDE_LEAST, Fix::SIDE_MOST);
+    let x = text_line::short_rule(b'x', 0, 0, Fix::CORNER_MOST);
+    let y = text_line::short_rule(b'y', 0, 0, Fix::CORNER_MOST);
+    let w = text_line::short_rule(b'w', 0, Fix::SIDE_LEAST, Fix::SIDE_MOST);
+    let h = text_line::short_rule(b'h', 0, Fix::SIDE_LEAST, Fix::SIDE_MOST);
     Layout {
         count: 4,
         rules: [x, y, w, h],
@@ -245,10 +245,10 @@ fn fix_fields() -> Layout
 fn pin_fields() -> Layout
     ensures { λ r. ⌜ r ≡ layoutFor (form ChipWord.Pin) ⌝ }
 {
-    let m = line::short_rule(b'm', 0, 0, Mac::COUNT as u64);
-    let x = line::short_rule(b'x', Pin::UP, Pin::LEAST_UP, Pin::MOST_UP);
-    let y = line::short_rule(b'y', Pin::UP, Pin::LEAST_UP, Pin::MOST_UP);
-    let none = line::no_rule();
+    let m = text_line::short_rule(b'm', 0, 0, Mac::COUNT as u64);
+    let x = text_line::short_rule(b'x', Pin::UP, Pin::LEAST_UP, Pin::MOST_UP);
+    let y = text_line::short_rule(b'y', Pin::UP, Pin::LEAST_UP, Pin::MOST_UP);
+    let none = text_line::no_rule();
     Layout {
         count: 3,
         rules: [m, x, y, none],
@@ -263,13 +263,13 @@ pub fn layout_of(w: ChipWord) -> Layout
         ChipWord::Die => sides(Die::SIDE_LEAST, Die::SIDE_MOST),
         ChipWord::Fix => fix_fields(),
         ChipWord::Mac => sides(Mac::SIDE_LEAST, Mac::SIDE_MOST),
-        ChipWord::Net => line::one_field(line::short_rule(
+        ChipWord::Net => text_line::one_field(text_line::short_rule(
             b'w',
             0,
             Net::WEIGHT_LEAST,
             Net::WEIGHT_MOST,
         )),
         ChipWord::Pin => pin_fields(),
-        ChipWord::End => line::no_fields(),
+        ChipWord::End => text_line::no_fields(),
     }
 }

@@ -10,9 +10,9 @@ use Rattle.model.specs.declared.Refusal.{Refusal}
 use Rattle.model.specs.Meaning.{chipOf}
 use Rattle.axis_graph.specs.declared.Verdict.{Verdict}
 use Rattle.axis_graph.specs.declared.Verdict.the-variants as verdict
-use Rattle.slots.specs.declared.Direction.{Direction}
-use Rattle.slots.specs.declared.Direction.the-variants.{Horizontal as horizontal, Vertical as vertical}
-use Rattle.slots.specs.Fit.{Fit, refusedBy, fitLetters, Filled}
+use Rattle.fit_slots.specs.declared.Direction.{Direction}
+use Rattle.fit_slots.specs.declared.Direction.the-variants.{Horizontal as horizontal, Vertical as vertical}
+use Rattle.fit_slots.specs.Fit.{Fit, refusedBy, fitLetters, Filled}
 use Rattle.fit_axes.specs.Axes.{SolvedBy, Directed, Solves}
 use Rattle.fit_lists.specs.Lists.{isSolved, slotsPut}
 use Rattle.fit_tests.specs.declared.Entry.{Entry}

@@ -7,16 +7,16 @@ use lib.ListN.{length, getD, length-map}
 use Rattle.model.specs.declared.Chip.{Chip as HeldChip}
 use Rattle.model.specs.Meaning.{Chip, chipOf}
 use Rattle.placement.specs.Letters.{Letter}
-use Rattle.bounds.specs.Listed.{listed}
-use Rattle.bounds.proofs.Limits.{listed-tails, listed-heads}
-use Rattle.slots.specs.declared.Direction.{Direction}
-use Rattle.slots.specs.Slots.{couples, slotsOn}
-use Rattle.slots.specs.Axes.{axisFor}
-use Rattle.slots.specs.Fit.{noFit, lettersOf, slotCount, bestFit}
-use Rattle.slots.proofs.Counting.{letters-count, listed-count, slots-count}
-use Rattle.slots.proofs.Fineness.{axis-fine}
-use Rattle.slots.proofs.Fitting.{neither-fits}
-use Rattle.slots.proofs.Whole.{Ended}
+use Rattle.axis_bounds.specs.Listed.{listed}
+use Rattle.axis_bounds.proofs.Limits.{listed-tails, listed-heads}
+use Rattle.fit_slots.specs.declared.Direction.{Direction}
+use Rattle.fit_slots.specs.Slots.{couples, slotsOn}
+use Rattle.fit_slots.specs.Axes.{axisFor}
+use Rattle.fit_slots.specs.Fit.{noFit, lettersOf, slotCount, bestFit}
+use Rattle.fit_slots.proofs.Counting.{letters-count, listed-count, slots-count}
+use Rattle.fit_slots.proofs.Fineness.{axis-fine}
+use Rattle.fit_slots.proofs.Fitting.{neither-fits}
+use Rattle.fit_slots.proofs.Whole.{Ended}
 use Rattle.fit_axes.specs.Axes.{Taken, UnsolvedBy}
 use Rattle.fit_tests.specs.Entry.{Asking, fitting}
 

@@ -8,8 +8,8 @@ use lib.ListN.{length, getD, take, replicate}
 use borrow.Author.Tests.{le-leb}
 use Rattle.model.specs.declared.Spot.{Spot}
 use Rattle.model.specs.Meaning.{blankSpot}
-use Rattle.slots.specs.declared.Direction.the-variants.{Horizontal as horizontal, Vertical as vertical}
-use Rattle.slots.specs.Axes.{cornersOn}
+use Rattle.fit_slots.specs.declared.Direction.the-variants.{Horizontal as horizontal, Vertical as vertical}
+use Rattle.fit_slots.specs.Axes.{cornersOn}
 use Rattle.measure_tests.specs.Positions.{inRange}
 use Rattle.fit_lists.specs.Lists.{spotsOf}
 

@@ -11,19 +11,19 @@ use Rattle.model.specs.declared.Spot.{Spot}
 use Rattle.model.specs.Meaning.{Chip, chipOf}
 use Rattle.placement.specs.Length.{wirelength}
 use Rattle.placement.specs.Letters.{Letter}
-use Rattle.bounds.specs.Axis.{lengthOn}
-use Rattle.bounds.specs.Answer.{FlowOn}
+use Rattle.axis_bounds.specs.Axis.{lengthOn}
+use Rattle.axis_bounds.specs.Answer.{FlowOn}
 use Rattle.axis_graph.specs.declared.Verdict.{Verdict}
 use Rattle.axis_graph.specs.declared.Verdict.the-variants as verdict
-use Rattle.slots.specs.declared.Direction.{Direction}
-use Rattle.slots.specs.declared.Direction.the-variants.{Horizontal as horizontal, Vertical as vertical}
-use Rattle.slots.specs.Slots.{slotsOn}
-use Rattle.slots.specs.Amounts.{Flow, amountsOn}
-use Rattle.slots.specs.Axes.{axisFor, cornersOn}
-use Rattle.slots.specs.Fit.{Fit, lettersOf, slotCount, Kept, Filled}
-use Rattle.slots.proofs.Flowing.{Agrees}
-use Rattle.slots.proofs.Lengths.{lengths-split}
-use Rattle.slots.proofs.Whole.{Lists, AllZero, other, whole-flow, whole-chain}
+use Rattle.fit_slots.specs.declared.Direction.{Direction}
+use Rattle.fit_slots.specs.declared.Direction.the-variants.{Horizontal as horizontal, Vertical as vertical}
+use Rattle.fit_slots.specs.Slots.{slotsOn}
+use Rattle.fit_slots.specs.Amounts.{Flow, amountsOn}
+use Rattle.fit_slots.specs.Axes.{axisFor, cornersOn}
+use Rattle.fit_slots.specs.Fit.{Fit, lettersOf, slotCount, Kept, Filled}
+use Rattle.fit_slots.proofs.Flowing.{Agrees}
+use Rattle.fit_slots.proofs.Lengths.{lengths-split}
+use Rattle.fit_slots.proofs.Whole.{Lists, AllZero, other, whole-flow, whole-chain}
 use Rattle.fit_axes.specs.Axes.{SolvedBy, UnsolvedBy, Directed}
 use Rattle.fit_lists.specs.Lists.{low16, isSolved, showsAcross, shown, bothLists, putIf, slotsPut}
 use Rattle.fit_tests.specs.Entry.{Asking, fitting}

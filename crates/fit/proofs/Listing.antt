@@ -6,9 +6,9 @@ use native.Mathlib.Decide.{decLt}
 use native.Mathlib.Omega.{arith}
 use lib.ListN.{length, getD, take, drop, length-append}
 use lib.Seq.{sets, sets-eq, length-sets, length-take-le, take-all, take-at, drop-at, drop-drop, drop-append-add, getD-take}
-use Rattle.slots.specs.Slots.{Slot}
-use Rattle.slots.proofs.Flowing.{Agrees}
-use Rattle.slots.specs.Fit.{Kept}
+use Rattle.fit_slots.specs.Slots.{Slot}
+use Rattle.fit_slots.proofs.Flowing.{Agrees}
+use Rattle.fit_slots.specs.Fit.{Kept}
 use Rattle.fit.proofs.Corners.{past}
 
 -- the first m amounts of both directions, one after the other

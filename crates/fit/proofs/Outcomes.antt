@@ -8,7 +8,7 @@ use lib.Seq.{take-at}
 use Rattle.model.specs.declared.Refusal.{Refusal}
 use Rattle.model.specs.declared.Spot.{Spot}
 use Rattle.model.specs.Meaning.{blankSpot}
-use Rattle.slots.specs.Fit.{Fit, refusedBy, noFit, placed}
+use Rattle.fit_slots.specs.Fit.{Fit, refusedBy, noFit, placed}
 use Rattle.fit.specs.declared.Fitted.{Fitted}
 use Rattle.fit.specs.declared.FitOutcome.{FitOutcome}
 use Rattle.fit.specs.declared.FitOutcome.the-variants as outcome

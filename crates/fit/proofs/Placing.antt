@@ -13,21 +13,21 @@ use Rattle.model.specs.declared.Spot.{Spot}
 use Rattle.model.specs.Meaning.{Chip, chipOf, blankSpot, firstOf}
 use Rattle.model.proofs.FirstOf.{first-take}
 use Rattle.refusals.specs.Tests.{firstFailed}
-use Rattle.chip.specs.Valid.{Valid}
+use Rattle.chip_text.specs.Valid.{Valid}
 use Rattle.placement.specs.Legal.{legal}
 use Rattle.placement.specs.Length.{wirelength}
 use Rattle.placement.specs.Letters.{Letter}
 use Rattle.placement.specs.Least.{found, fitOf}
-use Rattle.bounds.specs.Axis.{Keeps}
-use Rattle.bounds.specs.Answer.{LeastOn}
-use Rattle.slots.specs.declared.Direction.{Direction}
-use Rattle.slots.specs.declared.Direction.the-variants.{Horizontal as horizontal, Vertical as vertical}
-use Rattle.slots.specs.Slots.{macSide}
-use Rattle.slots.specs.Axes.{axisFor, cornersOn}
-use Rattle.slots.specs.Fit.{placed, lettersOf, slotCount, bestFit}
-use Rattle.slots.proofs.Fineness.{die-most}
-use Rattle.slots.proofs.Lengths.{lengths-split}
-use Rattle.slots.proofs.Fitting.{both-fit}
+use Rattle.axis_bounds.specs.Axis.{Keeps}
+use Rattle.axis_bounds.specs.Answer.{LeastOn}
+use Rattle.fit_slots.specs.declared.Direction.{Direction}
+use Rattle.fit_slots.specs.declared.Direction.the-variants.{Horizontal as horizontal, Vertical as vertical}
+use Rattle.fit_slots.specs.Slots.{macSide}
+use Rattle.fit_slots.specs.Axes.{axisFor, cornersOn}
+use Rattle.fit_slots.specs.Fit.{placed, lettersOf, slotCount, bestFit}
+use Rattle.fit_slots.proofs.Fineness.{die-most}
+use Rattle.fit_slots.proofs.Lengths.{lengths-split}
+use Rattle.fit_slots.proofs.Fitting.{both-fit}
 use Rattle.measure_tests.specs.Positions.{inRange}
 use Rattle.measure.specs.Measuring.{measured, lengthIn, measurePassed, measurePositions}
 use Rattle.fit_axes.specs.Axes.{SolvedBy}

@@ -5,7 +5,7 @@ use lib.ListN.{length, replicate}
 use Rattle.model.specs.declared.Spot.{Spot}
 use Rattle.model.specs.Meaning.{blankSpot}
 use Rattle.model.specs.Limits.{mostMacs}
-use Rattle.slots.specs.Fit.{Fit, refusedBy, noFit, placed}
+use Rattle.fit_slots.specs.Fit.{Fit, refusedBy, noFit, placed}
 use Rattle.fit.specs.declared.FitOutcome.{FitOutcome}
 use Rattle.fit.specs.declared.FitOutcome.the-variants as outcome
 use Rattle.fit.specs.declared.FitAnswer.{FitAnswer}

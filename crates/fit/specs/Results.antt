@@ -4,7 +4,7 @@ use mathlib.Core.Path.{_≡_}
 use mathlib.Core.List.{List}
 use Rattle.model.specs.declared.Chip.{Chip as HeldChip}
 use Rattle.model.specs.Meaning.{chipOf}
-use Rattle.slots.specs.Fit.{Fit, Filled}
+use Rattle.fit_slots.specs.Fit.{Fit, Filled}
 use Rattle.fit.specs.declared.FitAnswer.{FitAnswer}
 use Rattle.fit.specs.Answer.{answerFor}
 

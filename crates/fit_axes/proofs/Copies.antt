@@ -10,10 +10,10 @@ use Rattle.model.specs.declared.Mac.{Mac}
 use Rattle.model.specs.declared.Net.{Net}
 use Rattle.model.specs.declared.Pin.{Pin}
 use Rattle.model.specs.Meaning.{blankMac, blankNet, blankPin}
-use Rattle.bounds.specs.declared.AxisNet.{AxisNet}
-use Rattle.bounds.specs.declared.AxisPin.{AxisPin}
-use Rattle.slots.specs.declared.Direction.{Direction}
-use Rattle.slots.specs.Slots.{macSide}
+use Rattle.axis_bounds.specs.declared.AxisNet.{AxisNet}
+use Rattle.axis_bounds.specs.declared.AxisPin.{AxisPin}
+use Rattle.fit_slots.specs.declared.Direction.{Direction}
+use Rattle.fit_slots.specs.Slots.{macSide}
 use Rattle.fit_axes.specs.Axes.{heldUp, heldPin, heldNet}
 
 module _ {A B : Type 0} (f : A → B) where

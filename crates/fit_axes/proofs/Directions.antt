@@ -5,13 +5,13 @@ use mathlib.Core.List.{List}
 use native.Mathlib.Omega.{arith}
 use lib.ListN.{length, take}
 use Rattle.model.specs.declared.Chip.{Chip as HeldChip}
-use Rattle.bounds.specs.declared.Axis.{Axis as HeldAxis}
-use Rattle.bounds.specs.Axis.{Axis, axisOf}
-use Rattle.bounds.specs.Answer.{SolvedOn, UnsolvedOn}
+use Rattle.axis_bounds.specs.declared.Axis.{Axis as HeldAxis}
+use Rattle.axis_bounds.specs.Axis.{Axis, axisOf}
+use Rattle.axis_bounds.specs.Answer.{SolvedOn, UnsolvedOn}
 use Rattle.axis_graph.specs.declared.Verdict.{Verdict}
 use Rattle.axis_graph.specs.declared.Verdict.the-variants as verdict
 use Rattle.axis_graph.specs.Service.{SolutionOk}
-use Rattle.slots.specs.declared.Direction.{Direction}
+use Rattle.fit_slots.specs.declared.Direction.{Direction}
 use Rattle.fit_axes.specs.Axes.{AxisFor, AxisMade, Directed, Solves}
 
 module _ (c : HeldChip) (s : List ℕ) (d : Direction) (a : HeldAxis) (at f : List ℕ) (l : length at ≡ 8) (g : length f ≡ 456) where

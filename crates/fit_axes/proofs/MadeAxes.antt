@@ -14,24 +14,24 @@ use Rattle.model.specs.declared.Chip.{Chip as HeldChip}
 use Rattle.model.specs.Meaning.{firstOf, blankFix, blankMac, blankNet, blankPin, pinOf, pinsOf, chipOf}
 use Rattle.model.specs.Meaning as model
 use Rattle.model.proofs.FirstOf.{first-take, length-first}
-use Rattle.chip.specs.Valid.{Fine}
-use Rattle.chip.specs.Valid as chip
-use Rattle.chip.proofs.HeldNets.{before-first}
-use Rattle.numbers.proofs.Differences.{sub-up, add-sub}
-use Rattle.bounds.specs.declared.Slot.{Slot}
-use Rattle.bounds.specs.declared.AxisNet.{AxisNet}
-use Rattle.bounds.specs.declared.AxisPin.{AxisPin}
-use Rattle.bounds.specs.declared.Axis.{Axis as HeldAxis}
-use Rattle.bounds.specs.Axis.{netsOf, axisOf}
-use Rattle.bounds.specs.Axis as bounds
-use Rattle.bounds.specs.Held.{pinsBefore, Held}
-use Rattle.slots.specs.declared.Direction.{Direction}
-use Rattle.slots.specs.declared.Direction.the-variants.{Horizontal as horizontal, Vertical as vertical}
-use Rattle.slots.specs.Slots.{dieSide, macSide, couplesOf, couples}
-use Rattle.slots.specs.Fit.{letterOf, lettersOf}
-use Rattle.slots.specs.Axes.{raised, axisPin, axisNet, heldSlots, axisFor}
-use Rattle.slots.proofs.Counting.{letters-count, held-count}
-use Rattle.slots.proofs.Fineness.{axis-fine}
+use Rattle.chip_text.specs.Valid.{Fine}
+use Rattle.chip_text.specs.Valid as chip
+use Rattle.chip_text.proofs.HeldNets.{before-first}
+use Rattle.num_laws.proofs.Differences.{sub-up, add-sub}
+use Rattle.axis_bounds.specs.declared.Slot.{Slot}
+use Rattle.axis_bounds.specs.declared.AxisNet.{AxisNet}
+use Rattle.axis_bounds.specs.declared.AxisPin.{AxisPin}
+use Rattle.axis_bounds.specs.declared.Axis.{Axis as HeldAxis}
+use Rattle.axis_bounds.specs.Axis.{netsOf, axisOf}
+use Rattle.axis_bounds.specs.Axis as bounds
+use Rattle.axis_bounds.specs.Held.{pinsBefore, Held}
+use Rattle.fit_slots.specs.declared.Direction.{Direction}
+use Rattle.fit_slots.specs.declared.Direction.the-variants.{Horizontal as horizontal, Vertical as vertical}
+use Rattle.fit_slots.specs.Slots.{dieSide, macSide, couplesOf, couples}
+use Rattle.fit_slots.specs.Fit.{letterOf, lettersOf}
+use Rattle.fit_slots.specs.Axes.{raised, axisPin, axisNet, heldSlots, axisFor}
+use Rattle.fit_slots.proofs.Counting.{letters-count, held-count}
+use Rattle.fit_slots.proofs.Fineness.{axis-fine}
 use Rattle.fit_axes.specs.Axes.{heldPin, heldNet, Taken, PairsMade, AxisFor, AxisMade}
 use Rattle.fit_axes.proofs.Copies.{map-take, map-drop}
 use Rattle.fit_axes.proofs.Taken.{macs-taken}

@@ -9,19 +9,19 @@ use lib.Seq.{take-suc-set, drop-cons, drop-length}
 use Rattle.model.specs.declared.Fix.{Fix}
 use Rattle.model.specs.declared.Mac.{Mac}
 use Rattle.model.specs.declared.Chip.{Chip as HeldChip}
-use Rattle.bounds.specs.declared.Slot.{Slot}
-use Rattle.slots.specs.declared.Direction.{Direction}
-use Rattle.slots.specs.declared.Asked.{Asked}
-use Rattle.slots.specs.Slots.{asked, couplesOf}
-use Rattle.slots.specs.Fit.{letterOf, lettersOf}
-use Rattle.slots.specs.Axes.{heldSlot, heldSlots}
-use Rattle.pairs.specs.declared.Cursor.{Cursor}
-use Rattle.pairs.specs.Order.{coupleAt, restFrom, OnPair, Ready, First, Next, nextOf}
-use Rattle.pairs.proofs.Cursors.{on-near, ready-on}
-use Rattle.pairs.proofs.Stepping.{next-step}
-use Rattle.pairs.proofs.Places.{couple-taken}
-use Rattle.pairslots.specs.Letters.{slotRead, Reached}
-use Rattle.pairslots.proofs.Reading.{slot-read}
+use Rattle.axis_bounds.specs.declared.Slot.{Slot}
+use Rattle.fit_slots.specs.declared.Direction.{Direction}
+use Rattle.fit_slots.specs.declared.Asked.{Asked}
+use Rattle.fit_slots.specs.Slots.{asked, couplesOf}
+use Rattle.fit_slots.specs.Fit.{letterOf, lettersOf}
+use Rattle.fit_slots.specs.Axes.{heldSlot, heldSlots}
+use Rattle.fit_pairs.specs.declared.Cursor.{Cursor}
+use Rattle.fit_pairs.specs.Order.{coupleAt, restFrom, OnPair, Ready, First, Next, nextOf}
+use Rattle.fit_pairs.proofs.Cursors.{on-near, ready-on}
+use Rattle.fit_pairs.proofs.Stepping.{next-step}
+use Rattle.fit_pairs.proofs.Places.{couple-taken}
+use Rattle.fit_pair_slots.specs.Letters.{slotRead, Reached}
+use Rattle.fit_pair_slots.proofs.Reading.{slot-read}
 use Rattle.fit_axes.specs.Axes.{Taken, PairsMade}
 use Rattle.fit_axes.proofs.Taken.{macs-long, fixes-long, couples-same, letter-each, few-letters}
 

@@ -8,9 +8,9 @@ use lib.Seq.{length-take-le}
 use Rattle.model.specs.declared.Chip.{Chip as HeldChip}
 use Rattle.model.specs.Meaning.{blankFix, blankMac, chipOf}
 use Rattle.model.proofs.FirstOf.{first-take}
-use Rattle.slots.specs.Slots.{couplesOf, couples}
-use Rattle.slots.proofs.Counting.{letters-count}
-use Rattle.pairs.proofs.Places.{few-pairs}
+use Rattle.fit_slots.specs.Slots.{couplesOf, couples}
+use Rattle.fit_slots.proofs.Counting.{letters-count}
+use Rattle.fit_pairs.proofs.Places.{few-pairs}
 use Rattle.fit_axes.specs.Axes.{Taken}
 
 module _ (c : HeldChip) (s : List ℕ) (k : Taken c s) where

@@ -8,23 +8,23 @@ use Rattle.model.specs.declared.Pin.{Pin}
 use Rattle.model.specs.declared.Chip.{Chip}
 use Rattle.model.specs.Meaning.{chipOf}
 use Rattle.model.specs.Limits.{mostMacs}
-use Rattle.chip.specs.Valid.{Fine, Valid}
-use Rattle.chip.proofs.Passing.{Whole}
-use Rattle.bounds.specs.declared.Slot.{Slot}
-use Rattle.bounds.specs.declared.AxisNet.{AxisNet}
-use Rattle.bounds.specs.declared.AxisPin.{AxisPin}
-use Rattle.bounds.specs.declared.Axis.{Axis as HeldAxis}
-use Rattle.bounds.specs.Axis.{axisOf}
-use Rattle.bounds.specs.Held.{Held}
-use Rattle.bounds.specs.Answer.{SolvedOn, UnsolvedOn}
+use Rattle.chip_text.specs.Valid.{Fine, Valid}
+use Rattle.chip_text.proofs.Passing.{Whole}
+use Rattle.axis_bounds.specs.declared.Slot.{Slot}
+use Rattle.axis_bounds.specs.declared.AxisNet.{AxisNet}
+use Rattle.axis_bounds.specs.declared.AxisPin.{AxisPin}
+use Rattle.axis_bounds.specs.declared.Axis.{Axis as HeldAxis}
+use Rattle.axis_bounds.specs.Axis.{axisOf}
+use Rattle.axis_bounds.specs.Held.{Held}
+use Rattle.axis_bounds.specs.Answer.{SolvedOn, UnsolvedOn}
 use Rattle.axis_graph.specs.declared.Verdict.{Verdict}
 use Rattle.axis_graph.specs.declared.Verdict.the-variants as verdict
 use Rattle.axis_graph.specs.Limits.{slotRoom}
-use Rattle.slots.specs.declared.Direction.{Direction}
-use Rattle.slots.specs.declared.Direction.the-variants.{Horizontal as horizontal, Vertical as vertical}
-use Rattle.slots.specs.Fit.{lettersOf, letterCount}
-use Rattle.slots.specs.Slots.{couples}
-use Rattle.slots.specs.Axes.{heldSlots, axisFor}
+use Rattle.fit_slots.specs.declared.Direction.{Direction}
+use Rattle.fit_slots.specs.declared.Direction.the-variants.{Horizontal as horizontal, Vertical as vertical}
+use Rattle.fit_slots.specs.Fit.{lettersOf, letterCount}
+use Rattle.fit_slots.specs.Slots.{couples}
+use Rattle.fit_slots.specs.Axes.{heldSlots, axisFor}
 
 -- a pin's x or y, 4,096 higher
 abbrev pub heldUp : Direction → Pin → ℕ

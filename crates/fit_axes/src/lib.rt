@@ -3,19 +3,19 @@ mod pairlist;
 
 use crate::pairlist::pair_slots;
 use axis_graph::Solution;
-use bounds::Axis;
-use bounds::AxisNet;
-use bounds::AxisPin;
+use axis_bounds::Axis;
+use axis_bounds::AxisNet;
+use axis_bounds::AxisPin;
 use model::Chip;
 use model::Mac;
 use model::Net;
 use model::Pin;
-use pairslots::die_side;
-use pairslots::mac_side;
-use slots::Direction;
+use fit_pair_slots::die_side;
+use fit_pair_slots::mac_side;
+use fit_slots::Direction;
 ghost use mathlib.Core.Path.{_≡_};
 ghost use mathlib.Core.List.{map};
-ghost use Rattle.slots.specs.Slots.{macSide};
+ghost use Rattle.fit_slots.specs.Slots.{macSide};
 ghost use Rattle.fit_axes.specs.Axes.{heldUp, heldPin, heldNet, AxisMade, Solves};
 
 // A pin's place, 4,096 higher.

@@ -8,7 +8,7 @@ use native.Mathlib.Omega.{arith}
 use lib.ListN.{length, getD, take, set, length-map}
 use lib.Seq.{sets, length-sets}
 use borrow.Author.Tests.{le-leb, lt-leb}
-use Rattle.numbers.proofs.Stores.{sets-more}
+use Rattle.num_laws.proofs.Stores.{sets-more}
 use Rattle.axis_graph.specs.declared.Verdict.{Verdict}
 use Rattle.fit_lists.specs.Lists.{low16, isSolved, showsAcross, shown, bothLists, slotsPut}
 

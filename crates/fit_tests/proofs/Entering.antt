@@ -16,15 +16,15 @@ use Rattle.model.specs.declared.Tested.the-variants as tested
 use Rattle.model.specs.Meaning.{Chip, chipOf}
 use Rattle.refusals.specs.Tests.{firstFailed, unlessFailed}
 use Rattle.refusals.proofs.FirstFailed.{none-failed, fails-here, fails-later, first-passes, rest-passes, number-refused, number-none}
-use Rattle.grammar.specs.Reading.{Reading}
-use Rattle.grammar.specs.Writing.{testedAs}
-use Rattle.chip.specs.Text.{readChip, chipText}
-use Rattle.chip.specs.Valid.{pinsBefore}
-use Rattle.chip.specs.Passed.{Passed}
-use Rattle.chip.proofs.Passing.{Whole}
-use Rattle.slots.specs.Fit.{refusedBy, areLetters, letterCount, slotCount, fitTests, fitChip, fitLetters}
-use Rattle.pairs.specs.Count.{letterTotal}
-use Rattle.pairs.proofs.Counts.{chip-letters, chip-few}
+use Rattle.text_grammar.specs.Reading.{Reading}
+use Rattle.text_grammar.specs.Writing.{testedAs}
+use Rattle.chip_text.specs.Text.{readChip, chipText}
+use Rattle.chip_text.specs.Valid.{pinsBefore}
+use Rattle.chip_text.specs.Passed.{Passed}
+use Rattle.chip_text.proofs.Passing.{Whole}
+use Rattle.fit_slots.specs.Fit.{refusedBy, areLetters, letterCount, slotCount, fitTests, fitChip, fitLetters}
+use Rattle.fit_pairs.specs.Count.{letterTotal}
+use Rattle.fit_pairs.proofs.Counts.{chip-letters, chip-few}
 use Rattle.fit_tests.specs.Entry.{SlotsEach, fitting, Ready}
 
 -- ---- the number of slots

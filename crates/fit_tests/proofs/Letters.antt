@@ -9,7 +9,7 @@ use lib.Dec.{eqb}
 use lib.ListN.{length, getD, drop}
 use lib.Seq.{drop-cons}
 use borrow.Author.Tests.{eq-eqb, ne-eqb, not-true, not-false}
-use Rattle.slots.specs.Fit.{isLetter, areLetters}
+use Rattle.fit_slots.specs.Fit.{isLetter, areLetters}
 
 module _ (b : ℕ) where
   pub letter-l : b ≡ 76 → true ≡ isLetter b

@@ -9,8 +9,8 @@ use mir.Syntax.{w64}
 use mir.Val.{Fits}
 use Rattle.model.specs.declared.Net.{Net as HeldNet}
 use Rattle.model.specs.Meaning.{blankNet}
-use Rattle.chip.specs.Valid.{pinsBefore}
-use Rattle.chip.proofs.HeldNets.{pins-before-next, pins-before-up}
+use Rattle.chip_text.specs.Valid.{pinsBefore}
+use Rattle.chip_text.proofs.HeldNets.{pins-before-next, pins-before-up}
 
 module _ (nets : List HeldNet) (t q j : ℕ) (inv : q ≡ pinsBefore j nets) (l : j < t) where
   pub pins-more : q + getD nets j blankNet .pins ≡ pinsBefore (j + 1) nets

@@ -5,10 +5,10 @@ use mathlib.Core.List.{List}
 use lib.ListN.{length}
 use Rattle.model.specs.declared.Chip.{Chip as HeldChip}
 use Rattle.model.specs.Meaning.{chipOf}
-use Rattle.chip.specs.Passed.{Passed}
-use Rattle.chip.proofs.Passing.{Whole}
+use Rattle.chip_text.specs.Passed.{Passed}
+use Rattle.chip_text.proofs.Passing.{Whole}
 use Rattle.placement.specs.Least.{fitOf}
-use Rattle.slots.specs.Fit.{Fit, refusedBy, lettersOf, letterCount, slotCount, bestFit, fitLetters}
+use Rattle.fit_slots.specs.Fit.{Fit, refusedBy, lettersOf, letterCount, slotCount, bestFit, fitLetters}
 use Rattle.fit_tests.specs.declared.Entry.{Entry}
 use Rattle.fit_tests.specs.declared.Entry.the-variants as entry
 

@@ -6,10 +6,10 @@ ghost use mathlib.Core.Path.{_≡_};
 ghost use lib.ListN.{length};
 ghost use Rattle.model.specs.Meaning.{chipOf};
 ghost use Rattle.refusals.specs.Tests.{firstFailed};
-ghost use Rattle.chip.specs.Valid.{pinsBefore};
-ghost use Rattle.chip.specs.Passed.{Passed};
-ghost use Rattle.chip.proofs.Passing.{Whole};
-ghost use Rattle.slots.specs.Fit.{isLetter, areLetters, fitTests};
+ghost use Rattle.chip_text.specs.Valid.{pinsBefore};
+ghost use Rattle.chip_text.specs.Passed.{Passed};
+ghost use Rattle.chip_text.proofs.Passing.{Whole};
+ghost use Rattle.fit_slots.specs.Fit.{isLetter, areLetters, fitTests};
 ghost use Rattle.fit_tests.specs.Entry.{SlotsEach, Entered};
 
 // The refusal, or the number of slots of each direction.
@@ -71,7 +71,7 @@ fn slots_each(c: Chip) -> usize
     requires { ⌜ Passed c ⌝ }
     ensures { λ r. ⌜ SlotsEach c r ⌝ }
 {
-    2 * c.n + pairs::letter_count(c.n, c.k) + 2 * pin_total(c)
+    2 * c.n + fit_pairs::letter_count(c.n, c.k) + 2 * pin_total(c)
 }
 
 // The number of the first test that the letters and a list of that many slots fail, or 0.
@@ -80,7 +80,7 @@ fn fit_fault(c: Chip, letters: &[u8], m: usize, room: usize) -> usize
     requires { ⌜ SlotsEach c m ⌝ }
     ensures { λ r. ⌜ r ≡ firstFailed (fitTests (chipOf c) (now (letters .entry)) room) ⌝ }
 {
-    if letters.len() != pairs::letter_count(c.n, c.k) {
+    if letters.len() != fit_pairs::letter_count(c.n, c.k) {
         return 11;
     }
     if !are_letters(letters) {

@@ -5,7 +5,7 @@ use mathlib.Core.List.{List, [], _∷_}
 use native.Mathlib.Nat.{le-of-suc-le-suc}
 use native.Mathlib.Omega.{arith}
 use lib.ListN.{length, getD}
-use Rattle.bounds.specs.Axis.{Keeps, KeepsSlot, noSlot}
+use Rattle.axis_bounds.specs.Axis.{Keeps, KeepsSlot, noSlot}
 use Rattle.half_arrays.specs.Arrays.{arcSlot, arcSlots, axisOn, KeepsTo}
 
 length-arcs : (arcs : List ℕ) (c k : ℕ) → length (arcSlots arcs c k) ≡ k

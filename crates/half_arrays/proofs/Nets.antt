@@ -6,13 +6,13 @@ use native.Mathlib.Decide.{ℕ-discrete}
 use native.Mathlib.Omega.{arith}
 use lib.ListN.{length, getD}
 use borrow.Author.Tests.{eq-eqb, ne-eqb}
-use Rattle.numbers.specs.Sum.{sum}
-use Rattle.numbers.specs.Spread.{spread}
-use Rattle.numbers.proofs.Sums.{sum-eq, sum-first}
-use Rattle.numbers.proofs.Spreads.{top, bottom, each-le-top, bottom-le-each}
-use Rattle.bounds.specs.declared.AxisPin.{AxisPin}
-use Rattle.bounds.specs.Axis.{netsLength, places, placeOf, valueAt, noPin}
-use Rattle.bounds.proofs.Places.{length-places, place-at}
+use Rattle.num_laws.specs.Sum.{sum}
+use Rattle.num_laws.specs.Spread.{spread}
+use Rattle.num_laws.proofs.Sums.{sum-eq, sum-first}
+use Rattle.num_laws.proofs.Spreads.{top, bottom, each-le-top, bottom-le-each}
+use Rattle.axis_bounds.specs.declared.AxisPin.{AxisPin}
+use Rattle.axis_bounds.specs.Axis.{netsLength, places, placeOf, valueAt, noPin}
+use Rattle.axis_bounds.proofs.Places.{length-places, place-at}
 use Rattle.half_arrays.specs.Arrays.{entryCount, nodeAt, mostAt, leastAt, netAt, weightAt, pinAt, entryPins, netsFrom}
 
 -- pin p stands in the list

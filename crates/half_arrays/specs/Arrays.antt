@@ -5,10 +5,10 @@ use mathlib.Core.List.{List, [], _∷_}
 use mathlib.Core.Bool.{cond}
 use lib.Dec.{eqb}
 use lib.ListN.{getD}
-use Rattle.bounds.specs.declared.Slot.{Slot}
-use Rattle.bounds.specs.declared.AxisPin.{AxisPin}
-use Rattle.bounds.specs.Axis.{Axis, NetOn, valueAt}
-use Rattle.bounds.specs.Listed.{slot}
+use Rattle.axis_bounds.specs.declared.Slot.{Slot}
+use Rattle.axis_bounds.specs.declared.AxisPin.{AxisPin}
+use Rattle.axis_bounds.specs.Axis.{Axis, NetOn, valueAt}
+use Rattle.axis_bounds.specs.Listed.{slot}
 
 -- ---- reading
 

@@ -4,7 +4,7 @@ use mathlib.Core.Path.{_≡_, subst, sym}
 use mathlib.Core.Bool.{Bool, true}
 use mathlib.Core.List.{List}
 use native.Mathlib.Omega.{arith}
-use Rattle.bounds.specs.Half.{HalfOn, AboveOn}
+use Rattle.axis_bounds.specs.Half.{HalfOn, AboveOn}
 use Rattle.half_test.specs.declared.proposal.Shown.{Shown}
 use Rattle.half_test.specs.declared.proposal.Shown.the-variants as shown
 use Rattle.half_arrays.specs.Arrays.{axisOn}

@@ -6,7 +6,7 @@ use mathlib.Core.List.{List}
 use native.Mathlib.Omega.{arith}
 use mir.Syntax.{w64}
 use mir.Val.{Fits}
-use Rattle.bounds.specs.Axis.{valueAt}
+use Rattle.axis_bounds.specs.Axis.{valueAt}
 use Rattle.half_arrays.specs.Arrays.{raised, boundAt, KeepsTo}
 use Rattle.half_arrays.specs.Says.{Says}
 use Rattle.half_fit.specs.Chain.{Empty, Chained}

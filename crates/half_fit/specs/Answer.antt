@@ -2,7 +2,7 @@
 use Prim.{Unit}
 use Prim.Native.Nat.{ℕ, _≤_}
 use mathlib.Core.List.{List}
-use Rattle.bounds.specs.Half.{HalfOn, AboveOn}
+use Rattle.axis_bounds.specs.Half.{HalfOn, AboveOn}
 use Rattle.half_arrays.specs.Arrays.{axisOn}
 use Rattle.half_fit.specs.declared.service.HalfOutcome.{HalfOutcome}
 use Rattle.half_fit.specs.declared.service.HalfOutcome.the-variants as outcome

@@ -1,7 +1,7 @@
 -- Bounds that no coordinates keep.
 use Prim.Native.Nat.{ℕ, _+_, _*_, _≤_}
 use mathlib.Core.List.{List}
-use Rattle.bounds.specs.Axis.{valueAt}
+use Rattle.axis_bounds.specs.Axis.{valueAt}
 use Rattle.half_arrays.specs.Arrays.{raised, KeepsTo}
 
 -- no coordinates keep all bounds

@@ -1,5 +1,5 @@
 // The fit of one direction, and what it promises.
-ghost use Rattle.bounds.specs.Half.{AboveOn};
+ghost use Rattle.axis_bounds.specs.Half.{AboveOn};
 ghost use Rattle.half_arrays.specs.Arrays.{axisOn};
 ghost use Rattle.half_arrays.specs.Says.{Says};
 ghost use Rattle.half_fit.specs.Answer.{Answers};
@@ -12,7 +12,7 @@ use crate::insert::insert;
 use crate::lists::put_lists;
 use crate::none::shows_none;
 use crate::state::copy;
-use bounds::Axis;
+use axis_bounds::Axis;
 use half_test::beyond::shows_beyond;
 use half_test::proposal::Shown;
 use half_test::proposal::test_fit;

@@ -2,7 +2,7 @@
 use Prim.Native.Nat.{ℕ, _+_, _*_, _<_}
 use mathlib.Core.Path.{_≡_}
 use mathlib.Core.List.{List}
-use Rattle.bounds.specs.Axis.{valueAt}
+use Rattle.axis_bounds.specs.Axis.{valueAt}
 use Rattle.half_arrays.specs.Arrays.{raised, boundAt, entryCount, nodeAt, mostAt, leastAt, netAt}
 
 -- entries i on node p and j on node k, of one net

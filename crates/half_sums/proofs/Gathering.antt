@@ -12,9 +12,9 @@ use lib.Seq.{getD-set-same, getD-set-other}
 use mir.Syntax.{w64}
 use mir.Val.{Fits}
 use borrow.Author.Tests.{eq-eqb, ne-eqb}
-use Rattle.numbers.specs.Sum.{sum, when}
-use Rattle.numbers.proofs.Sums.{when-le}
-use Rattle.flow.specs.Flow.{atNode}
+use Rattle.num_laws.specs.Sum.{sum, when}
+use Rattle.num_laws.proofs.Sums.{when-le}
+use Rattle.flow_laws.specs.Flow.{atNode}
 use Rattle.half_arrays.specs.State.{amountAt}
 use Rattle.half_arrays.proofs.Ranges.{amount-most}
 use Rattle.half_sums.specs.Sums.{Gathers, Small}

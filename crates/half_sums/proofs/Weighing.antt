@@ -7,8 +7,8 @@ use native.Mathlib.Numerals.{add-one}
 use native.Mathlib.Omega.{arith}
 use mir.Syntax.{w64}
 use mir.Val.{Fits}
-use Rattle.numbers.specs.Sum.{sum}
-use Rattle.flow.specs.Flow.{weigh}
+use Rattle.num_laws.specs.Sum.{sum}
+use Rattle.flow_laws.specs.Flow.{weigh}
 use Rattle.half_arrays.specs.State.{amountAt}
 use Rattle.half_arrays.proofs.Ranges.{amount-most}
 

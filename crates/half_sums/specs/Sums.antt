@@ -3,8 +3,8 @@ use Prim.Native.Nat.{ℕ, _<_, _≤_}
 use mathlib.Core.Path.{_≡_}
 use mathlib.Core.List.{List}
 use lib.ListN.{getD, length}
-use Rattle.numbers.specs.Sum.{sum}
-use Rattle.flow.specs.Flow.{atNode, weigh}
+use Rattle.num_laws.specs.Sum.{sum}
+use Rattle.flow_laws.specs.Flow.{atNode, weigh}
 use Rattle.half_arrays.specs.Arrays.{fromNode, toNode, boundAt, nodeAt, mostAt, leastAt, netAt}
 use Rattle.half_arrays.specs.State.{flowAt, hiAt, loAt}
 

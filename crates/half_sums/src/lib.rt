@@ -1,7 +1,7 @@
 // What amounts give, in one pass over the entries and one over the bounds.
 ghost use Rattle.half_arrays.specs.Arrays.{entryCount};
 ghost use Rattle.half_sums.specs.Sums.{EntrySums, FlowSums};
-use bounds::Axis;
+use axis_bounds::Axis;
 use half_arrays::ARCS;
 use half_arrays::FLOWS;
 use half_arrays::HIGHS;

@@ -3,7 +3,7 @@ use Prim.Native.Nat.{ℕ, _+_, _-_, _<_}
 use mathlib.Core.Bool.{Bool}
 use mathlib.Core.List.{List}
 use native.Mathlib.Omega.{arith}
-use Rattle.bounds.specs.Half.{AboveOn}
+use Rattle.axis_bounds.specs.Half.{AboveOn}
 use Rattle.half_arrays.specs.Says.{Says}
 use Rattle.half_arrays.specs.Arrays.{axisOn}
 use Rattle.half_arrays.specs.State.{flowAt, hiAt, loAt}

@@ -5,12 +5,12 @@ use mathlib.Core.List.{List}
 use native.Mathlib.Nat.{mul-le-mul-right}
 use native.Mathlib.Decide.{ℕ-discrete}
 use native.Mathlib.Omega.{arith}
-use Rattle.numbers.specs.Sum.{sum}
-use Rattle.numbers.proofs.Sums.{sum-le, sum-eq, sum-add, sum-tight}
-use Rattle.numbers.proofs.Spreads.{top-bottom}
-use Rattle.flow.specs.Flow.{weigh, Ends, Bounds, Tight}
-use Rattle.flow.proofs.Duality.{exchange, weak, tight-at-least}
-use Rattle.bounds.specs.Axis.{Keeps, lengthOn, places, valueAt}
+use Rattle.num_laws.specs.Sum.{sum}
+use Rattle.num_laws.proofs.Sums.{sum-le, sum-eq, sum-add, sum-tight}
+use Rattle.num_laws.proofs.Spreads.{top-bottom}
+use Rattle.flow_laws.specs.Flow.{weigh, Ends, Bounds, Tight}
+use Rattle.flow_laws.proofs.Duality.{exchange, weak, tight-at-least}
+use Rattle.axis_bounds.specs.Axis.{Keeps, lengthOn, places, valueAt}
 use Rattle.half_arrays.specs.Arrays.{raised, fromNode, toNode, boundAt, entryCount, nodeAt, mostAt, leastAt, netAt, weightAt, entryPins, axisOn}
 use Rattle.half_arrays.proofs.Ranges.{node-below, net-below}
 use Rattle.half_arrays.proofs.Arcs.{keeps-on}

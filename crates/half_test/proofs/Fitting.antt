@@ -6,8 +6,8 @@ use mathlib.Core.List.{List}
 use native.Mathlib.Decide.{decLt}
 use native.Mathlib.Omega.{arith}
 use lib.ListN.{getD, List·getD-eq-default}
-use Rattle.bounds.specs.Axis.{Keeps, lengthOn, netsLength}
-use Rattle.bounds.specs.Half.{HalfOn}
+use Rattle.axis_bounds.specs.Axis.{Keeps, lengthOn, netsLength}
+use Rattle.axis_bounds.specs.Half.{HalfOn}
 use Rattle.half_arrays.specs.Says.{Says}
 use Rattle.half_arrays.specs.Arrays.{netsFrom, axisOn, KeepsTo}
 use Rattle.half_arrays.specs.State.{flowAt, hiAt, loAt, rankAt, coordinates, limited}

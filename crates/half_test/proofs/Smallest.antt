@@ -3,7 +3,7 @@ use Prim.Native.Nat.{ℕ, zero, suc, _+_, _*_, _≤_, _<_}
 use mathlib.Core.Path.{_≡_, ap}
 use mathlib.Core.List.{List}
 use native.Mathlib.Omega.{arith}
-use Rattle.bounds.specs.Axis.{Keeps, valueAt}
+use Rattle.axis_bounds.specs.Axis.{Keeps, valueAt}
 use Rattle.half_arrays.specs.Arrays.{fromNode, toNode, nodeAt, netAt, axisOn}
 use Rattle.half_arrays.proofs.Nets.{topOn, bottomOn, under-top, over-bottom}
 use Rattle.half_worth.specs.Amounts.{Passes, WorthLength}

@@ -2,7 +2,7 @@
 use Prim.{Unit}
 use Prim.Native.Nat.{ℕ}
 use mathlib.Core.List.{List}
-use Rattle.bounds.specs.Half.{HalfOn}
+use Rattle.axis_bounds.specs.Half.{HalfOn}
 use Rattle.half_test.specs.declared.proposal.Shown.{Shown}
 use Rattle.half_test.specs.declared.proposal.Shown.the-variants as shown
 use Rattle.half_arrays.specs.Arrays.{axisOn}

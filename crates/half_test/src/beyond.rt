@@ -1,5 +1,5 @@
 // The test of a proposal that a half fit is above a room: by amounts alone, no values are read.
-ghost use Rattle.bounds.specs.Half.{AboveOn};
+ghost use Rattle.axis_bounds.specs.Half.{AboveOn};
 ghost use Rattle.half_arrays.specs.Arrays.{axisOn};
 ghost use Rattle.half_arrays.specs.Says.{Says};
 use half_arrays::ARCS;

@@ -8,7 +8,7 @@ use native.Mathlib.Omega.{arith}
 use lib.ListN.{getD}
 use mir.Syntax.{w64}
 use mir.Val.{Fits}
-use Rattle.bounds.specs.Axis.{valueAt}
+use Rattle.axis_bounds.specs.Axis.{valueAt}
 use Rattle.half_arrays.specs.Says.{Says}
 use Rattle.half_arrays.specs.Arrays.{raised, boundAt, KeepsTo}
 use Rattle.half_values.specs.Values.{Values, ValuesOf, macros}

@@ -11,12 +11,12 @@ use lib.Seq.{getD-set-same, getD-set-other}
 use borrow.Author.Tests.{eq-eqb, ne-eqb}
 use mir.Syntax.{w64}
 use mir.Val.{Fits}
-use Rattle.numbers.specs.Sum.{sum}
-use Rattle.numbers.proofs.Sums.{sum-eq}
-use Rattle.numbers.proofs.Spreads.{most-le, spread-le}
-use Rattle.numbers.specs.Spread.{most, fewest, spread}
-use Rattle.bounds.specs.Axis.{netsLength, valueAt, noPin}
-use Rattle.bounds.proofs.Places.{place-at}
+use Rattle.num_laws.specs.Sum.{sum}
+use Rattle.num_laws.proofs.Sums.{sum-eq}
+use Rattle.num_laws.proofs.Spreads.{most-le, spread-le}
+use Rattle.num_laws.specs.Spread.{most, fewest, spread}
+use Rattle.axis_bounds.specs.Axis.{netsLength, valueAt, noPin}
+use Rattle.axis_bounds.proofs.Places.{place-at}
 use Rattle.half_arrays.specs.Arrays.{entryCount, nodeAt, mostAt, leastAt, netAt, weightAt, entryPins, netsFrom}
 use Rattle.half_arrays.proofs.Nets.{spreadOn, nets-length}
 use Rattle.half_values.specs.Values.{Values, ValuesOf, macros, far, placesOn, NetEnds}

@@ -4,7 +4,7 @@ use mathlib.Core.Path.{_≡_, refl, ap, sym, _∙_}
 use mathlib.Core.List.{List, [], _∷_}
 use native.Mathlib.Omega.{arith}
 use lib.ListN.{length, getD}
-use Rattle.bounds.specs.Axis.{valueAt}
+use Rattle.axis_bounds.specs.Axis.{valueAt}
 use Rattle.half_arrays.specs.State.{coordinateAt, coordinates, limited}
 use Rattle.half_values.specs.Values.{Values, ValuesOf, macros}
 

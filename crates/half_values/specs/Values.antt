@@ -3,8 +3,8 @@ use Prim.Native.Nat.{ℕ, _≤_, _<_}
 use mathlib.Core.Path.{_≡_}
 use mathlib.Core.List.{List}
 use lib.ListN.{getD, length, drop}
-use Rattle.numbers.specs.Spread.{most, fewest}
-use Rattle.bounds.specs.Axis.{places}
+use Rattle.num_laws.specs.Spread.{most, fewest}
+use Rattle.axis_bounds.specs.Axis.{places}
 use Rattle.half_arrays.specs.Arrays.{entryPins}
 
 -- nine values of nodes, 0 at the die corner

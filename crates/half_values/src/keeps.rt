@@ -3,7 +3,7 @@ ghost use Rattle.half_arrays.specs.Says.{Says};
 ghost use Rattle.half_arrays.specs.Arrays.{KeepsTo};
 ghost use Rattle.half_arrays.specs.State.{limited};
 use crate::values::values_of;
-use bounds::Axis;
+use axis_bounds::Axis;
 use half_arrays::ARCS;
 use half_arrays::bound;
 

@@ -1,12 +1,12 @@
 // The length of all nets at given values.
 ghost use mathlib.Core.Path.{_≡_};
 ghost use Prim.Native.Nat.{min, max};
-ghost use Rattle.bounds.specs.Axis.{netsLength};
+ghost use Rattle.axis_bounds.specs.Axis.{netsLength};
 ghost use Rattle.half_arrays.specs.Arrays.{entryCount, netsFrom};
 ghost use Rattle.half_arrays.specs.State.{limited};
 ghost use Rattle.half_values.specs.Values.{Values, macros, NetEnds};
 use crate::values::values_of;
-use bounds::Axis;
+use axis_bounds::Axis;
 use half_arrays::TAB;
 use half_arrays::entries;
 use half_arrays::least;

@@ -2,7 +2,7 @@
 ghost use mathlib.Core.Path.{_≡_};
 ghost use Rattle.half_arrays.specs.State.{coordinateAt, coordinates, limited};
 ghost use Rattle.half_values.specs.Values.{ValuesOf};
-use bounds::Axis;
+use axis_bounds::Axis;
 use half_arrays::POOL;
 
 fn coordinate(st: &[u32; POOL], o: usize, k: usize) -> u64

@@ -2,9 +2,9 @@
 use Prim.Native.Nat.{ℕ, _+_, _*_, _<_, _≤_}
 use mathlib.Core.Path.{_≡_}
 use mathlib.Core.List.{List}
-use Rattle.numbers.specs.Sum.{sum}
-use Rattle.flow.specs.Flow.{atNode, weigh, Balance}
-use Rattle.bounds.specs.Axis.{lengthOn}
+use Rattle.num_laws.specs.Sum.{sum}
+use Rattle.flow_laws.specs.Flow.{atNode, weigh, Balance}
+use Rattle.axis_bounds.specs.Axis.{lengthOn}
 use Rattle.half_arrays.specs.Arrays.{raised, fromNode, toNode, boundAt, entryCount, nodeAt, mostAt, leastAt, netAt, weightAt, axisOn}
 
 -- what the entries' amounts f give at a node, and on a net

@@ -4,7 +4,7 @@ ghost use Rattle.half_worth.specs.Amounts.{Passes};
 ghost use Rattle.half_worth.specs.Tests.{Level, Given, WorthSums};
 ghost use Rattle.half_arrays.specs.Says.{Says};
 ghost use Rattle.half_sums.specs.Sums.{Small};
-use bounds::Axis;
+use axis_bounds::Axis;
 use half_arrays::ARCS;
 use half_arrays::POOL;
 use half_arrays::TAB;

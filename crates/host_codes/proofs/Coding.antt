@@ -7,13 +7,13 @@ use Rattle.model.specs.declared.WriteAnswer.{WriteAnswer}
 use Rattle.model.specs.declared.WriteAnswer.the-variants as write
 use Rattle.model.specs.declared.Chip.{Chip as HeldChip}
 use Rattle.model.specs.declared.Record.{Record as HeldRecord}
-use Rattle.grammar.specs.Writing.{answerOf}
-use Rattle.chipreader.specs.declared.ChipAnswer.{ChipAnswer}
-use Rattle.chipreader.specs.declared.ChipAnswer.the-variants as chip
-use Rattle.chipreader.specs.Answer.{meant}
-use Rattle.recordreader.specs.declared.RecordAnswer.{RecordAnswer}
-use Rattle.recordreader.specs.declared.RecordAnswer.the-variants as rec
-use Rattle.recordreader.specs.Answer.{meant as meantRec}
+use Rattle.text_grammar.specs.Writing.{answerOf}
+use Rattle.chip_read.specs.declared.ChipAnswer.{ChipAnswer}
+use Rattle.chip_read.specs.declared.ChipAnswer.the-variants as chip
+use Rattle.chip_read.specs.Answer.{meant}
+use Rattle.record_read.specs.declared.RecordAnswer.{RecordAnswer}
+use Rattle.record_read.specs.declared.RecordAnswer.the-variants as rec
+use Rattle.record_read.specs.Answer.{meant as meantRec}
 use Rattle.measure.specs.declared.MeasureAnswer.{MeasureAnswer}
 use Rattle.measure.specs.declared.MeasureAnswer.the-variants as measured
 use Rattle.measure.specs.Measuring.{measured as measuredAt, measuredAs}

@@ -1,10 +1,10 @@
 -- How every exported function answers (embed/jizdovel.h): a number, and a value beside it. This is the one encoding of refusals, lines and results.
 use Prim.Native.Nat.{ℕ}
 use mathlib.Core.Bool.{true, false}
-use Rattle.grammar.specs.Reading.{Reading, accepted, refused as notRead}
-use Rattle.grammar.specs.Writing.{Answer, wrote, notWritten}
+use Rattle.text_grammar.specs.Reading.{Reading, accepted, refused as notRead}
+use Rattle.text_grammar.specs.Writing.{Answer, wrote, notWritten}
 use Rattle.measure.specs.Measuring.{Measure, measured, refused as notMeasured}
-use Rattle.slots.specs.Fit.{Fit, refusedBy, noFit, placed}
+use Rattle.fit_slots.specs.Fit.{Fit, refusedBy, noFit, placed}
 use Rattle.fit.specs.declared.FitOutcome.{FitOutcome}
 use Rattle.fit.specs.declared.FitOutcome.the-variants as outcome
 use Rattle.host_codes.specs.declared.Code.{Code}

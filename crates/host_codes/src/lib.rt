@@ -1,16 +1,16 @@
 // The one encoding of answers: a number, and a value beside it.
-use chipreader::ChipAnswer;
-use chipreader::ChipRead;
+use chip_read::ChipAnswer;
+use chip_read::ChipRead;
 use fit::FitOutcome;
 use measure::MeasureAnswer;
 use model::Refusal;
 use model::WriteAnswer;
-use recordreader::RecordAnswer;
-use recordreader::RecordRead;
+use record_read::RecordAnswer;
+use record_read::RecordRead;
 ghost use mathlib.Core.Path.{_≡_};
-ghost use Rattle.grammar.specs.Writing.{answerOf};
-ghost use Rattle.chipreader.specs.Answer.{meantChip};
-ghost use Rattle.recordreader.specs.Answer.{meantRecord};
+ghost use Rattle.text_grammar.specs.Writing.{answerOf};
+ghost use Rattle.chip_read.specs.Answer.{meantChip};
+ghost use Rattle.record_read.specs.Answer.{meantRecord};
 ghost use Rattle.measure.specs.Measuring.{measured, measuredAs};
 ghost use Rattle.host_codes.specs.Code.{code, refused, ofReading, ofAnswer, ofMeasure, ofOutcome};
 

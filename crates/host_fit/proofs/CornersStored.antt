@@ -8,7 +8,7 @@ use lib.ListN.{length, getD, take, drop, set, length-set}
 use lib.Seq.{sets, sets-eq, length-sets, take-suc, length-take-le}
 use Rattle.model.specs.declared.Spot.{Spot}
 use Rattle.model.specs.Meaning.{blankSpot}
-use Rattle.numbers.proofs.Stores.{sets-append}
+use Rattle.num_laws.proofs.Stores.{sets-append}
 use Rattle.host_codes.specs.Lists.{numbersOf}
 use Rattle.host_codes.proofs.Numbers.{length-numbers, numbers-snoc}
 use Rattle.host_fit.specs.FitText.{over}

@@ -14,13 +14,13 @@ use Rattle.model.specs.declared.Spot.{Spot}
 use Rattle.model.specs.Meaning.{Chip, chipOf}
 use Rattle.refusals.specs.Tests.{Test, test, firstFailed, unlessFailed}
 use Rattle.refusals.proofs.FirstFailed.{passes-last}
-use Rattle.grammar.specs.Reading.{Reading, accepted, refused}
-use Rattle.chip.specs.Text.{readChip}
-use Rattle.chip.specs.Passed.{Passed}
+use Rattle.text_grammar.specs.Reading.{Reading, accepted, refused}
+use Rattle.chip_text.specs.Text.{readChip}
+use Rattle.chip_text.specs.Passed.{Passed}
 use Rattle.placement.specs.Least.{Best, nothing, found, fitOf}
-use Rattle.slots.specs.Fit.{Fit, refusedBy, noFit, placed, areLetters, lettersOf, letterCount, slotCount, bestFit, fitTests, fitChip, fitLetters, Filled}
-use Rattle.branches.proofs.Betters.{Sized}
-use Rattle.branches.proofs.Closing.{fit-sized}
+use Rattle.fit_slots.specs.Fit.{Fit, refusedBy, noFit, placed, areLetters, lettersOf, letterCount, slotCount, bestFit, fitTests, fitChip, fitLetters, Filled}
+use Rattle.search_branches.proofs.Betters.{Sized}
+use Rattle.search_branches.proofs.Closing.{fit-sized}
 use Rattle.fit.specs.declared.Fitted.{Fitted}
 use Rattle.fit.specs.declared.FitOutcome.{FitOutcome}
 use Rattle.fit.specs.declared.FitOutcome.the-variants as outcome

@@ -7,10 +7,10 @@ use lib.ListN.{length, drop}
 use Rattle.model.specs.declared.Chip.{Chip as HeldChip}
 use Rattle.model.specs.Meaning.{Chip, chipOf}
 use Rattle.refusals.specs.Tests.{test, firstFailed, unlessFailed}
-use Rattle.grammar.specs.Reading.{Reading, accepted, refused}
-use Rattle.chip.specs.Text.{readChip}
+use Rattle.text_grammar.specs.Reading.{Reading, accepted, refused}
+use Rattle.chip_text.specs.Text.{readChip}
 use Rattle.placement.specs.Least.{fitOf}
-use Rattle.slots.specs.Fit.{Fit, refusedBy, noFit, placed, lettersOf, slotCount, bestFit, fitTests, Filled}
+use Rattle.fit_slots.specs.Fit.{Fit, refusedBy, noFit, placed, lettersOf, slotCount, bestFit, fitTests, Filled}
 use Rattle.host_codes.specs.declared.Code.{Code}
 use Rattle.host_codes.specs.Code.{code, ofFit}
 use Rattle.host_codes.specs.Lists.{numbersOf}

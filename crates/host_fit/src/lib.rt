@@ -1,5 +1,5 @@
 // The fit of a chip text, with slots and positions into lent lists.
-use chipreader::ChipAnswer;
+use chip_read::ChipAnswer;
 use fit::FitOutcome;
 use host_codes::Code;
 use host_codes::fit_code;
@@ -11,9 +11,9 @@ ghost use mathlib.Core.Path.{_≡_};
 ghost use Prim.Native.Nat.{_+_, _≤_};
 ghost use lib.ListN.{length, take};
 ghost use Rattle.model.specs.Meaning.{chipOf};
-ghost use Rattle.grammar.specs.Reading.{accepted};
-ghost use Rattle.chip.specs.Text.{readChip};
-ghost use Rattle.chip.specs.Passed.{Passed};
+ghost use Rattle.text_grammar.specs.Reading.{accepted};
+ghost use Rattle.chip_text.specs.Text.{readChip};
+ghost use Rattle.chip_text.specs.Passed.{Passed};
 ghost use Rattle.host_codes.specs.Lists.{numbersOf};
 ghost use Rattle.host_fit.specs.FitText.{over, FitDone, Refusing};
 
@@ -79,7 +79,7 @@ fn fit_chip(c: Chip, letters: &[u8], slots: &mut [u16], positions: &mut [u64]) -
 pub fn fit_text(text: &[u8], letters: &[u8], slots: &mut [u16], positions: &mut [u64]) -> Code
     ensures { λ r. ⌜ FitDone (readChip (now (text .entry))) (now (letters .entry)) r (now (slots .entry)) (now (slots .exit)) (now (positions .entry)) (now (positions .exit)) ⌝ }
 {
-    let read = chipreader::read_chip(text);
+    let read = chip_read::read_chip(text);
     let answer = read.answer;
     let c = read.chip;
     match answer {

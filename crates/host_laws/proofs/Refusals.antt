@@ -6,14 +6,14 @@ use lib.Dec.{eqb, leb}
 use lib.ListN.{length}
 use Rattle.model.specs.Meaning.{Chip}
 use Rattle.refusals.specs.Tests.{Test, test, firstFailed}
-use Rattle.grammar.specs.Reading.{Reading, accepted, refused}
-use Rattle.chip.specs.Text.{readChip}
+use Rattle.text_grammar.specs.Reading.{Reading, accepted, refused}
+use Rattle.chip_text.specs.Text.{readChip}
 use Rattle.placement.specs.Least.{fitOf}
 use Rattle.measure.specs.Measuring.{refused as notMeasured, measurePassed}
-use Rattle.slots.specs.Fit.{refusedBy, lettersOf, slotCount, fitTests}
-use Rattle.grammar.proofs.Numbers.{Numbered}
-use Rattle.chip.proofs.Numbers.{chip-number}
-use Rattle.printed.proofs.Refusals.{wider, tabled, first-told, measured-told, passed-told, fit-told}
+use Rattle.fit_slots.specs.Fit.{refusedBy, lettersOf, slotCount, fitTests}
+use Rattle.text_grammar.proofs.Numbers.{Numbered}
+use Rattle.chip_text.proofs.Numbers.{chip-number}
+use Rattle.place_print.proofs.Refusals.{wider, tabled, first-told, measured-told, passed-told, fit-told}
 use Rattle.host_measure.specs.MeasureText.{cornersOf, measureRead, measureText}
 use Rattle.host_fit.specs.FitText.{fitRead, fitText}
 

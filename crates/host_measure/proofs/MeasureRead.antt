@@ -11,9 +11,9 @@ use Rattle.model.specs.declared.Spot.{Spot}
 use Rattle.model.specs.Meaning.{Chip, chipOf, firstOf, blankSpot}
 use Rattle.model.proofs.FirstOf.{first-take}
 use Rattle.refusals.specs.Tests.{firstFailed}
-use Rattle.grammar.specs.Reading.{Reading, accepted, refused}
-use Rattle.chip.specs.Text.{readChip}
-use Rattle.chip.specs.Passed.{Passed}
+use Rattle.text_grammar.specs.Reading.{Reading, accepted, refused}
+use Rattle.chip_text.specs.Text.{readChip}
+use Rattle.chip_text.specs.Passed.{Passed}
 use Rattle.measure.specs.Measuring.{Measure, refused as notMeasured, afterReading, measurePassed, measurePositions}
 use Rattle.host_codes.specs.declared.Code.{Code}
 use Rattle.host_codes.specs.Code.{code, refused as refusedCode, ofMeasure}

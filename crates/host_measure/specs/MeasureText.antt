@@ -6,8 +6,8 @@ use lib.ListN.{length}
 use Rattle.model.specs.declared.Spot.{Spot}
 use Rattle.model.specs.Meaning.{Chip}
 use Rattle.refusals.specs.Tests.{test, firstFailed, unlessFailed}
-use Rattle.grammar.specs.Reading.{Reading, accepted, refused}
-use Rattle.chip.specs.Text.{readChip}
+use Rattle.text_grammar.specs.Reading.{Reading, accepted, refused}
+use Rattle.chip_text.specs.Text.{readChip}
 use Rattle.measure.specs.Measuring.{Measure, refused as notMeasured, measurePassed}
 
 -- the corners of a list of numbers; a last x without its y is none

@@ -1,5 +1,5 @@
 // Positions as a list of numbers, measured.
-use chipreader::ChipAnswer;
+use chip_read::ChipAnswer;
 use host_codes::Code;
 use host_codes::measure_code;
 use host_codes::refusal_code;
@@ -12,8 +12,8 @@ ghost use mathlib.Core.Path.{_≡_};
 ghost use Prim.Native.Nat.{_+_, _≤_};
 ghost use lib.ListN.{length, take};
 ghost use Rattle.model.specs.Meaning.{chipOf};
-ghost use Rattle.grammar.specs.Reading.{accepted};
-ghost use Rattle.chip.specs.Passed.{Passed};
+ghost use Rattle.text_grammar.specs.Reading.{accepted};
+ghost use Rattle.chip_text.specs.Passed.{Passed};
 ghost use Rattle.measure.specs.Measuring.{measuredAs};
 ghost use Rattle.host_codes.specs.Code.{code, ofMeasure};
 ghost use Rattle.host_measure.specs.MeasureText.{cornersOf, measureRead, measureText};
@@ -45,13 +45,13 @@ fn measure_chip(c: Chip, list: &[u64]) -> MeasureAnswer
     if list.len() != n + n {
         return MeasureAnswer::Refused(Refusal { no: 13, line: 0 });
     }
-    measurelist::measure_spots(c, n, corners(list, n))
+    measure_list::measure_spots(c, n, corners(list, n))
 }
 
 pub fn measure_text(text: &[u8], list: &[u64]) -> Code
     ensures { λ r. ⌜ r ≡ code (ofMeasure (measureText (now (text .entry)) (now (list .entry)))) ⌝ }
 {
-    let read = chipreader::read_chip(text);
+    let read = chip_read::read_chip(text);
     let answer = read.answer;
     let c = read.chip;
     match answer {

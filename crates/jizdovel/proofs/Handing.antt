@@ -5,8 +5,8 @@ use mathlib.Core.List.{List}
 use lib.ListN.{length}
 use Rattle.model.specs.declared.WriteAnswer.{WriteAnswer}
 use Rattle.model.specs.Meaning.{Chip}
-use Rattle.grammar.specs.Reading.{Reading}
-use Rattle.grammar.specs.Writing.{answerOf, Written}
+use Rattle.text_grammar.specs.Reading.{Reading}
+use Rattle.text_grammar.specs.Writing.{answerOf, Written}
 use Rattle.measure.specs.Measuring.{Measure}
 use Rattle.host_codes.specs.declared.Code.{Code}
 use Rattle.host_codes.specs.Code.{code, ofReading, ofAnswer, ofMeasure, ofFit}

@@ -6,8 +6,8 @@ use host_fit::fit_text;
 use host_measure::measure_text;
 ghost use mathlib.Core.Path.{_≡_};
 ghost use lib.ListN.{length};
-ghost use Rattle.chip.specs.Text.{readChip};
-ghost use Rattle.record.specs.Text.{readRecord};
+ghost use Rattle.chip_text.specs.Text.{readChip};
+ghost use Rattle.record_text.specs.Text.{readRecord};
 ghost use Rattle.search.specs.Place.{placeText};
 ghost use Rattle.host_codes.specs.Code.{code, ofReading, ofAnswer, ofMeasure, ofFit};
 ghost use Rattle.host_measure.specs.MeasureText.{measureText};
@@ -29,7 +29,7 @@ pub extern "C" fn jizdovel_place(text: &[u8], out: &mut [u8], value: &mut u64) -
 pub extern "C" fn jizdovel_check_chip(text: &[u8], value: &mut u64) -> u64
     ensures { λ r. ⌜ record { number = r; value = now (value .exit) } ≡ code (ofReading (readChip (now (text .entry)))) ⌝ }
 {
-    let r = chip_code(chipreader::read_chip(text));
+    let r = chip_code(chip_read::read_chip(text));
     *value = r.value;
     r.number
 }
@@ -39,7 +39,7 @@ pub extern "C" fn jizdovel_check_chip(text: &[u8], value: &mut u64) -> u64
 pub extern "C" fn jizdovel_check_record(text: &[u8], value: &mut u64) -> u64
     ensures { λ r. ⌜ record { number = r; value = now (value .exit) } ≡ code (ofReading (readRecord (now (text .entry)))) ⌝ }
 {
-    let r = record_code(recordreader::read_record(text));
+    let r = record_code(record_read::read_record(text));
     *value = r.value;
     r.number
 }

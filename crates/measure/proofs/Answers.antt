@@ -11,9 +11,9 @@ use Rattle.model.specs.declared.Tested.{Tested}
 use Rattle.model.specs.declared.Tested.the-variants as tested
 use Rattle.model.specs.Meaning.{Chip, chipOf, firstOf, blankSpot}
 use Rattle.refusals.specs.Tests.{firstFailed, unlessFailed}
-use Rattle.grammar.specs.Reading.{Reading, accepted, refused as notRead}
-use Rattle.chip.specs.Text.{readChip, chipText}
-use Rattle.chip.proofs.Passing.{Whole}
+use Rattle.text_grammar.specs.Reading.{Reading, accepted, refused as notRead}
+use Rattle.chip_text.specs.Text.{readChip, chipText}
+use Rattle.chip_text.proofs.Passing.{Whole}
 use Rattle.placement.specs.Legal.{boxes, legal}
 use Rattle.placement.specs.Length.{wirelength}
 use Rattle.placement.proofs.LengthBound.{wirelength-bound}

@@ -12,7 +12,7 @@ use Rattle.model.specs.declared.Spot.{Spot}
 use Rattle.model.specs.declared.Pin.{Pin}
 use Rattle.model.specs.Meaning.{blankPin}
 use Rattle.measure.specs.declared.Extent.{Extent}
-use Rattle.numbers.specs.Spread.{most, fewest, spread}
+use Rattle.num_laws.specs.Spread.{most, fewest, spread}
 use Rattle.placement.proofs.Spans.{upX, upY}
 use Rattle.measure.specs.Held.{withPin, halfAround, Placed, PlacedTo}
 

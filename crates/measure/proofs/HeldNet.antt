@@ -10,9 +10,9 @@ use Rattle.model.specs.declared.Spot.{Spot}
 use Rattle.model.specs.declared.Pin.{Pin as HeldPin}
 use Rattle.model.specs.declared.Chip.{Chip as HeldChip}
 use Rattle.model.specs.Meaning.{Net, chipOf, pinsOf, blankNet, blankPin, blankSpot}
-use Rattle.chip.specs.Valid.{noNet, pinsBefore, FinePin, Fine}
-use Rattle.chip.proofs.HeldNets.{pins-before-more, pins-before-up}
-use Rattle.chip.proofs.HeldMeaning.{weight-held, nets-held, pins-held}
+use Rattle.chip_text.specs.Valid.{noNet, pinsBefore, FinePin, Fine}
+use Rattle.chip_text.proofs.HeldNets.{pins-before-more, pins-before-up}
+use Rattle.chip_text.proofs.HeldMeaning.{weight-held, nets-held, pins-held}
 use Rattle.placement.specs.Length.{Near, origin, netLength, netsLength, wirelength}
 use Rattle.placement.proofs.Spans.{upX, upY, held-length}
 use Rattle.placement.proofs.LengthBound.{origin-near}

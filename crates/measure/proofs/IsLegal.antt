@@ -9,8 +9,8 @@ use Rattle.model.specs.declared.Spot.{Spot}
 use Rattle.model.specs.declared.Chip.{Chip as HeldChip}
 use Rattle.model.specs.Meaning.{chipOf, blankFix, blankMac}
 use Rattle.model.proofs.FirstOf.{first-take}
-use Rattle.chip.specs.Valid.{Fine}
-use Rattle.chip.proofs.HeldMeaning.{macs-held}
+use Rattle.chip_text.specs.Valid.{Fine}
+use Rattle.chip_text.proofs.HeldMeaning.{macs-held}
 use Rattle.placement.specs.Legal.{boxes, within, legal}
 use Rattle.placement.proofs.Boxes.{take-boxes}
 use Rattle.geometry.specs.Box.{boxOf}

@@ -13,8 +13,8 @@ use Rattle.model.specs.declared.Spot.{Spot}
 use Rattle.model.specs.declared.Net.{Net}
 use Rattle.model.specs.declared.Pin.{Pin}
 use Rattle.model.specs.Meaning.{blankNet}
-use Rattle.chip.specs.Valid.{pinsBefore}
-use Rattle.chip.proofs.HeldNets.{pins-before-more, pins-before-up}
+use Rattle.chip_text.specs.Valid.{pinsBefore}
+use Rattle.chip_text.proofs.HeldNets.{pins-before-more, pins-before-up}
 use Rattle.measure.specs.Held.{halfAround, PlacedTo, lengthTo, Summable}
 
 module _ (ps : List Spot) (ts : List Net) (hs : List Pin) where

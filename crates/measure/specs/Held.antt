@@ -10,10 +10,10 @@ use Rattle.model.specs.declared.Net.{Net as HeldNet}
 use Rattle.model.specs.declared.Pin.{Pin as HeldPin}
 use Rattle.model.specs.Meaning.{blankNet, blankPin, pinUp}
 use Rattle.model.specs.Limits.{mostMacs, mostNets, mostPins, mostPlace, placedCorner, recordLength}
-use Rattle.chip.specs.Valid.{pinsBefore}
-use Rattle.chip.specs.Passed.{Passed}
-use Rattle.chip.proofs.Passing.{Whole}
-use Rattle.numbers.specs.Spread.{spread}
+use Rattle.chip_text.specs.Valid.{pinsBefore}
+use Rattle.chip_text.specs.Passed.{Passed}
+use Rattle.chip_text.proofs.Passing.{Whole}
+use Rattle.num_laws.specs.Spread.{spread}
 use Rattle.placement.specs.Length.{origin, Near}
 use Rattle.placement.proofs.Spans.{upX, upY}
 use Rattle.measure.specs.declared.Extent.{Extent}

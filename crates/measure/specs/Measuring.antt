@@ -5,8 +5,8 @@ use mathlib.Core.Bool.{Bool}
 use Rattle.model.specs.declared.Spot.{Spot}
 use Rattle.model.specs.Meaning.{Chip}
 use Rattle.refusals.specs.Tests.{firstFailed, unlessFailed}
-use Rattle.grammar.specs.Reading.{Reading, accepted, refused as notRead}
-use Rattle.chip.specs.Text.{readChip, chipText}
+use Rattle.text_grammar.specs.Reading.{Reading, accepted, refused as notRead}
+use Rattle.chip_text.specs.Text.{readChip, chipText}
 use Rattle.placement.specs.Legal.{legal}
 use Rattle.placement.specs.Length.{wirelength}
 use Rattle.measure_tests.specs.Positions.{measureTests}

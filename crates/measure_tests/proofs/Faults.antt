@@ -14,7 +14,7 @@ use Rattle.model.specs.Meaning.{chipOf, firstOf, blankSpot}
 use Rattle.model.proofs.FirstOf.{first-take, first-past, length-first}
 use Rattle.refusals.specs.Tests.{firstFailed}
 use Rattle.refusals.proofs.FirstFailed.{none-failed, fails-here, fails-later}
-use Rattle.chip.specs.Passed.{Passed}
+use Rattle.chip_text.specs.Passed.{Passed}
 use Rattle.measure_tests.specs.Positions.{inRange, measureTests}
 
 module _ (c : HeldChip) (p : Passed c) where

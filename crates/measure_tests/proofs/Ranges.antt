@@ -12,7 +12,7 @@ use lib.Seq.{slice, slice-empty, slice-cons}
 use borrow.Author.Tests.{le-leb, lt-leb, leb-true}
 use Rattle.model.specs.declared.Spot.{Spot}
 use Rattle.model.specs.Meaning.{blankSpot}
-use Rattle.grammar.proofs.Lacks.{and-left, and-right}
+use Rattle.text_grammar.proofs.Lacks.{and-left, and-right}
 use Rattle.placement.specs.Length.{Near}
 use Rattle.measure_tests.specs.Positions.{inRange}
 

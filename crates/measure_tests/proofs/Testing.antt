@@ -13,12 +13,12 @@ use Rattle.model.specs.declared.Tested.the-variants as tested
 use Rattle.model.specs.Meaning.{Chip, chipOf, firstOf, blankSpot}
 use Rattle.refusals.specs.Tests.{firstFailed, unlessFailed}
 use Rattle.refusals.proofs.FirstFailed.{first-passes, rest-passes, number-refused, number-none}
-use Rattle.grammar.specs.Reading.{Reading, accepted, refused}
-use Rattle.grammar.specs.Writing.{testedAs}
-use Rattle.chip.specs.Text.{readChip, chipText}
-use Rattle.chip.specs.Passed.{Accepted, Passed}
-use Rattle.chip.proofs.TextRead.{text-read}
-use Rattle.chip.proofs.Passing.{Whole, passed-by}
+use Rattle.text_grammar.specs.Reading.{Reading, accepted, refused}
+use Rattle.text_grammar.specs.Writing.{testedAs}
+use Rattle.chip_text.specs.Text.{readChip, chipText}
+use Rattle.chip_text.specs.Passed.{Accepted, Passed}
+use Rattle.chip_text.proofs.TextRead.{text-read}
+use Rattle.chip_text.proofs.Passing.{Whole, passed-by}
 use Rattle.placement.specs.Length.{Near}
 use Rattle.measure_tests.specs.Positions.{inRange, measureTests, refusedAs, testedBy}
 use Rattle.measure_tests.proofs.Faults.{counted, its-spots}

@@ -11,7 +11,7 @@ use Rattle.model.specs.declared.Tested.the-variants as tested
 use Rattle.model.specs.Meaning.{Chip}
 use Rattle.model.specs.Limits.{isWithin, placedCorner}
 use Rattle.refusals.specs.Tests.{Test, test, unlessFailed}
-use Rattle.grammar.specs.Reading.{Reading, accepted, refused}
+use Rattle.text_grammar.specs.Reading.{Reading, accepted, refused}
 
 -- each x and y is 0..1,024
 unfoldable pub inRange : List Spot → Bool

@@ -9,9 +9,9 @@ ghost use Prim.Native.Nat.{_≤_};
 ghost use lib.ListN.{take};
 ghost use Rattle.model.specs.Meaning.{firstOf, blankSpot, chipOf};
 ghost use Rattle.refusals.specs.Tests.{firstFailed};
-ghost use Rattle.grammar.specs.Reading.{accepted};
-ghost use Rattle.chip.specs.Text.{readChip, chipText};
-ghost use Rattle.chip.specs.Passed.{Passed};
+ghost use Rattle.text_grammar.specs.Reading.{accepted};
+ghost use Rattle.chip_text.specs.Text.{readChip, chipText};
+ghost use Rattle.chip_text.specs.Passed.{Passed};
 ghost use Rattle.measure_tests.specs.Positions.{inRange, measureTests, testedBy};
 
 // Whether each of the first count positions is within 0..1,024.

@@ -6,8 +6,8 @@ use mathlib.Core.Logic.{_⊎_, inl, inr, _↔_}
 use Prim.{Unit, tt}
 use Rattle.model.specs.declared.Spot.{Spot}
 use Rattle.model.specs.Meaning.{Chip}
-use Rattle.grammar.proofs.Lacks.{and-left, and-right}
-use Rattle.grammar.proofs.Every.{Every}
+use Rattle.text_grammar.proofs.Lacks.{and-left, and-right}
+use Rattle.text_grammar.proofs.Every.{Every}
 use Rattle.placement.proofs.OrderLaws.{or-says}
 use Rattle.geometry.specs.declared.Box.{Box}
 use Rattle.geometry.specs.Box.{clearOf}

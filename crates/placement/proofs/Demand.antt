@@ -14,8 +14,8 @@ use borrow.Author.Tests.{lt-ltb, le-ltb, eq-eqb, eqb-true, leb-true}
 use Rattle.model.specs.declared.Mac.{Mac}
 use Rattle.model.specs.declared.Spot.{Spot}
 use Rattle.model.specs.Meaning.{Chip}
-use Rattle.grammar.proofs.Every.{Every}
-use Rattle.grammar.proofs.Lacks.{and-left, and-right}
+use Rattle.text_grammar.proofs.Every.{Every}
+use Rattle.text_grammar.proofs.Lacks.{and-left, and-right}
 use Rattle.geometry.specs.Box.{boxAt}
 use Rattle.placement.specs.Legal.{boxes, inDie, allInDie, allApart, placesAll, within, legal}
 use Rattle.placement.specs.Length.{wirelength}

@@ -10,7 +10,7 @@ use lib.ListN.{length, getD}
 use borrow.Author.Tests.{le-ltb, eqb-true}
 use Rattle.model.specs.declared.Spot.{Spot}
 use Rattle.model.specs.Meaning.{Chip, blankSpot}
-use Rattle.grammar.proofs.Lacks.{and-left}
+use Rattle.text_grammar.proofs.Lacks.{and-left}
 use Rattle.placement.specs.Legal.{boxes, allInDie, placesAll, within}
 use Rattle.placement.specs.Length.{wirelength}
 use Rattle.placement.specs.Order.{keys, firstSmaller, before}

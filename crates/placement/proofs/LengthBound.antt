@@ -13,9 +13,9 @@ use borrow.Author.Tests.{leb-true}
 use Rattle.model.specs.declared.Spot.{Spot}
 use Rattle.model.specs.Meaning.{Pin, Net, Chip, blankSpot}
 use Rattle.model.specs.Limits.{isWithin, pinPlace}
-use Rattle.grammar.proofs.Lacks.{and-left}
-use Rattle.chip.specs.Valid.{Valid, ValidNet, noPin, noNet}
-use Rattle.numbers.proofs.Spreads.{spread-le}
+use Rattle.text_grammar.proofs.Lacks.{and-left}
+use Rattle.chip_text.specs.Valid.{Valid, ValidNet, noPin, noNet}
+use Rattle.num_laws.proofs.Spreads.{spread-le}
 use Rattle.placement.specs.Length.{Near, origin, span, netLength, netsLength, wirelength}
 use Rattle.placement.proofs.Spans.{shifted, span-shift, from-zero, below-zero, add-shift}
 

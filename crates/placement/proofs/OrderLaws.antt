@@ -10,7 +10,7 @@ use lib.Dec.{ltb, eqb}
 use lib.ListN.{length}
 use borrow.Author.Tests.{ltb-true, eqb-true, lt-ltb, le-ltb, eq-eqb}
 use Rattle.model.specs.declared.Spot.{Spot}
-use Rattle.grammar.proofs.Lacks.{and-left, and-right}
+use Rattle.text_grammar.proofs.Lacks.{and-left, and-right}
 use Rattle.placement.specs.Order.{keys, firstSmaller, before}
 
 pub or-says : (p q : Bool) → (p || q) ≡ true → (p ≡ true) ⊎ (q ≡ true)

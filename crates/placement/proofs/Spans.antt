@@ -11,8 +11,8 @@ use borrow.Author.Tests.{lt-ltb, le-ltb, le-leb, lt-leb}
 use Rattle.model.specs.declared.Spot.{Spot}
 use Rattle.model.specs.declared.Pin.{Pin as HeldPin}
 use Rattle.model.specs.Meaning.{Pin, pinOf, pinsOf}
-use Rattle.numbers.specs.Spread.{most, fewest, spread}
-use Rattle.numbers.proofs.Spreads.{fewest-le-most}
+use Rattle.num_laws.specs.Spread.{most, fewest, spread}
+use Rattle.num_laws.proofs.Spreads.{fewest-le-most}
 use Rattle.placement.specs.Length.{origin, pinX, pinY, larger, smaller, greatest, least, span, netLength}
 
 -- tests and places of two numbers that agree

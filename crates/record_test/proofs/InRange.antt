@@ -8,17 +8,17 @@ use lib.ListN.{length, getD, length-append}
 use borrow.Author.Tests.{le-leb}
 use Rattle.model.specs.declared.Spot.{Spot}
 use Rattle.model.specs.Meaning.{Record, none, least, blankSpot}
-use Rattle.grammar.specs.Words.{same, isIn}
-use Rattle.grammar.specs.Reading.{accepted, after}
-use Rattle.grammar.proofs.FieldsText.{judged}
-use Rattle.grammar.proofs.Every.{Every}
-use Rattle.grammar.proofs.Items.{itemStep, runItems}
-use Rattle.grammar.proofs.Run.{run-within}
-use Rattle.record.specs.declared.RecordWord.the-variants as word
-use Rattle.record.specs.Kind.{Part, start, recordKind}
-use Rattle.record.specs.Text.{doneItem, atItems, recordItems, recordRead, readRecord, recordText}
-use Rattle.record.proofs.ItemsRun.{items-formed, record-run}
-use Rattle.record.proofs.Short.{within-short}
+use Rattle.text_grammar.specs.Words.{same, isIn}
+use Rattle.text_grammar.specs.Reading.{accepted, after}
+use Rattle.text_grammar.proofs.FieldsText.{judged}
+use Rattle.text_grammar.proofs.Every.{Every}
+use Rattle.text_grammar.proofs.Items.{itemStep, runItems}
+use Rattle.text_grammar.proofs.Run.{run-within}
+use Rattle.record_text.specs.declared.RecordWord.the-variants as word
+use Rattle.record_text.specs.Kind.{Part, start, recordKind}
+use Rattle.record_text.specs.Text.{doneItem, atItems, recordItems, recordRead, readRecord, recordText}
+use Rattle.record_text.proofs.ItemsRun.{items-formed, record-run}
+use Rattle.record_text.proofs.Short.{within-short}
 use Rattle.record_test.proofs.SpotsRead.{lastOf, done-follows, spotTests, spot-step}
 
 abbrev ended : Record → Part

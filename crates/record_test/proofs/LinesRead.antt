@@ -5,19 +5,19 @@ use Prim.Native.Nat.{ℕ, _≤_, _<_}
 use native.Mathlib.Omega.{arith}
 use lib.ListN.{length}
 use borrow.Author.Tests.{le-leb}
-use Rattle.decimal.specs.Held.{Wrote}
+use Rattle.num_text.specs.Held.{Wrote}
 use Rattle.model.specs.declared.Outcome.the-variants as outcome
 use Rattle.model.specs.declared.Record.{Record as HeldRecord}
 use Rattle.model.specs.declared.Tested.{Tested}
 use Rattle.model.specs.Meaning.{Record, none, least, firstOf, blankSpot, recordOf}
-use Rattle.grammar.specs.Words.{same, isIn}
-use Rattle.grammar.specs.Reading.{accepted, refused, readText}
-use Rattle.grammar.specs.Writing.{testedAs}
-use Rattle.grammar.proofs.FieldsText.{judged}
-use Rattle.grammar.proofs.Items.{itemStep, runItems}
-use Rattle.record.specs.Text.{recordItems, readRecord, recordText}
-use Rattle.record.proofs.ItemsRun.{lines-run}
-use Rattle.record.proofs.ReadText.{too-long as over-long}
+use Rattle.text_grammar.specs.Words.{same, isIn}
+use Rattle.text_grammar.specs.Reading.{accepted, refused, readText}
+use Rattle.text_grammar.specs.Writing.{testedAs}
+use Rattle.text_grammar.proofs.FieldsText.{judged}
+use Rattle.text_grammar.proofs.Items.{itemStep, runItems}
+use Rattle.record_text.specs.Text.{recordItems, readRecord, recordText}
+use Rattle.record_text.proofs.ItemsRun.{lines-run}
+use Rattle.record_text.proofs.ReadText.{too-long as over-long}
 use Rattle.record_test.specs.Parts.{linesRead}
 
 -- ---- the lines

@@ -15,18 +15,18 @@ use borrow.Author.Tests.{lt-ltb, le-ltb, le-leb, lt-leb, eq-eqb}
 use Rattle.model.specs.declared.Spot.{Spot}
 use Rattle.model.specs.Meaning.{Record, least, firstOf, blankSpot}
 use Rattle.model.proofs.FirstOf.{first-take}
-use Rattle.grammar.specs.Line.{got, ranged, valued}
-use Rattle.grammar.specs.Words.{same, isIn}
-use Rattle.grammar.specs.Reading.{Step, next, fault, Reading, accepted, refused, Last, after, stepFields, onward}
-use Rattle.grammar.proofs.FieldsText.{judged}
-use Rattle.grammar.proofs.Items.{itemStep, runItems}
-use Rattle.grammar.specs.Steps.{need}
-use Rattle.record.specs.declared.RecordWord.{RecordWord}
-use Rattle.record.specs.declared.RecordWord.the-variants as word
-use Rattle.record.specs.Words.{recordWords}
-use Rattle.record.specs.Kind.{Part, followers, recordKind}
-use Rattle.record.specs.Text.{doneItem, atItem, atItems, recordItems, recordRead}
-use Rattle.record.proofs.ItemsRun.{lines-run}
+use Rattle.text_grammar.specs.Line.{got, ranged, valued}
+use Rattle.text_grammar.specs.Words.{same, isIn}
+use Rattle.text_grammar.specs.Reading.{Step, next, fault, Reading, accepted, refused, Last, after, stepFields, onward}
+use Rattle.text_grammar.proofs.FieldsText.{judged}
+use Rattle.text_grammar.proofs.Items.{itemStep, runItems}
+use Rattle.text_grammar.specs.Steps.{need}
+use Rattle.record_text.specs.declared.RecordWord.{RecordWord}
+use Rattle.record_text.specs.declared.RecordWord.the-variants as word
+use Rattle.record_text.specs.Words.{recordWords}
+use Rattle.record_text.specs.Kind.{Part, followers, recordKind}
+use Rattle.record_text.specs.Text.{doneItem, atItem, atItems, recordItems, recordRead}
+use Rattle.record_text.proofs.ItemsRun.{lines-run}
 use Rattle.record_test.specs.Parts.{inCorners, spotFault, linesRead}
 
 -- the word of the line before macro i + 1

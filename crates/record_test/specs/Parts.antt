@@ -8,11 +8,11 @@ use lib.IntN.{pos}
 use Rattle.model.specs.declared.Spot.{Spot}
 use Rattle.model.specs.Meaning.{Record, blankSpot}
 use Rattle.model.specs.Limits.{isWithin, placedCorner, mostMacs}
-use Rattle.grammar.specs.Line.{lines}
-use Rattle.grammar.specs.Reading.{Reading, readLines}
-use Rattle.grammar.specs.Steps.{need}
-use Rattle.record.specs.Kind.{start, recordKind}
-use Rattle.record.specs.Text.{recordRead, recordText}
+use Rattle.text_grammar.specs.Line.{lines}
+use Rattle.text_grammar.specs.Reading.{Reading, readLines}
+use Rattle.text_grammar.specs.Steps.{need}
+use Rattle.record_text.specs.Kind.{start, recordKind}
+use Rattle.record_text.specs.Text.{recordRead, recordText}
 
 -- x and y are in their range
 abbrev pub inCorners : Spot → Bool

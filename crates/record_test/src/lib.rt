@@ -9,8 +9,8 @@ use model::TEXT_MOST;
 use model::Tested;
 ghost use mathlib.Core.Path.{_≡_};
 ghost use Rattle.model.specs.Meaning.{least, firstOf, blankSpot, recordOf};
-ghost use Rattle.grammar.specs.Writing.{testedAs};
-ghost use Rattle.record.specs.Text.{readRecord, recordText};
+ghost use Rattle.text_grammar.specs.Writing.{testedAs};
+ghost use Rattle.record_text.specs.Text.{readRecord, recordText};
 ghost use Rattle.record_test.specs.Parts.{spotFault, linesRead};
 
 // The fault of macro i's spot, or 0: count 6, range 4.

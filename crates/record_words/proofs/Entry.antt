@@ -4,12 +4,12 @@ use mathlib.Core.Bool.{Bool, true, false, not}
 use Prim.Native.Nat.{ℕ}
 use lib.ListN.{length}
 use borrow.Author.Tests.{not-true, not-false}
-use Rattle.grammar.specs.Words.{isIn}
-use Rattle.grammar.specs.Reading.{Last}
-use Rattle.grammar.specs.Steps.{entryFault}
-use Rattle.record.specs.declared.RecordWord.{RecordWord}
-use Rattle.record.specs.Words.{recordWords}
-use Rattle.record.specs.Kind.{Part, followers, spotsOf, room, recordKind}
+use Rattle.text_grammar.specs.Words.{isIn}
+use Rattle.text_grammar.specs.Reading.{Last}
+use Rattle.text_grammar.specs.Steps.{entryFault}
+use Rattle.record_text.specs.declared.RecordWord.{RecordWord}
+use Rattle.record_text.specs.Words.{recordWords}
+use Rattle.record_text.specs.Kind.{Part, followers, spotsOf, room, recordKind}
 use Rattle.record_words.specs.Meant.{recordEntry}
 
 pub entry-is : (s : Part) (w : RecordWord) → recordEntry (s .last) (length (spotsOf (s .result))) w ≡ entryFault recordKind s w

@@ -2,16 +2,16 @@
 use mathlib.Core.Path.{_≡_, refl, _∙_}
 use mathlib.Core.Bool.{Bool, true, false, _||_}
 use mathlib.Core.List.{List, [], _∷_}
-use Rattle.line.specs.declared.Layout.{Layout}
-use Rattle.line.specs.Held.{spelled}
-use Rattle.line.specs.Layout.{chain, allSane, isLayout, formOf, layoutFor}
-use Rattle.line.proofs.Walk.{Laying}
-use Rattle.grammar.specs.Words.{isWord, isIn}
-use Rattle.grammar.specs.Reading.{isLast, before, after}
-use Rattle.record.specs.declared.RecordWord.{RecordWord}
-use Rattle.record.specs.declared.RecordWord.the-variants as word
-use Rattle.record.specs.Words.{spell, form, recordWords}
-use Rattle.record.specs.Kind.{followers}
+use Rattle.text_line.specs.declared.Layout.{Layout}
+use Rattle.text_line.specs.Held.{spelled}
+use Rattle.text_line.specs.Layout.{chain, allSane, isLayout, formOf, layoutFor}
+use Rattle.text_line.proofs.Walk.{Laying}
+use Rattle.text_grammar.specs.Words.{isWord, isIn}
+use Rattle.text_grammar.specs.Reading.{isLast, before, after}
+use Rattle.record_text.specs.declared.RecordWord.{RecordWord}
+use Rattle.record_text.specs.declared.RecordWord.the-variants as word
+use Rattle.record_text.specs.Words.{spell, form, recordWords}
+use Rattle.record_text.specs.Kind.{followers}
 use Rattle.record_words.specs.declared.RecordLast.{RecordLast}
 use Rattle.record_words.specs.declared.RecordLast.the-variants as last
 use Rattle.record_words.specs.Meant.{lastOf}

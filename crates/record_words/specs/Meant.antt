@@ -1,11 +1,11 @@
 -- What the program's values mean: a word that was looked for, and the word of the last line; the tests of a line before its fields.
 use Prim.Native.Nat.{ℕ}
-use Rattle.grammar.specs.Words.{Found, known, unknown, isIn}
-use Rattle.grammar.specs.Reading.{Last, before, after}
-use Rattle.grammar.specs.Steps.{need}
-use Rattle.record.specs.declared.RecordWord.{RecordWord}
-use Rattle.record.specs.Words.{recordWords}
-use Rattle.record.specs.Kind.{followers, room}
+use Rattle.text_grammar.specs.Words.{Found, known, unknown, isIn}
+use Rattle.text_grammar.specs.Reading.{Last, before, after}
+use Rattle.text_grammar.specs.Steps.{need}
+use Rattle.record_text.specs.declared.RecordWord.{RecordWord}
+use Rattle.record_text.specs.Words.{recordWords}
+use Rattle.record_text.specs.Kind.{followers, room}
 use Rattle.record_words.specs.declared.RecordFound.{RecordFound}
 use Rattle.record_words.specs.declared.RecordFound.the-variants as found
 use Rattle.record_words.specs.declared.RecordLast.{RecordLast}

@@ -1,18 +1,18 @@
 // The words of records in code: which word some bytes spell, which word may follow which, and how a line is spelled and laid out.
-use line::Layout;
-use line::Rule;
-use line::Spelling;
+use text_line::Layout;
+use text_line::Rule;
+use text_line::Spelling;
 use model::Mac;
 use model::Record;
 use model::Spot;
-use record::RecordWord;
+use record_text::RecordWord;
 ghost use mathlib.Core.Path.{_≡_};
-ghost use Rattle.grammar.specs.Words.{isWord, isIn, wordIn};
-ghost use Rattle.grammar.specs.Reading.{isLast};
-ghost use Rattle.line.specs.Held.{spelled};
-ghost use Rattle.line.specs.Layout.{layoutFor};
-ghost use Rattle.record.specs.Words.{spell, form, recordWords};
-ghost use Rattle.record.specs.Kind.{followers, room};
+ghost use Rattle.text_grammar.specs.Words.{isWord, isIn, wordIn};
+ghost use Rattle.text_grammar.specs.Reading.{isLast};
+ghost use Rattle.text_line.specs.Held.{spelled};
+ghost use Rattle.text_line.specs.Layout.{layoutFor};
+ghost use Rattle.record_text.specs.Words.{spell, form, recordWords};
+ghost use Rattle.record_text.specs.Kind.{followers, room};
 ghost use Rattle.record_words.specs.Meant.{foundOf, lastOf, recordEntry};
 
 // The word that some bytes spell, or that there is none.
@@ -59,7 +59,7 @@ pub fn same_word(a: RecordWord, b: RecordWord) -> bool
     let q = spelling_of(b);
     let first = p.bytes;
     let other = q.bytes;
-    line::same_spelling(first, p.size, other, q.size)
+    text_line::same_spelling(first, p.size, other, q.size)
 }
 
 // The first of the words that s spells.
@@ -71,7 +71,7 @@ fn word_in(s: &[u8], words: [RecordWord; 4]) -> RecordFound
         let w = words[i];
         let p = spelling_of(w);
         let bytes = p.bytes;
-        if line::spells(bytes, p.size, s) {
+        if text_line::spells(bytes, p.size, s) {
             return RecordFound::Known(w);
         }
         i += 1;
@@ -163,10 +163,10 @@ pub fn entry_fault(last: RecordLast, count: usize, w: RecordWord) -> usize
 fn at_fields() -> Layout
     ensures { λ r. ⌜ r ≡ layoutFor (form RecordWord.At) ⌝ }
 {
-    let m = line::short_rule(b'm', 0, 1, Mac::COUNT as u64);
-    let x = line::short_rule(b'x', 0, 0, Spot::MOST);
-    let y = line::short_rule(b'y', 0, 0, Spot::MOST);
-    let none = line::no_rule();
+    let m = text_line::short_rule(b'm', 0, 1, Mac::COUNT as u64);
+    let x = text_line::short_rule(b'x', 0, 0, Spot::MOST);
+    let y = text_line::short_rule(b'y', 0, 0, Spot::MOST);
+    let none = text_line::no_rule();
     Layout {
         count: 3,
         rules: [m, x, y, none],
@@ -178,15 +178,15 @@ pub fn layout_of(w: RecordWord) -> Layout
     ensures { λ r. ⌜ r ≡ layoutFor (form w) ⌝ }
 {
     match w {
-        RecordWord::Least => line::one_field(Rule {
+        RecordWord::Least => text_line::one_field(Rule {
             mark: [44, b'w', b'l', 44],
             size: 4,
             up: 0,
             least: 0,
             most: Record::LENGTH_MOST,
         }),
-        RecordWord::None => line::no_fields(),
+        RecordWord::None => text_line::no_fields(),
         RecordWord::At => at_fields(),
-        RecordWord::Done => line::no_fields(),
+        RecordWord::Done => text_line::no_fields(),
     }
 }

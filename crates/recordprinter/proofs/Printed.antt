@@ -6,22 +6,22 @@ use native.Mathlib.Nat.{zero-add}
 use native.Mathlib.Numerals.{add-one}
 use native.Mathlib.Omega.{arith}
 use lib.ListN.{length, getD}
-use Rattle.decimal.specs.Held.{Wrote}
+use Rattle.num_text.specs.Held.{Wrote}
 use Rattle.model.specs.declared.Spot.{Spot}
 use Rattle.model.specs.declared.Outcome.the-variants as outcome
 use Rattle.model.specs.declared.Record.{Record as HeldRecord}
 use Rattle.model.specs.Meaning.{Record, firstOf, blankSpot, recordOf}
-use Rattle.grammar.specs.Words.{itemText, itemsText}
-use Rattle.line.specs.Held.{loweredAll}
-use Rattle.line.specs.Layout.{valuesIn}
-use Rattle.linewriter.specs.Shown.{shownOf}
-use Rattle.linewriter.specs.Run.{run}
-use Rattle.linewriter.proofs.Counted.{numbered-run}
-use Rattle.linewriter.proofs.Items.{items-one, items-then, then-line, run-more}
-use Rattle.record.specs.declared.RecordWord.{RecordWord}
-use Rattle.record.specs.declared.RecordWord.the-variants as word
-use Rattle.record.specs.Words.{form, recordWords}
-use Rattle.record.specs.Text.{Item, leastItem, noneItem, doneItem, atItem, atItems, recordText, recordItems, body}
+use Rattle.text_grammar.specs.Words.{itemText, itemsText}
+use Rattle.text_line.specs.Held.{loweredAll}
+use Rattle.text_line.specs.Layout.{valuesIn}
+use Rattle.text_put.specs.Shown.{shownOf}
+use Rattle.text_put.specs.Run.{run}
+use Rattle.text_put.proofs.Counted.{numbered-run}
+use Rattle.text_put.proofs.Items.{items-one, items-then, then-line, run-more}
+use Rattle.record_text.specs.declared.RecordWord.{RecordWord}
+use Rattle.record_text.specs.declared.RecordWord.the-variants as word
+use Rattle.record_text.specs.Words.{form, recordWords}
+use Rattle.record_text.specs.Text.{Item, leastItem, noneItem, doneItem, atItem, atItems, recordText, recordItems, body}
 
 -- the line of the word w with the numbers vs, as held
 abbrev lineOf : RecordWord → List ℕ → List ℕ

@@ -3,15 +3,15 @@ use model::Mac;
 use model::Outcome;
 use model::Record;
 use model::Spot;
-use record::RecordWord;
+use record_text::RecordWord;
 ghost use mathlib.Core.Path.{_≡_};
 ghost use lib.ListN.{getD};
-ghost use Rattle.decimal.specs.Held.{Wrote};
+ghost use Rattle.num_text.specs.Held.{Wrote};
 ghost use Rattle.model.specs.Meaning.{firstOf, blankSpot, recordOf};
-ghost use Rattle.grammar.specs.Words.{itemText, itemsText};
-ghost use Rattle.line.specs.Layout.{valuesIn};
-ghost use Rattle.record.specs.Words.{form, recordWords};
-ghost use Rattle.record.specs.Text.{atItems, body, recordText};
+ghost use Rattle.text_grammar.specs.Words.{itemText, itemsText};
+ghost use Rattle.text_line.specs.Layout.{valuesIn};
+ghost use Rattle.record_text.specs.Words.{form, recordWords};
+ghost use Rattle.record_text.specs.Text.{atItems, body, recordText};
 
 // Writes the line with that word and the values v, as held, from `at` on, as far as the buffer goes, and answers the place after it.
 fn put_item(out: &mut [u8], at: usize, w: RecordWord, v: [u64; 4]) -> usize
@@ -19,7 +19,7 @@ fn put_item(out: &mut [u8], at: usize, w: RecordWord, v: [u64; 4]) -> usize
 {
     let word = record_words::spelling_of(w);
     let layout = record_words::layout_of(w);
-    linewriter::put_line(out, at, word, layout, v)
+    text_put::put_line(out, at, word, layout, v)
 }
 
 // Spot i of the array, or a blank one past its end.
@@ -36,7 +36,7 @@ fn spot_at(spots: [Spot; Mac::COUNT], i: usize) -> Spot
 fn put_spots(out: &mut [u8], at: usize, spots: [Spot; Mac::COUNT], n: usize) -> usize
     ensures { λ k. ⌜ Wrote (now (out .entry)) (now (out .exit)) (itemsText recordWords (atItems 1 (firstOf blankSpot n spots))) at k ⌝ }
 {
-    let last = linewriter::shown(n, Mac::COUNT);
+    let last = text_put::shown(n, Mac::COUNT);
     let mut a = at;
     let mut i: usize = 0;
     while i < last {

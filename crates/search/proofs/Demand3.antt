@@ -10,10 +10,10 @@ use lib.ListN.{length, drop}
 use borrow.Author.Tests.{le-leb, leb-true}
 use Rattle.model.specs.declared.Spot.{Spot}
 use Rattle.model.specs.Meaning.{Chip, none, least}
-use Rattle.grammar.specs.Reading.{Reading, accepted, refused}
-use Rattle.grammar.specs.Writing.{wrote, notWritten, fit}
-use Rattle.chip.specs.Text.{readChip}
-use Rattle.record.specs.Text.{recordText}
+use Rattle.text_grammar.specs.Reading.{Reading, accepted, refused}
+use Rattle.text_grammar.specs.Writing.{wrote, notWritten, fit}
+use Rattle.chip_text.specs.Text.{readChip}
+use Rattle.record_text.specs.Text.{recordText}
 use Rattle.placement.specs.Legal.{legal}
 use Rattle.placement.specs.Least.{Best, nothing, found, earliestLeast, bestRecord, chipRecord}
 use Rattle.placement.proofs.Demand.{earliest-least-found, nothing-legal}

@@ -10,17 +10,17 @@ use Rattle.model.specs.declared.Outcome.the-variants as outcome
 use Rattle.model.specs.declared.Spot.{Spot}
 use Rattle.model.specs.Meaning.{Chip, chipOf, firstOf, blankSpot}
 use Rattle.model.proofs.FirstOf.{first-take}
-use Rattle.chip.specs.Passed.{Passed}
+use Rattle.chip_text.specs.Passed.{Passed}
 use Rattle.placement.specs.Letters.{Letter}
-use Rattle.bounds.specs.Half.{HalfOn}
-use Rattle.slots.specs.declared.Direction.{Direction}
-use Rattle.slots.specs.declared.Direction.the-variants.{Horizontal as horizontal, Vertical as vertical}
-use Rattle.slots.specs.Axes.{axisFor, cornersOn}
-use Rattle.halves.proofs.Halving.{spots-y}
+use Rattle.axis_bounds.specs.Half.{HalfOn}
+use Rattle.fit_slots.specs.declared.Direction.{Direction}
+use Rattle.fit_slots.specs.declared.Direction.the-variants.{Horizontal as horizontal, Vertical as vertical}
+use Rattle.fit_slots.specs.Axes.{axisFor, cornersOn}
+use Rattle.search_halves.proofs.Halving.{spots-y}
 use Rattle.half_fit.specs.declared.service.HalfFit.{HalfFit}
 use Rattle.half_fit.specs.declared.service.HalfOutcome.{HalfOutcome}
 use Rattle.half_fit.specs.declared.service.HalfOutcome.the-variants as answer
-use Rattle.best.specs.Best.{bestOf, CountIs}
+use Rattle.search_best.specs.Best.{bestOf, CountIs}
 use Rattle.search_node.specs.Node.{noRecord, FitHeld, roomOf}
 use Rattle.search_node.specs.Letters.{lettersIn, Lettered}
 use Rattle.search_join.specs.Joined.{HalfSaid, ChildHeld, Beside, FitFor, JoinedFrom}

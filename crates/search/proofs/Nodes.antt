@@ -13,23 +13,23 @@ use Rattle.model.specs.declared.Record.{Record as HeldRecord}
 use Rattle.model.specs.declared.Outcome.{Outcome}
 use Rattle.model.specs.declared.Outcome.the-variants as outcome
 use Rattle.model.specs.Meaning.{Chip, chipOf, outcomeOf, recordOf}
-use Rattle.chip.specs.Passed.{Passed}
+use Rattle.chip_text.specs.Passed.{Passed}
 use Rattle.placement.specs.Letters.{Letter, dot}
 use Rattle.placement.specs.Least.{Best, nothing, found, fitOf}
-use Rattle.bounds.specs.declared.Slot.{Slot}
-use Rattle.bounds.specs.Axis.{Axis, lengthOn}
-use Rattle.bounds.specs.Half.{HalfOn}
-use Rattle.slots.specs.declared.Direction.{Direction}
-use Rattle.slots.specs.declared.Direction.the-variants.{Horizontal as horizontal, Vertical as vertical}
-use Rattle.slots.specs.Slots.{asked, couples}
-use Rattle.slots.specs.Axes.{axisFor, cornersOn}
-use Rattle.slots.proofs.Counting.{letters-count}
-use Rattle.halves.specs.Half.{half}
-use Rattle.halves.proofs.Halving.{half-one, fit-half, fit-sum, other-axis}
-use Rattle.kept.specs.Differences.{limited}
-use Rattle.half_tables.specs.Tables.{Arced, withBound}
-use Rattle.half_tables.proofs.LetterBounds.{arced-letter, arced-other}
-use Rattle.best.specs.Best.{resultOf, bestOf}
+use Rattle.axis_bounds.specs.declared.Slot.{Slot}
+use Rattle.axis_bounds.specs.Axis.{Axis, lengthOn}
+use Rattle.axis_bounds.specs.Half.{HalfOn}
+use Rattle.fit_slots.specs.declared.Direction.{Direction}
+use Rattle.fit_slots.specs.declared.Direction.the-variants.{Horizontal as horizontal, Vertical as vertical}
+use Rattle.fit_slots.specs.Slots.{asked, couples}
+use Rattle.fit_slots.specs.Axes.{axisFor, cornersOn}
+use Rattle.fit_slots.proofs.Counting.{letters-count}
+use Rattle.search_halves.specs.Half.{half}
+use Rattle.search_halves.proofs.Halving.{half-one, fit-half, fit-sum, other-axis}
+use Rattle.search_kept.specs.Differences.{limited}
+use Rattle.search_tables.specs.Tables.{Arced, withBound}
+use Rattle.search_tables.proofs.LetterBounds.{arced-letter, arced-other}
+use Rattle.search_best.specs.Best.{resultOf, bestOf}
 use Rattle.search_node.specs.Node.{lengthOf, FitHeld, NodeOk, Open}
 use Rattle.search_node.specs.Letters.{byteOf, lettersIn, Lettered, letterAt, wayAt, Asks}
 use Rattle.search_left.specs.Left.{childList, childAt}

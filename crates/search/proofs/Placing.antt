@@ -13,32 +13,32 @@ use Rattle.model.specs.declared.Refusal.{Refusal}
 use Rattle.model.specs.declared.Tested.{Tested}
 use Rattle.model.specs.declared.Tested.the-variants as tested
 use Rattle.model.specs.Meaning.{Chip, Record, none, least, chipOf, recordOf}
-use Rattle.grammar.specs.Reading.{Reading, accepted}
-use Rattle.grammar.specs.Writing.{Written, testedAs, refuse, writeText}
-use Rattle.chip.specs.Text.{readChip, chipText}
-use Rattle.chip.specs.Passed.{Passed}
-use Rattle.chipreader.specs.declared.ChipAnswer.{ChipAnswer}
-use Rattle.chipreader.specs.declared.ChipAnswer.the-variants as answer
-use Rattle.chipreader.specs.Answer.{meant}
-use Rattle.record.specs.Text.{recordText, writeRecord}
+use Rattle.text_grammar.specs.Reading.{Reading, accepted}
+use Rattle.text_grammar.specs.Writing.{Written, testedAs, refuse, writeText}
+use Rattle.chip_text.specs.Text.{readChip, chipText}
+use Rattle.chip_text.specs.Passed.{Passed}
+use Rattle.chip_read.specs.declared.ChipAnswer.{ChipAnswer}
+use Rattle.chip_read.specs.declared.ChipAnswer.the-variants as answer
+use Rattle.chip_read.specs.Answer.{meant}
+use Rattle.record_text.specs.Text.{recordText, writeRecord}
 use Rattle.placement.specs.Letters.{Letter, dot, pairs}
 use Rattle.placement.specs.Least.{earliestLeast, bestRecord, chipRecord}
-use Rattle.slots.specs.declared.Direction.{Direction}
-use Rattle.slots.specs.declared.Direction.the-variants.{Horizontal as horizontal, Vertical as vertical}
-use Rattle.slots.specs.Slots.{couples}
-use Rattle.slots.specs.Fit.{letterCount}
-use Rattle.slots.proofs.Counting.{letters-count}
-use Rattle.slots.proofs.Pairs.{pairOf, pairs-couples}
-use Rattle.pairs.specs.Count.{letterTotal}
-use Rattle.pairs.proofs.Counts.{chip-letters, chip-few}
+use Rattle.fit_slots.specs.declared.Direction.{Direction}
+use Rattle.fit_slots.specs.declared.Direction.the-variants.{Horizontal as horizontal, Vertical as vertical}
+use Rattle.fit_slots.specs.Slots.{couples}
+use Rattle.fit_slots.specs.Fit.{letterCount}
+use Rattle.fit_slots.proofs.Counting.{letters-count}
+use Rattle.fit_slots.proofs.Pairs.{pairOf, pairs-couples}
+use Rattle.fit_pairs.specs.Count.{letterTotal}
+use Rattle.fit_pairs.proofs.Counts.{chip-letters, chip-few}
 use Rattle.placement.proofs.Demand.{earliest-least-found}
-use Rattle.branches.specs.Branch.{inBranch}
-use Rattle.branches.proofs.Branching.{dots-branch}
-use Rattle.halves.specs.Result.{Real}
-use Rattle.halves.proofs.Covers.{real-answer}
-use Rattle.halves.proofs.EqualMacros.{equal-macros}
-use Rattle.best.specs.Best.{resultOf, bestOf, Counted}
-use Rattle.half_tables.specs.Made.{Hold, ArraysFor}
+use Rattle.search_branches.specs.Branch.{inBranch}
+use Rattle.search_branches.proofs.Branching.{dots-branch}
+use Rattle.search_halves.specs.Result.{Real}
+use Rattle.search_halves.proofs.Covers.{real-answer}
+use Rattle.search_halves.proofs.EqualMacros.{equal-macros}
+use Rattle.search_best.specs.Best.{resultOf, bestOf, Counted}
+use Rattle.search_tables.specs.Made.{Hold, ArraysFor}
 use Rattle.search_node.specs.Letters.{lettersIn, Lettered}
 use Rattle.search_node.specs.Node.{noRecord, Arrayed}
 use Rattle.search_close.specs.Step.{Searched}

@@ -2,14 +2,14 @@
 use mathlib.Core.Path.{_≡_, refl}
 use native.Mathlib.Omega.{arith}
 use Rattle.model.specs.Meaning.{Chip}
-use Rattle.grammar.specs.Reading.{accepted}
-use Rattle.chip.specs.Valid.{Valid}
-use Rattle.record.specs.Text.{readRecord, recordText}
+use Rattle.text_grammar.specs.Reading.{accepted}
+use Rattle.chip_text.specs.Valid.{Valid}
+use Rattle.record_text.specs.Text.{readRecord, recordText}
 use Rattle.record_test.proofs.InRange.{none-accepted, least-accepted}
 use Rattle.placement.specs.Least.{Best, nothing, found, earliestLeast, bestRecord, chipRecord}
 use Rattle.placement.proofs.Demand.{earliest-least-found}
 use Rattle.placement.proofs.LengthBound.{wirelength-bound}
-use Rattle.branches.proofs.Closing.{legal-inside}
+use Rattle.search_branches.proofs.Closing.{legal-inside}
 use Rattle.search_join.proofs.Nearby.{within-long, within-near}
 
 module _ (c : Chip) (v : Valid c) where

@@ -9,32 +9,32 @@ use Rattle.model.specs.declared.Chip.{Chip as HeldChip}
 use Rattle.model.specs.declared.Record.{Record as HeldRecord}
 use Rattle.model.specs.declared.Spot.{Spot}
 use Rattle.model.specs.Meaning.{Chip, chipOf}
-use Rattle.chip.specs.Passed.{Passed}
+use Rattle.chip_text.specs.Passed.{Passed}
 use Rattle.placement.specs.Legal.{legal}
 use Rattle.placement.specs.Letters.{Letter, dot, keepsLetters}
 use Rattle.placement.specs.Least.{found}
 use Rattle.placement.proofs.Demand.{fit-found}
-use Rattle.bounds.specs.Axis.{Keeps, valueAt, lengthOn, netsLength}
-use Rattle.slots.specs.declared.Direction.{Direction}
-use Rattle.slots.specs.declared.Direction.the-variants.{Horizontal as horizontal, Vertical as vertical}
-use Rattle.slots.specs.Axes.{axisNet, axisFor, cornersOn}
-use Rattle.slots.proofs.Keeping.{keeps-splits}
-use Rattle.pairs.specs.Count.{letterTotal}
-use Rattle.branches.specs.Branch.{inBranch}
-use Rattle.branches.proofs.Branching.{dots-branch}
-use Rattle.halves.specs.Kept.{valueOn}
-use Rattle.halves.proofs.Covers.{branch-keeps}
-use Rattle.kept.specs.Differences.{KeptBy, Starts}
+use Rattle.axis_bounds.specs.Axis.{Keeps, valueAt, lengthOn, netsLength}
+use Rattle.fit_slots.specs.declared.Direction.{Direction}
+use Rattle.fit_slots.specs.declared.Direction.the-variants.{Horizontal as horizontal, Vertical as vertical}
+use Rattle.fit_slots.specs.Axes.{axisNet, axisFor, cornersOn}
+use Rattle.fit_slots.proofs.Keeping.{keeps-splits}
+use Rattle.fit_pairs.specs.Count.{letterTotal}
+use Rattle.search_branches.specs.Branch.{inBranch}
+use Rattle.search_branches.proofs.Branching.{dots-branch}
+use Rattle.search_halves.specs.Kept.{valueOn}
+use Rattle.search_halves.proofs.Covers.{branch-keeps}
+use Rattle.search_kept.specs.Differences.{KeptBy, Starts}
 use Rattle.half_arrays.specs.Arrays.{boundAt, netsFrom, KeepsTo}
 use Rattle.half_arrays.specs.State.{limited}
 use Rattle.half_values.proofs.Valuing.{limited-same}
-use Rattle.half_tables.specs.Tables.{padded, Arced}
-use Rattle.half_tables.specs.Made.{Hold}
-use Rattle.half_tables.proofs.HalfHere.{chip-small}
-use Rattle.half_tables.proofs.Padding.{padded-value, take-nets}
+use Rattle.search_tables.specs.Tables.{padded, Arced}
+use Rattle.search_tables.specs.Made.{Hold}
+use Rattle.search_tables.proofs.HalfHere.{chip-small}
+use Rattle.search_tables.proofs.Padding.{padded-value, take-nets}
 use Rattle.half_fit.specs.Answer.{Answers}
 use Rattle.half_fit.specs.declared.service.HalfFit.{HalfFit}
-use Rattle.best.specs.Best.{bestOf}
+use Rattle.search_best.specs.Best.{bestOf}
 use Rattle.search_node.specs.Letters.{lettersIn, Lettered, dots}
 use Rattle.search_node.specs.Node.{FitHeld}
 use Rattle.search_join.specs.Joined.{HalfSaid}

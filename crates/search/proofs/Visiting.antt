@@ -10,20 +10,20 @@ use Rattle.model.specs.declared.Chip.{Chip as HeldChip}
 use Rattle.model.specs.declared.Spot.{Spot}
 use Rattle.model.specs.declared.Record.{Record as HeldRecord}
 use Rattle.model.specs.Meaning.{Chip, chipOf}
-use Rattle.chip.specs.Passed.{Passed}
+use Rattle.chip_text.specs.Passed.{Passed}
 use Rattle.placement.specs.Letters.{Letter, left, right, low, high, dot}
 use Rattle.placement.specs.Least.{nothing}
 use Rattle.placement.proofs.Cover.{Says}
-use Rattle.bounds.specs.declared.Slot.{Slot}
-use Rattle.branches.specs.Branch.{inBranch, undecided}
-use Rattle.branches.proofs.Betters.{Sized}
-use Rattle.branches.proofs.Undecided.{undecided-less}
-use Rattle.halves.specs.Kept.{keepsOne, oppositeAt}
-use Rattle.halves.specs.Result.{placed, NotAfter}
-use Rattle.halves.proofs.NotAfter.{after-same, after-trans}
-use Rattle.halves.proofs.Opposite.{not-all-opposite}
-use Rattle.halves.proofs.Covers.{branch-legal, branch-keeps, covers-on}
-use Rattle.best.specs.Best.{bestOf, Counted}
+use Rattle.axis_bounds.specs.declared.Slot.{Slot}
+use Rattle.search_branches.specs.Branch.{inBranch, undecided}
+use Rattle.search_branches.proofs.Betters.{Sized}
+use Rattle.search_branches.proofs.Undecided.{undecided-less}
+use Rattle.search_halves.specs.Kept.{keepsOne, oppositeAt}
+use Rattle.search_halves.specs.Result.{placed, NotAfter}
+use Rattle.search_halves.proofs.NotAfter.{after-same, after-trans}
+use Rattle.search_halves.proofs.Opposite.{not-all-opposite}
+use Rattle.search_halves.proofs.Covers.{branch-legal, branch-keeps, covers-on}
+use Rattle.search_best.specs.Best.{bestOf, Counted}
 use Rattle.search_node.specs.Node.{NodeOk, Open, Given, Turn}
 use Rattle.search_node.specs.Letters.{lettersIn, letterAt, Asks, slotAsked}
 use Rattle.search_left.specs.Left.{KeepsBoth, childList, childAt, NextOrOver, Visited}
@@ -36,7 +36,7 @@ use Rattle.search_left.proofs.FourChildren.{heldIn, held-fewer}
 use Rattle.search_node.proofs.Lettering.{no-dot}
 use Rattle.search_letters.proofs.Turning.{sized, long, with-is, left-gone, asked}
 use Rattle.search.proofs.Nodes.{next-ok}
-use Rattle.pairs.specs.declared.Cursor.{Cursor}
+use Rattle.fit_pairs.specs.declared.Cursor.{Cursor}
 use Rattle.search_node.specs.declared.Parts.{Parts}
 
 module _ (c : HeldChip) (p : ℕ) (node : Node) (s : ℕ) where

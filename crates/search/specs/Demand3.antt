@@ -7,9 +7,9 @@ use mathlib.Core.Logic.{_⊎_}
 use lib.ListN.{length, drop}
 use Rattle.model.specs.declared.Spot.{Spot}
 use Rattle.model.specs.Meaning.{Chip, Record, none, least}
-use Rattle.grammar.specs.Reading.{accepted}
-use Rattle.chip.specs.Text.{readChip}
-use Rattle.record.specs.Text.{recordText}
+use Rattle.text_grammar.specs.Reading.{accepted}
+use Rattle.chip_text.specs.Text.{readChip}
+use Rattle.record_text.specs.Text.{recordText}
 use Rattle.placement.specs.Legal.{legal}
 use Rattle.placement.specs.Length.{wirelength}
 use Rattle.placement.specs.Order.{before}

@@ -2,10 +2,10 @@
 use mathlib.Core.List.{List}
 use Prim.Native.Nat.{ℕ}
 use Rattle.model.specs.Meaning.{Chip}
-use Rattle.grammar.specs.Reading.{Reading, accepted, refused}
-use Rattle.grammar.specs.Writing.{Written, refuse, writeText}
-use Rattle.chip.specs.Text.{readChip, chipText}
-use Rattle.record.specs.Text.{recordText}
+use Rattle.text_grammar.specs.Reading.{Reading, accepted, refused}
+use Rattle.text_grammar.specs.Writing.{Written, refuse, writeText}
+use Rattle.chip_text.specs.Text.{readChip, chipText}
+use Rattle.record_text.specs.Text.{recordText}
 use Rattle.placement.specs.Least.{chipRecord}
 
 -- the record of a chip that is held as a value

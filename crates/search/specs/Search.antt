@@ -9,12 +9,12 @@ use Rattle.model.specs.declared.Spot.{Spot}
 use Rattle.model.specs.declared.Record.{Record as HeldRecord}
 use Rattle.model.specs.Meaning.{chipOf, blankSpot}
 use Rattle.placement.specs.Legal.{legal}
-use Rattle.bounds.specs.declared.Slot.{Slot}
-use Rattle.slots.specs.declared.Direction.the-variants.{Vertical as vertical}
-use Rattle.halves.specs.Result.{NotAfter, Real}
-use Rattle.kept.specs.Differences.{Adds, limited}
-use Rattle.half_tables.specs.Tables.{withBound}
-use Rattle.best.specs.Best.{bestOf, Counted}
+use Rattle.axis_bounds.specs.declared.Slot.{Slot}
+use Rattle.fit_slots.specs.declared.Direction.the-variants.{Vertical as vertical}
+use Rattle.search_halves.specs.Result.{NotAfter, Real}
+use Rattle.search_kept.specs.Differences.{Adds, limited}
+use Rattle.search_tables.specs.Tables.{withBound}
+use Rattle.search_best.specs.Best.{bestOf, Counted}
 use Rattle.search_node.specs.Letters.{byteOf, dots, wayAt}
 use Rattle.search_node.specs.Node.{lengthOf, NodeOk}
 use Rattle.search_node.specs.declared.Node.{Node}

@@ -1,9 +1,9 @@
 // The search: each call decides one further pair.
-use bounds::Slot;
+use axis_bounds::Slot;
 use half_fit::HELP;
 use half_fit::POOL;
 use half_fit::TAB;
-use half_tables::with_bound;
+use search_tables::with_bound;
 use model::Record;
 use search_close::next_step;
 use search_left::Left;
@@ -35,7 +35,7 @@ fn next_x(node: Node, left: Left, f: Record, s: usize, i: usize, t: Slot) -> Nod
         letters: decided(letters, s, i),
         ax: with_bound(ax, t),
         ay,
-        kx: kept::keep(kx, t),
+        kx: search_kept::keep(kx, t),
         ky,
         lx: less(length_of(f), node.ly),
         ly: node.ly,
@@ -56,7 +56,7 @@ fn next_y(node: Node, left: Left, f: Record, s: usize, i: usize, t: Slot) -> Nod
         ax,
         ay: with_bound(ay, t),
         kx,
-        ky: kept::keep(ky, t),
+        ky: search_kept::keep(ky, t),
         lx: node.lx,
         ly: less(length_of(f), node.lx),
         here: f,

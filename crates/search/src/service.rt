@@ -4,22 +4,22 @@ use crate::root::first_fit;
 use crate::root::root;
 use crate::weights::all_weights;
 use chip_put::array_of;
-use chipreader::ChipAnswer;
+use chip_read::ChipAnswer;
 use half_fit::HELP;
 use half_fit::POOL;
 use half_fit::service::first_half;
-use half_tables::arrays_of;
+use search_tables::arrays_of;
 use model::Chip;
 use model::Record;
 use model::Tested;
 use model::WriteAnswer;
 use search_node::Parts;
 use search_node::no_record;
-use slots::Direction;
+use fit_slots::Direction;
 ghost use mathlib.Core.Path.{_≡_};
 ghost use Rattle.model.specs.Meaning.{chipOf, recordOf};
-ghost use Rattle.grammar.specs.Writing.{answerOf};
-ghost use Rattle.chip.specs.Passed.{Passed};
+ghost use Rattle.text_grammar.specs.Writing.{answerOf};
+ghost use Rattle.chip_text.specs.Passed.{Passed};
 ghost use Rattle.placement.specs.Least.{chipRecord};
 ghost use Rattle.search_node.specs.Node.{PartsOf};
 ghost use Rattle.search.specs.Place.{searchChip, placeText};
@@ -45,7 +45,7 @@ fn chip_record(c: Chip) -> Record
     requires { ⌜ Passed c ⌝ }
     ensures { λ r. ⌜ recordOf r ≡ chipRecord (chipOf c) ⌝ }
 {
-    let p = pairs::letter_count(c.n, c.k);
+    let p = fit_pairs::letter_count(c.n, c.k);
     let parts = parts_of(c);
     let cs = array_of(c);
     let x = arrays_of(c, Direction::Horizontal);
@@ -84,7 +84,7 @@ pub fn search_chip(c: Chip, out: &mut [u8]) -> WriteAnswer
     let tested = chip_test::test_chip(c);
     match tested {
         Tested::Refused(f) => WriteAnswer::Refused(f),
-        Tested::Passed => recordwriter::write_record(chip_record(c), out),
+        Tested::Passed => record_write::write_record(chip_record(c), out),
     }
 }
 
@@ -92,11 +92,11 @@ pub fn search_chip(c: Chip, out: &mut [u8]) -> WriteAnswer
 pub fn place_text(text: &[u8], out: &mut [u8]) -> WriteAnswer
     ensures { λ r. ⌜ record { answer = answerOf r; buffer = now (out .exit) } ≡ placeText (now (text .entry)) (now (out .entry)) ⌝ }
 {
-    let read = chipreader::read_chip(text);
+    let read = chip_read::read_chip(text);
     let answer = read.answer;
     let c = read.chip;
     match answer {
         ChipAnswer::Refused(f) => WriteAnswer::Refused(f),
-        ChipAnswer::Accepted => recordwriter::write_record(chip_record(c), out),
+        ChipAnswer::Accepted => record_write::write_record(chip_record(c), out),
     }
 }

@@ -18,14 +18,14 @@ use Rattle.model.specs.Meaning.{Chip, chipOf, firstOf, blankFix, blankMac, blan
 use Rattle.model.proofs.FirstOf.{first-take}
 use Rattle.placement.specs.Legal.{apart}
 use Rattle.placement.specs.Letters.{Pair, pairs}
-use Rattle.slots.specs.Slots.{macFix, couplesOf}
-use Rattle.slots.proofs.Pairs.{pairOf, pairs-couples}
-use Rattle.slots.proofs.Counting.{letters-count}
-use Rattle.pairs.specs.declared.Cursor.{Cursor}
-use Rattle.pairs.specs.Order.{pairAt, coupleAt, OnPair, First, nextOf}
-use Rattle.pairs.specs.Count.{letterTotal}
-use Rattle.pairs.proofs.Counts.{all-letters}
-use Rattle.pairs.proofs.Places.{AtPlace, place-first, place-on, place-next, place-couple, couple-taken}
+use Rattle.fit_slots.specs.Slots.{macFix, couplesOf}
+use Rattle.fit_slots.proofs.Pairs.{pairOf, pairs-couples}
+use Rattle.fit_slots.proofs.Counting.{letters-count}
+use Rattle.fit_pairs.specs.declared.Cursor.{Cursor}
+use Rattle.fit_pairs.specs.Order.{pairAt, coupleAt, OnPair, First, nextOf}
+use Rattle.fit_pairs.specs.Count.{letterTotal}
+use Rattle.fit_pairs.proofs.Counts.{all-letters}
+use Rattle.fit_pairs.proofs.Places.{AtPlace, place-first, place-on, place-next, place-couple, couple-taken}
 use Rattle.search_choose.specs.Choice.{noPair, apartAt, Chosen, PlaceOf, partsOf, Laid, LaidBy, ChosenOf}
 use Rattle.search_boxes.specs.Boxes.{macBox, secondOf}
 

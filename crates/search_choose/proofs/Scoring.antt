@@ -14,7 +14,7 @@ use Rattle.model.specs.declared.Mac.{Mac}
 use Rattle.model.specs.declared.Spot.{Spot}
 use Rattle.geometry.specs.declared.Box.{Box}
 use Rattle.geometry.specs.Box.{apart}
-use Rattle.pairs.specs.declared.Cursor.{Cursor}
+use Rattle.fit_pairs.specs.declared.Cursor.{Cursor}
 use Rattle.search_boxes.specs.Boxes.{macBox, secondOf}
 
 -- ---- the score of a pair

@@ -11,10 +11,10 @@ use Rattle.model.specs.Meaning.{Chip, firstOf, blankFix, blankMac}
 use Rattle.geometry.specs.Box.{blankBox}
 use Rattle.placement.specs.Legal.{apart}
 use Rattle.placement.specs.Letters.{Pair, pairs}
-use Rattle.slots.specs.Slots.{Couple, couplesOf}
-use Rattle.pairs.specs.declared.Cursor.{Cursor}
-use Rattle.pairs.specs.Order.{coupleAt, OnPair}
-use Rattle.pairs.specs.Count.{letterTotal}
+use Rattle.fit_slots.specs.Slots.{Couple, couplesOf}
+use Rattle.fit_pairs.specs.declared.Cursor.{Cursor}
+use Rattle.fit_pairs.specs.Order.{coupleAt, OnPair}
+use Rattle.fit_pairs.specs.Count.{letterTotal}
 
 abbrev pub noPair : Pair
 noPair = record { first = blankBox; second = blankBox }

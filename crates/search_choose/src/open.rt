@@ -1,12 +1,12 @@
 // The letters of a pair that the differences leave open. They guide the choice of the pair and nothing else, so nothing is promised of them.
-use bounds::Slot;
-use kept::CELLS;
+use axis_bounds::Slot;
+use search_kept::CELLS;
 use model::Fix;
 use model::Mac;
-use pairs::Cursor;
-use pairslots::slot_at;
-use slots::Asked;
-use slots::Direction;
+use fit_pairs::Cursor;
+use fit_pair_slots::slot_at;
+use fit_slots::Asked;
+use fit_slots::Direction;
 ghost use Prim.Native.Nat.{_≤_};
 
 pub(crate) struct Open {
@@ -18,7 +18,7 @@ pub(crate) struct Open {
 
 // Whether the differences leave the letter of a slot open.
 fn is_open(k: &[u32; CELLS], s: Slot) -> bool {
-    !kept::excludes(k, s)
+    !search_kept::excludes(k, s)
 }
 
 pub(crate) fn open_letters(

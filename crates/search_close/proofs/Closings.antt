@@ -13,17 +13,17 @@ use Rattle.model.specs.declared.Outcome.the-variants as outcome
 use Rattle.model.specs.declared.Spot.{Spot}
 use Rattle.model.specs.Meaning.{Chip, chipOf, firstOf, blankSpot, outcomeOf, recordOf}
 use Rattle.model.proofs.FirstOf.{first-take}
-use Rattle.chip.specs.Passed.{Passed}
+use Rattle.chip_text.specs.Passed.{Passed}
 use Rattle.placement.specs.Letters.{Letter, dot, keepsLetters}
 use Rattle.placement.specs.Least.{Best, found, fitOf}
 use Rattle.placement.proofs.Demand.{fit-found}
-use Rattle.branches.specs.Branch.{pick, better}
-use Rattle.branches.proofs.Betters.{Sized, better-sized}
-use Rattle.branches.proofs.Closing.{fit-sized}
-use Rattle.halves.specs.Result.{placed, NotAfter, Real}
-use Rattle.halves.proofs.NotAfter.{after-same, better-first, better-second}
-use Rattle.halves.proofs.Covers.{covers-on, fit-covers, closed-covers, better-real}
-use Rattle.best.specs.Best.{resultOf, bestOf, CountIs, Counted, Told, Better}
+use Rattle.search_branches.specs.Branch.{pick, better}
+use Rattle.search_branches.proofs.Betters.{Sized, better-sized}
+use Rattle.search_branches.proofs.Closing.{fit-sized}
+use Rattle.search_halves.specs.Result.{placed, NotAfter, Real}
+use Rattle.search_halves.proofs.NotAfter.{after-same, better-first, better-second}
+use Rattle.search_halves.proofs.Covers.{covers-on, fit-covers, closed-covers, better-real}
+use Rattle.search_best.specs.Best.{resultOf, bestOf, CountIs, Counted, Told, Better}
 use Rattle.search_choose.specs.Choice.{Chosen}
 use Rattle.search_node.specs.Letters.{lettersIn, Lettered}
 use Rattle.search_node.specs.Node.{FitHeld, NodeOk, Open}

@@ -9,7 +9,7 @@ use Rattle.model.specs.declared.Spot.{Spot}
 use Rattle.model.specs.Meaning.{Chip}
 use Rattle.placement.specs.Legal.{legal}
 use Rattle.placement.specs.Letters.{Letter, dot, keepsLetters}
-use Rattle.branches.proofs.Overlaps.{legal-by-pairs, overlap-undecided}
+use Rattle.search_branches.proofs.Overlaps.{legal-by-pairs, overlap-undecided}
 use Rattle.search_choose.specs.Choice.{noPair, Chosen}
 
 module _ (c : Chip) (ls : List Letter) (ps : List Spot) (p r : ℕ) (k : keepsLetters c ls ps ≡ true) (e : p ≡ length ls) (h : Chosen c ps p r) where

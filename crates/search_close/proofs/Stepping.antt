@@ -4,17 +4,17 @@ use mathlib.Core.Path.{_≡_, sym, _∙_}
 use lib.ListN.{take}
 use Rattle.model.specs.declared.Chip.{Chip as HeldChip}
 use Rattle.model.specs.Meaning.{chipOf}
-use Rattle.chip.specs.Passed.{Passed}
-use Rattle.pairs.specs.declared.Cursor.{Cursor}
-use Rattle.pairs.proofs.Cursors.{on-near}
-use Rattle.pairs.proofs.Counts.{all-letters}
-use Rattle.slots.specs.Fit.{letterCount}
+use Rattle.chip_text.specs.Passed.{Passed}
+use Rattle.fit_pairs.specs.declared.Cursor.{Cursor}
+use Rattle.fit_pairs.proofs.Cursors.{on-near}
+use Rattle.fit_pairs.proofs.Counts.{all-letters}
+use Rattle.fit_slots.specs.Fit.{letterCount}
 use Rattle.model.specs.declared.Spot.{Spot}
 use Rattle.model.specs.declared.Record.{Record as HeldRecord}
 use mathlib.Core.List.{List}
 use mathlib.Core.Bool.{Bool, true, false, not, true≢false, false≢true}
-use Rattle.branches.specs.Branch.{pick, better}
-use Rattle.best.specs.Best.{bestOf, Told, Better}
+use Rattle.search_branches.specs.Branch.{pick, better}
+use Rattle.search_best.specs.Best.{bestOf, Told, Better}
 use Rattle.search_close.specs.Step.{closedBy, StepOk}
 use Rattle.search_close.specs.declared.Step.{Step}
 use Rattle.search_close.proofs.Closings.{fit-closes, legal-found, chosen-open}
@@ -22,7 +22,7 @@ use Rattle.search_choose.proofs.Choosing.{chip-chosen}
 use Rattle.search_node.specs.declared.Node.{Node}
 use Rattle.search_node.specs.declared.Parts.{Parts}
 use Rattle.search_node.specs.Node.{PartsOf, Given}
-use Rattle.halves.specs.Kept.{noCouple}
+use Rattle.search_halves.specs.Kept.{noCouple}
 use Rattle.search_choose.specs.Choice.{PlaceOf, Chosen, ChosenOf, Laid}
 use Rattle.search_node.specs.Letters.{Placed}
 

@@ -7,9 +7,9 @@ use Rattle.model.specs.declared.Chip.{Chip as HeldChip}
 use Rattle.model.specs.declared.Spot.{Spot}
 use Rattle.model.specs.declared.Record.{Record as HeldRecord}
 use Rattle.model.specs.Meaning.{chipOf}
-use Rattle.branches.specs.Branch.{inBranch}
-use Rattle.halves.specs.Result.{placed, NotAfter, Real}
-use Rattle.best.specs.Best.{bestOf, Counted}
+use Rattle.search_branches.specs.Branch.{inBranch}
+use Rattle.search_halves.specs.Result.{placed, NotAfter, Real}
+use Rattle.search_best.specs.Best.{bestOf, Counted}
 use Rattle.search_node.specs.Letters.{lettersIn}
 use Rattle.search_node.specs.Node.{Given, Turn}
 use Rattle.search_node.specs.declared.Node.{Node}

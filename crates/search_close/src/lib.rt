@@ -1,9 +1,9 @@
 // A branch is closed, or the pair of it that is decided next is chosen.
-use best::replaced;
-use best::replaces_best;
+use search_best::replaced;
+use search_best::replaces_best;
 use model::Outcome;
 use model::Record;
-use pairs::Cursor;
+use fit_pairs::Cursor;
 use search_choose::Choice;
 use search_choose::choose;
 use search_node::Node;

@@ -8,12 +8,12 @@ use lib.ListN.{length, getD, take, set, length-set, length-map, List·getD-map}
 use lib.Seq.{ext-getD, getD-set-same, getD-set-other}
 use Rattle.model.specs.declared.Spot.{Spot}
 use Rattle.model.specs.Meaning.{blankSpot}
-use Rattle.slots.specs.declared.Direction.{Direction}
-use Rattle.slots.specs.declared.Direction.the-variants.{Horizontal as horizontal, Vertical as vertical}
-use Rattle.slots.specs.Axes.{cornerOn, cornersOn}
+use Rattle.fit_slots.specs.declared.Direction.{Direction}
+use Rattle.fit_slots.specs.declared.Direction.the-variants.{Horizontal as horizontal, Vertical as vertical}
+use Rattle.fit_slots.specs.Axes.{cornerOn, cornersOn}
 use Rattle.fit_axes.proofs.Copies.{map-take, Copied, copied-more}
-use Rattle.halves.specs.Half.{spotsOf}
-use Rattle.halves.proofs.Halving.{spots-x}
+use Rattle.search_halves.specs.Half.{spotsOf}
+use Rattle.search_halves.proofs.Halving.{spots-x}
 use Rattle.search_join.specs.Joined.{spotWith, spotsWith}
 
 -- ---- the coordinates of corners

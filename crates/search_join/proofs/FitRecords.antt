@@ -13,19 +13,19 @@ use Rattle.model.specs.declared.Refusal.{Refusal}
 use Rattle.model.specs.declared.Spot.{Spot}
 use Rattle.model.specs.Meaning.{Chip, chipOf, firstOf, blankSpot, recordOf}
 use Rattle.model.proofs.FirstOf.{first-take}
-use Rattle.chip.specs.Passed.{Passed}
+use Rattle.chip_text.specs.Passed.{Passed}
 use Rattle.placement.specs.Letters.{Letter}
 use Rattle.placement.specs.Least.{Best, nothing, found, fitOf}
 use Rattle.refusals.specs.Tests.{firstFailed}
-use Rattle.slots.specs.Fit.{Fit, refusedBy, noFit, placed, letterCount, slotCount, bestFit, fitLetters}
-use Rattle.branches.proofs.Betters.{Sized}
-use Rattle.branches.proofs.Closing.{fit-sized}
+use Rattle.fit_slots.specs.Fit.{Fit, refusedBy, noFit, placed, letterCount, slotCount, bestFit, fitLetters}
+use Rattle.search_branches.proofs.Betters.{Sized}
+use Rattle.search_branches.proofs.Closing.{fit-sized}
 use Rattle.fit.specs.declared.Fitted.{Fitted}
 use Rattle.fit.specs.declared.FitOutcome.the-variants as fitted
 use Rattle.fit.specs.declared.FitAnswer.{FitAnswer}
 use Rattle.fit.specs.Answer.{outcomeOf, positionsOf, padded, answerFor}
 use Rattle.fit.proofs.Outcomes.{padded-long, take-padded, is-placed, is-none, is-refused}
-use Rattle.best.specs.Best.{bestOf}
+use Rattle.search_best.specs.Best.{bestOf}
 use Rattle.search_node.specs.Letters.{lettersIn, Lettered}
 use Rattle.search_node.specs.Node.{noRecord, FitHeld}
 use Rattle.search_join.specs.Joined.{FitFor}

@@ -12,28 +12,28 @@ use Rattle.model.specs.declared.Outcome.the-variants as outcome
 use Rattle.model.specs.declared.Spot.{Spot}
 use Rattle.model.specs.Meaning.{Chip, chipOf, firstOf, blankSpot, outcomeOf, recordOf}
 use Rattle.model.proofs.FirstOf.{first-take}
-use Rattle.chip.specs.Passed.{Passed}
+use Rattle.chip_text.specs.Passed.{Passed}
 use Rattle.placement.specs.Length.{wirelength}
 use Rattle.placement.specs.Letters.{Letter, keepsLetters}
 use Rattle.placement.specs.Least.{Best, nothing, found, fitOf}
 use Rattle.placement.proofs.Demand.{fit-found, nothing-fits}
 use Rattle.placement.proofs.LengthBound.{wirelength-bound}
-use Rattle.bounds.specs.Half.{HalfOn, AboveOn}
-use Rattle.slots.specs.declared.Direction.{Direction}
-use Rattle.slots.specs.declared.Direction.the-variants.{Horizontal as horizontal, Vertical as vertical}
-use Rattle.slots.specs.Slots.{couples}
-use Rattle.slots.specs.Axes.{axisFor, cornersOn}
-use Rattle.slots.proofs.Counting.{letters-count}
-use Rattle.branches.specs.Branch.{inBranch}
-use Rattle.branches.proofs.Closing.{letters-inside}
-use Rattle.halves.specs.Half.{half, otherWay}
-use Rattle.halves.specs.Result.{placed, NotAfter}
-use Rattle.halves.proofs.Covers.{branch-keeps, beyond-long, beyond-covers}
-use Rattle.halves.proofs.Halving.{halves}
+use Rattle.axis_bounds.specs.Half.{HalfOn, AboveOn}
+use Rattle.fit_slots.specs.declared.Direction.{Direction}
+use Rattle.fit_slots.specs.declared.Direction.the-variants.{Horizontal as horizontal, Vertical as vertical}
+use Rattle.fit_slots.specs.Slots.{couples}
+use Rattle.fit_slots.specs.Axes.{axisFor, cornersOn}
+use Rattle.fit_slots.proofs.Counting.{letters-count}
+use Rattle.search_branches.specs.Branch.{inBranch}
+use Rattle.search_branches.proofs.Closing.{letters-inside}
+use Rattle.search_halves.specs.Half.{half, otherWay}
+use Rattle.search_halves.specs.Result.{placed, NotAfter}
+use Rattle.search_halves.proofs.Covers.{branch-keeps, beyond-long, beyond-covers}
+use Rattle.search_halves.proofs.Halving.{halves}
 use Rattle.half_fit.specs.declared.service.HalfFit.{HalfFit}
 use Rattle.half_fit.specs.declared.service.HalfOutcome.{HalfOutcome}
 use Rattle.half_fit.specs.declared.service.HalfOutcome.the-variants as answer
-use Rattle.best.specs.Best.{resultOf, bestOf, CountIs, Counted}
+use Rattle.search_best.specs.Best.{resultOf, bestOf, CountIs, Counted}
 use Rattle.search_node.specs.Node.{noRecord, FitHeld, roomOf}
 use Rattle.search_node.specs.Letters.{lettersIn, Lettered}
 use Rattle.search_join.specs.Joined.{HalfSaid, spotsWith, ChildHeld, Beside, FitFor, JoinedFrom}

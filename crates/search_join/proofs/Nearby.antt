@@ -11,8 +11,8 @@ use borrow.Author.Tests.{leb-true, eqb-true}
 use Rattle.model.specs.declared.Mac.{Mac}
 use Rattle.model.specs.declared.Spot.{Spot}
 use Rattle.model.specs.Meaning.{Chip, blankSpot}
-use Rattle.grammar.proofs.Lacks.{and-left, and-right}
-use Rattle.chip.specs.Valid.{Valid}
+use Rattle.text_grammar.proofs.Lacks.{and-left, and-right}
+use Rattle.chip_text.specs.Valid.{Valid}
 use Rattle.geometry.specs.Box.{boxAt}
 use Rattle.placement.specs.Legal.{boxes, inDie, allInDie, placesAll, within}
 use Rattle.placement.specs.Length.{Near}

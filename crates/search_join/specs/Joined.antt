@@ -9,21 +9,21 @@ use Rattle.model.specs.declared.Chip.{Chip as HeldChip}
 use Rattle.model.specs.declared.Spot.{Spot}
 use Rattle.model.specs.declared.Record.{Record as HeldRecord}
 use Rattle.model.specs.Meaning.{Chip, chipOf}
-use Rattle.chip.specs.Passed.{Passed}
+use Rattle.chip_text.specs.Passed.{Passed}
 use Rattle.placement.specs.Letters.{Letter}
 use Rattle.placement.specs.Least.{nothing, fitOf}
 use Rattle.placement.specs.Least as least
-use Rattle.bounds.specs.Half.{HalfOn, AboveOn}
-use Rattle.slots.specs.declared.Direction.{Direction}
-use Rattle.slots.specs.declared.Direction.the-variants.{Horizontal as horizontal, Vertical as vertical}
-use Rattle.slots.specs.Axes.{axisFor, cornersOn}
-use Rattle.branches.specs.Branch.{inBranch}
-use Rattle.halves.specs.Half.{spotsOf, otherWay}
-use Rattle.halves.specs.Result.{placed, NotAfter}
+use Rattle.axis_bounds.specs.Half.{HalfOn, AboveOn}
+use Rattle.fit_slots.specs.declared.Direction.{Direction}
+use Rattle.fit_slots.specs.declared.Direction.the-variants.{Horizontal as horizontal, Vertical as vertical}
+use Rattle.fit_slots.specs.Axes.{axisFor, cornersOn}
+use Rattle.search_branches.specs.Branch.{inBranch}
+use Rattle.search_halves.specs.Half.{spotsOf, otherWay}
+use Rattle.search_halves.specs.Result.{placed, NotAfter}
 use Rattle.half_fit.specs.declared.service.HalfFit.{HalfFit}
 use Rattle.half_fit.specs.declared.service.HalfOutcome.{HalfOutcome}
 use Rattle.half_fit.specs.declared.service.HalfOutcome.the-variants as half
-use Rattle.best.specs.Best.{bestOf, Counted}
+use Rattle.search_best.specs.Best.{bestOf, Counted}
 use Rattle.search_node.specs.Letters.{lettersIn, Lettered}
 use Rattle.search_node.specs.Node.{FitHeld, roomOf}
 

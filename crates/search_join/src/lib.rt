@@ -11,7 +11,7 @@ use model::Record;
 use model::Spot;
 use search_node::LETTERS;
 use search_node::no_record;
-use slots::Direction;
+use fit_slots::Direction;
 ghost use mathlib.Core.Path.{_≡_};
 ghost use Prim.Native.Nat.{_+_, min};
 ghost use Rattle.chip_array.specs.Array.{chipIn};

@@ -7,12 +7,12 @@ use mathlib.Core.Logic.{inl, inr}
 use native.Mathlib.Omega.{arith}
 use lib.ListN.{set}
 use Rattle.model.specs.declared.Record.{Record as HeldRecord}
-use Rattle.bounds.specs.declared.Slot.{Slot}
-use Rattle.slots.specs.declared.Direction.{Direction}
-use Rattle.slots.specs.declared.Direction.the-variants.{Horizontal as horizontal, Vertical as vertical}
-use Rattle.halves.specs.Kept.{valueOn}
-use Rattle.kept.specs.Differences.{Adds, Holds, limited, contrary, excluded, contradicts}
-use Rattle.kept.proofs.Adding.{excluded-none, contradicts-none, limited-small}
+use Rattle.axis_bounds.specs.declared.Slot.{Slot}
+use Rattle.fit_slots.specs.declared.Direction.{Direction}
+use Rattle.fit_slots.specs.declared.Direction.the-variants.{Horizontal as horizontal, Vertical as vertical}
+use Rattle.search_halves.specs.Kept.{valueOn}
+use Rattle.search_kept.specs.Differences.{Adds, Holds, limited, contrary, excluded, contradicts}
+use Rattle.search_kept.proofs.Adding.{excluded-none, contradicts-none, limited-small}
 use Rattle.search_node.specs.Letters.{wayAt}
 use Rattle.search_left.specs.Left.{AddsOn, childList, NextChild, Over, ExcludedBy, OppositeKept, SameKept, NextOrOver, Visited}
 use Rattle.search_node.specs.Node.{noRecord}

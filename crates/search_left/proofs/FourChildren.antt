@@ -9,10 +9,10 @@ use lib.ListN.{set}
 use lib.Seq.{set-out}
 use Rattle.model.specs.declared.Record.{Record as HeldRecord}
 use Rattle.placement.specs.Least.{Best, nothing, found}
-use Rattle.branches.specs.Branch.{pick, better}
-use Rattle.branches.proofs.Betters.{nothing-better}
+use Rattle.search_branches.specs.Branch.{pick, better}
+use Rattle.search_branches.proofs.Betters.{nothing-better}
 use Rattle.search_left.specs.declared.Left.{Left}
-use Rattle.best.specs.Best.{bestOf, Told}
+use Rattle.search_best.specs.Best.{bestOf, Told}
 use Rattle.search_node.specs.Node.{noRecord}
 use Rattle.search_left.specs.Left.{childList, childAt, NextChild, SameKept}
 use Rattle.search_node.proofs.Records.{no-best, nothing-none}

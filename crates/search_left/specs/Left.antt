@@ -8,12 +8,12 @@ use lib.ListN.{getD, set}
 use Rattle.model.specs.declared.Spot.{Spot}
 use Rattle.model.specs.declared.Record.{Record as HeldRecord}
 use Rattle.placement.specs.Least.{nothing}
-use Rattle.bounds.specs.declared.Slot.{Slot}
-use Rattle.slots.specs.declared.Direction.{Direction}
-use Rattle.slots.specs.declared.Direction.the-variants.{Horizontal as horizontal, Vertical as vertical}
-use Rattle.halves.specs.Kept.{valueOn}
-use Rattle.kept.specs.Differences.{KeptBy, Holds, limited, contrary}
-use Rattle.best.specs.Best.{bestOf}
+use Rattle.axis_bounds.specs.declared.Slot.{Slot}
+use Rattle.fit_slots.specs.declared.Direction.{Direction}
+use Rattle.fit_slots.specs.declared.Direction.the-variants.{Horizontal as horizontal, Vertical as vertical}
+use Rattle.search_halves.specs.Kept.{valueOn}
+use Rattle.search_kept.specs.Differences.{KeptBy, Holds, limited, contrary}
+use Rattle.search_best.specs.Best.{bestOf}
 use Rattle.search_node.specs.Letters.{wayAt}
 use Rattle.search_node.specs.Node.{noRecord}
 use Rattle.search_left.specs.declared.Left.{Left}

@@ -1,7 +1,7 @@
 // What is left of a branch once some letters of a pair are closed: the fits of the others, and the differences kept.
-use best::replaces_best;
-use bounds::Slot;
-use kept::CELLS;
+use search_best::replaces_best;
+use axis_bounds::Slot;
+use search_kept::CELLS;
 use model::Record;
 use search_node::no_record;
 ghost use mathlib.Core.Path.{_≡_};
@@ -86,11 +86,11 @@ fn is_over(left: Left) -> bool
     ensures { λ r. ⌜ Over r (left .kx) (left .ky) ⌝ }
 {
     let kx = left.kx;
-    if kept::is_shut(&kx) {
+    if search_kept::is_shut(&kx) {
         return true;
     }
     let ky = left.ky;
-    kept::is_shut(&ky)
+    search_kept::is_shut(&ky)
 }
 
 // The child to visit next, or 4 where nothing is left.
@@ -112,10 +112,10 @@ pub fn is_excluded(left: Left, i: usize, s: Slot) -> bool
     }
     if i < 2 {
         let kx = left.kx;
-        return kept::excludes(&kx, s);
+        return search_kept::excludes(&kx, s);
     }
     let ky = left.ky;
-    kept::excludes(&ky, s)
+    search_kept::excludes(&ky, s)
 }
 
 // The opposite of letter i is kept.
@@ -125,12 +125,12 @@ pub fn keep_opposite(left: Left, i: usize, s: Slot) -> Left
     let mut t = left;
     if i < 2 {
         let kx = left.kx;
-        let k = kept::keep_opposite(kx, s);
+        let k = search_kept::keep_opposite(kx, s);
         t.kx = k;
         return t;
     }
     let ky = left.ky;
-    let k = kept::keep_opposite(ky, s);
+    let k = search_kept::keep_opposite(ky, s);
     t.ky = k;
     t
 }

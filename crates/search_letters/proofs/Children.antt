@@ -9,29 +9,29 @@ use Rattle.model.specs.declared.Chip.{Chip as HeldChip}
 use Rattle.model.specs.declared.Record.{Record as HeldRecord}
 use Rattle.model.specs.declared.Spot.{Spot}
 use Rattle.model.specs.Meaning.{Chip, chipOf}
-use Rattle.chip.specs.Passed.{Passed}
-use Rattle.chip.specs.Valid.{Valid}
+use Rattle.chip_text.specs.Passed.{Passed}
+use Rattle.chip_text.specs.Valid.{Valid}
 use Rattle.placement.specs.Letters.{Letter, dot}
 use Rattle.placement.specs.Least.{Best, nothing, found}
-use Rattle.bounds.specs.declared.Slot.{Slot}
-use Rattle.bounds.specs.Axis.{Axis, lengthOn}
-use Rattle.bounds.specs.Half.{HalfOn}
-use Rattle.slots.specs.declared.Direction.{Direction}
-use Rattle.slots.specs.declared.Direction.the-variants.{Horizontal as horizontal, Vertical as vertical}
-use Rattle.slots.specs.Slots.{asked, couples}
-use Rattle.slots.specs.Axes.{axisFor, cornersOn}
-use Rattle.slots.proofs.Counting.{letters-count}
-use Rattle.halves.specs.Half.{otherWay}
-use Rattle.halves.proofs.Halving.{fit-half, other-axis}
+use Rattle.axis_bounds.specs.declared.Slot.{Slot}
+use Rattle.axis_bounds.specs.Axis.{Axis, lengthOn}
+use Rattle.axis_bounds.specs.Half.{HalfOn}
+use Rattle.fit_slots.specs.declared.Direction.{Direction}
+use Rattle.fit_slots.specs.declared.Direction.the-variants.{Horizontal as horizontal, Vertical as vertical}
+use Rattle.fit_slots.specs.Slots.{asked, couples}
+use Rattle.fit_slots.specs.Axes.{axisFor, cornersOn}
+use Rattle.fit_slots.proofs.Counting.{letters-count}
+use Rattle.search_halves.specs.Half.{otherWay}
+use Rattle.search_halves.proofs.Halving.{fit-half, other-axis}
 use Rattle.half_fit.specs.declared.service.HalfFit.{HalfFit}
 use Rattle.half_fit.specs.declared.service.HalfOutcome.{HalfOutcome}
 use Rattle.half_fit.specs.declared.service.HalfOutcome.the-variants as answer
 use Rattle.half_fit.specs.Answer.{Answers}
-use Rattle.half_tables.specs.Tables.{Tabled, Arced, withBound}
-use Rattle.half_tables.proofs.HalfHere.{half-here, above-here}
-use Rattle.half_tables.proofs.LetterBounds.{arced-letter}
+use Rattle.search_tables.specs.Tables.{Tabled, Arced, withBound}
+use Rattle.search_tables.proofs.HalfHere.{half-here, above-here}
+use Rattle.search_tables.proofs.LetterBounds.{arced-letter}
 use Rattle.search_node.specs.declared.Node.{Node}
-use Rattle.best.specs.Best.{bestOf}
+use Rattle.search_best.specs.Best.{bestOf}
 use Rattle.search_node.specs.Letters.{byteOf, lettersIn, letterAt, wayAt, Lettered, Asks}
 use Rattle.search_node.specs.Node.{roomOf, NodeOk, Open}
 use Rattle.search_join.specs.Joined.{HalfSaid, Beside, JoinedFrom}

@@ -13,22 +13,22 @@ use Rattle.model.specs.declared.Chip.{Chip as HeldChip}
 use Rattle.model.specs.declared.Spot.{Spot}
 use Rattle.model.specs.declared.Record.{Record as HeldRecord}
 use Rattle.model.specs.Meaning.{Chip, chipOf}
-use Rattle.chip.specs.Passed.{Passed}
+use Rattle.chip_text.specs.Passed.{Passed}
 use Rattle.placement.specs.Letters.{Letter, left}
 use Rattle.placement.specs.Least.{Best, nothing, found, fitOf}
-use Rattle.bounds.specs.declared.Slot.{Slot}
-use Rattle.bounds.specs.Listed.{slot}
-use Rattle.slots.specs.declared.Direction.{Direction}
-use Rattle.slots.specs.Slots.{couples}
-use Rattle.slots.proofs.Counting.{letters-count}
-use Rattle.branches.specs.Branch.{pick, better, inBranch, undecided}
-use Rattle.branches.proofs.Betters.{Sized}
-use Rattle.halves.specs.Kept.{valueOn, keepsOne, asksAt, oppositeAt}
-use Rattle.halves.specs.Result.{placed, NotAfter}
-use Rattle.halves.proofs.Covers.{closed-covers, letter-or-opposite}
-use Rattle.kept.specs.Differences.{Holds, limited, contrary}
-use Rattle.half_tables.proofs.LetterBounds.{Plain, letter-plain}
-use Rattle.best.specs.Best.{bestOf, Counted, Told}
+use Rattle.axis_bounds.specs.declared.Slot.{Slot}
+use Rattle.axis_bounds.specs.Listed.{slot}
+use Rattle.fit_slots.specs.declared.Direction.{Direction}
+use Rattle.fit_slots.specs.Slots.{couples}
+use Rattle.fit_slots.proofs.Counting.{letters-count}
+use Rattle.search_branches.specs.Branch.{pick, better, inBranch, undecided}
+use Rattle.search_branches.proofs.Betters.{Sized}
+use Rattle.search_halves.specs.Kept.{valueOn, keepsOne, asksAt, oppositeAt}
+use Rattle.search_halves.specs.Result.{placed, NotAfter}
+use Rattle.search_halves.proofs.Covers.{closed-covers, letter-or-opposite}
+use Rattle.search_kept.specs.Differences.{Holds, limited, contrary}
+use Rattle.search_tables.proofs.LetterBounds.{Plain, letter-plain}
+use Rattle.search_best.specs.Best.{bestOf, Counted, Told}
 use Rattle.search_node.specs.Node.{noRecord, NodeOk, Open, Given, Turn}
 use Rattle.search_node.specs.Letters.{byteOf, lettersIn, letterAt, wayAt, Asks, slotAsked}
 use Rattle.search_left.specs.Left.{KeepsBoth, AddsOn, childList, childAt, ExcludedBy, OppositeKept, SameKept}
@@ -37,7 +37,7 @@ use Rattle.search_letters.specs.Turns.{Untried, Shut, LeftOk, TriedOne, 
 use Rattle.search_node.specs.declared.Node.{Node}
 use Rattle.search_left.specs.declared.Left.{Left}
 use Rattle.search_node.proofs.Asking.{way-of, asks-is}
-use Rattle.pairs.specs.declared.Cursor.{Cursor}
+use Rattle.fit_pairs.specs.declared.Cursor.{Cursor}
 use Rattle.search_node.specs.declared.Parts.{Parts}
 use Rattle.search_node.proofs.Records.{no-best, nothing-none, none-counted, counted-sized}
 use Rattle.search_node.proofs.Lettering.{letters-set, letters-long}

@@ -9,17 +9,17 @@ use Rattle.model.specs.declared.Chip.{Chip as HeldChip}
 use Rattle.model.specs.declared.Spot.{Spot}
 use Rattle.model.specs.declared.Record.{Record as HeldRecord}
 use Rattle.model.specs.Meaning.{Chip, chipOf}
-use Rattle.chip.specs.Passed.{Passed}
+use Rattle.chip_text.specs.Passed.{Passed}
 use Rattle.placement.specs.Letters.{Letter}
 use Rattle.placement.specs.Least.{nothing, fitOf}
-use Rattle.bounds.specs.declared.Slot.{Slot}
-use Rattle.slots.specs.declared.Direction.{Direction}
-use Rattle.pairs.specs.declared.Cursor.{Cursor}
-use Rattle.branches.specs.Branch.{inBranch}
-use Rattle.halves.specs.Kept.{keepsOne, oppositeAt}
-use Rattle.halves.specs.Result.{placed, NotAfter}
-use Rattle.half_tables.specs.Tables.{Tabled, Arced}
-use Rattle.best.specs.Best.{bestOf, Counted}
+use Rattle.axis_bounds.specs.declared.Slot.{Slot}
+use Rattle.fit_slots.specs.declared.Direction.{Direction}
+use Rattle.fit_pairs.specs.declared.Cursor.{Cursor}
+use Rattle.search_branches.specs.Branch.{inBranch}
+use Rattle.search_halves.specs.Kept.{keepsOne, oppositeAt}
+use Rattle.search_halves.specs.Result.{placed, NotAfter}
+use Rattle.search_tables.specs.Tables.{Tabled, Arced}
+use Rattle.search_best.specs.Best.{bestOf, Counted}
 use Rattle.search_node.specs.Letters.{byteOf, lettersIn, letterAt, wayAt, Asks}
 use Rattle.search_node.specs.Node.{noRecord, Arrayed, NodeOk, Open, Given, Turn}
 use Rattle.search_node.specs.declared.Node.{Node}

@@ -12,19 +12,19 @@ use Rattle.model.specs.declared.Record.{Record as HeldRecord}
 use Rattle.model.specs.declared.Outcome.the-variants as outcome
 use Rattle.model.specs.Meaning.{chipOf}
 use Rattle.placement.specs.Letters.{dot}
-use Rattle.bounds.specs.declared.Slot.{Slot}
-use Rattle.slots.specs.declared.Direction.{Direction}
-use Rattle.slots.specs.declared.Direction.the-variants.{Horizontal as horizontal, Vertical as vertical}
-use Rattle.slots.specs.declared.Asked.{Asked}
-use Rattle.slots.specs.declared.Asked.the-variants.{Before as before}
-use Rattle.slots.specs.Slots as slots
-use Rattle.slots.specs.Slots.{Couple, couples}
-use Rattle.slots.specs.Axes.{heldSlot}
-use Rattle.pairs.specs.declared.Cursor.{Cursor}
-use Rattle.pairslots.specs.Letters.{slotRead}
-use Rattle.halves.specs.Half.{otherWay}
-use Rattle.pairslots.proofs.Reading.{slot-read}
-use Rattle.halves.specs.Kept.{wayOf, noCouple, asks}
+use Rattle.axis_bounds.specs.declared.Slot.{Slot}
+use Rattle.fit_slots.specs.declared.Direction.{Direction}
+use Rattle.fit_slots.specs.declared.Direction.the-variants.{Horizontal as horizontal, Vertical as vertical}
+use Rattle.fit_slots.specs.declared.Asked.{Asked}
+use Rattle.fit_slots.specs.declared.Asked.the-variants.{Before as before}
+use Rattle.fit_slots.specs.Slots as slots
+use Rattle.fit_slots.specs.Slots.{Couple, couples}
+use Rattle.fit_slots.specs.Axes.{heldSlot}
+use Rattle.fit_pairs.specs.declared.Cursor.{Cursor}
+use Rattle.fit_pair_slots.specs.Letters.{slotRead}
+use Rattle.search_halves.specs.Half.{otherWay}
+use Rattle.fit_pair_slots.proofs.Reading.{slot-read}
+use Rattle.search_halves.specs.Kept.{wayOf, noCouple, asks}
 use Rattle.search_node.specs.Letters.{letterAt, wayAt, askedAt, slotAsked, Asks, Placed}
 use Rattle.search_node.specs.Node.{roomOf}
 

@@ -9,8 +9,8 @@ use Rattle.model.specs.declared.Outcome.the-variants as outcome
 use Rattle.model.specs.Meaning.{blankSpot, outcomeOf, recordOf}
 use Rattle.model.proofs.FirstOf.{length-first}
 use Rattle.placement.specs.Least.{nothing}
-use Rattle.branches.proofs.Betters.{Sized}
-use Rattle.best.specs.Best.{resultOf, bestOf, CountIs, Counted}
+use Rattle.search_branches.proofs.Betters.{Sized}
+use Rattle.search_best.specs.Best.{resultOf, bestOf, CountIs, Counted}
 use Rattle.search_node.specs.Node.{noRecord}
 
 pub none-counted : (n : ℕ) → n ≤ 8 → Counted n noRecord

@@ -10,17 +10,17 @@ use Rattle.model.specs.declared.Mac.{Mac}
 use Rattle.model.specs.declared.Fix.{Fix}
 use Rattle.model.specs.Meaning.{chipOf}
 use Rattle.placement.specs.Letters.{Letter}
-use Rattle.bounds.specs.declared.Slot.{Slot}
-use Rattle.slots.specs.declared.Direction.{Direction}
-use Rattle.slots.specs.declared.Direction.the-variants.{Horizontal as horizontal, Vertical as vertical}
-use Rattle.slots.specs.declared.Asked.{Asked}
-use Rattle.slots.specs.declared.Asked.the-variants.{Before as before, After as after}
-use Rattle.slots.specs.Fit.{areLetters, letterOf, lettersOf, letterCount}
-use Rattle.slots.specs.Slots.{couples}
-use Rattle.pairs.specs.declared.Cursor.{Cursor}
-use Rattle.pairs.specs.Order.{coupleAt}
-use Rattle.pairslots.specs.Letters.{slotRead, Reached}
-use Rattle.halves.specs.Kept.{noCouple, asksAt}
+use Rattle.axis_bounds.specs.declared.Slot.{Slot}
+use Rattle.fit_slots.specs.declared.Direction.{Direction}
+use Rattle.fit_slots.specs.declared.Direction.the-variants.{Horizontal as horizontal, Vertical as vertical}
+use Rattle.fit_slots.specs.declared.Asked.{Asked}
+use Rattle.fit_slots.specs.declared.Asked.the-variants.{Before as before, After as after}
+use Rattle.fit_slots.specs.Fit.{areLetters, letterOf, lettersOf, letterCount}
+use Rattle.fit_slots.specs.Slots.{couples}
+use Rattle.fit_pairs.specs.declared.Cursor.{Cursor}
+use Rattle.fit_pairs.specs.Order.{coupleAt}
+use Rattle.fit_pair_slots.specs.Letters.{slotRead, Reached}
+use Rattle.search_halves.specs.Kept.{noCouple, asksAt}
 use Prim.Native.Nat.{_<_}
 
 -- ---- bytes

@@ -9,15 +9,15 @@ use Rattle.model.specs.declared.Record.{Record as HeldRecord}
 use Rattle.model.specs.declared.Outcome.{Outcome}
 use Rattle.model.specs.declared.Outcome.the-variants as outcome
 use Rattle.model.specs.Meaning.{chipOf, blankSpot}
-use Rattle.chip.specs.Passed.{Passed}
+use Rattle.chip_text.specs.Passed.{Passed}
 use Rattle.placement.specs.Letters.{dot}
 use Rattle.placement.specs.Least.{nothing, found, fitOf}
-use Rattle.bounds.specs.Axis.{lengthOn}
-use Rattle.slots.specs.declared.Direction.the-variants.{Horizontal as horizontal, Vertical as vertical}
-use Rattle.slots.specs.Axes.{axisFor, cornersOn}
-use Rattle.pairs.specs.declared.Cursor.{Cursor}
-use Rattle.half_tables.specs.Tables.{Tabled, Arced}
-use Rattle.best.specs.Best.{bestOf, Counted}
+use Rattle.axis_bounds.specs.Axis.{lengthOn}
+use Rattle.fit_slots.specs.declared.Direction.the-variants.{Horizontal as horizontal, Vertical as vertical}
+use Rattle.fit_slots.specs.Axes.{axisFor, cornersOn}
+use Rattle.fit_pairs.specs.declared.Cursor.{Cursor}
+use Rattle.search_tables.specs.Tables.{Tabled, Arced}
+use Rattle.search_best.specs.Best.{bestOf, Counted}
 use Rattle.search_node.specs.Letters.{lettersIn, Lettered, Placed}
 use Rattle.search_node.specs.declared.Node.{Node}
 use Rattle.search_node.specs.declared.Parts.{Parts}

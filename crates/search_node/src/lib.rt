@@ -1,16 +1,16 @@
 // A branch of the search: its letters, bounds, differences and fit; the four letters of a pair and the slots that they ask.
-use bounds::Slot;
-use half_tables::ARCS;
-use kept::CELLS;
+use axis_bounds::Slot;
+use search_tables::ARCS;
+use search_kept::CELLS;
 use model::Fix;
 use model::Mac;
 use model::Outcome;
 use model::Record;
 use model::Spot;
-use pairs::Cursor;
-use pairslots::slot_at;
-use slots::Asked;
-use slots::Direction;
+use fit_pairs::Cursor;
+use fit_pair_slots::slot_at;
+use fit_slots::Asked;
+use fit_slots::Direction;
 ghost use mathlib.Core.Path.{_≡_};
 ghost use Prim.Native.Nat.{_-_};
 ghost use lib.ListN.{set};

@@ -8,13 +8,13 @@ use lib.ListN.{getD}
 use borrow.Author.Tests.{not-false}
 use Rattle.model.specs.declared.Spot.{Spot}
 use Rattle.model.specs.Meaning.{Chip, blankSpot}
-use Rattle.bounds.specs.Listed.{slot}
-use Rattle.slots.specs.declared.Direction.the-variants.{Horizontal as horizontal}
-use Rattle.slots.proofs.Pairs.{value-corner}
-use Rattle.halves.specs.Exchange.{Alike}
-use Rattle.halves.specs.Kept.{valueOn}
-use Rattle.equal.specs.Answer.{Yes}
-use Rattle.kept.specs.Differences.{Adds, Holds, limited}
+use Rattle.axis_bounds.specs.Listed.{slot}
+use Rattle.fit_slots.specs.declared.Direction.the-variants.{Horizontal as horizontal}
+use Rattle.fit_slots.proofs.Pairs.{value-corner}
+use Rattle.search_halves.specs.Exchange.{Alike}
+use Rattle.search_halves.specs.Kept.{valueOn}
+use Rattle.search_equal.specs.Answer.{Yes}
+use Rattle.search_kept.specs.Differences.{Adds, Holds, limited}
 use Rattle.search_order.specs.Order.{OrderKept}
 
 pub order-same : (c : Chip) (e : List ℕ) → OrderKept c e e

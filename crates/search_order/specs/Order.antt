@@ -4,10 +4,10 @@ use mathlib.Core.List.{List}
 use lib.ListN.{getD}
 use Rattle.model.specs.declared.Spot.{Spot}
 use Rattle.model.specs.Meaning.{Chip, blankSpot}
-use Rattle.slots.specs.declared.Direction.the-variants.{Horizontal as horizontal}
-use Rattle.halves.specs.Kept.{valueOn}
-use Rattle.halves.specs.Exchange.{Alike}
-use Rattle.kept.specs.Differences.{KeptBy}
+use Rattle.fit_slots.specs.declared.Direction.the-variants.{Horizontal as horizontal}
+use Rattle.search_halves.specs.Kept.{valueOn}
+use Rattle.search_halves.specs.Exchange.{Alike}
+use Rattle.search_kept.specs.Differences.{KeptBy}
 
 -- of two equal macros the earlier one does not lie further right
 pub record Ordered (c : Chip) (ps : List Spot) : Type 0 where

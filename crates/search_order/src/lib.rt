@@ -1,6 +1,6 @@
 // Equal macros: the earlier one does not lie further right, kept as differences.
-use bounds::Slot;
-use kept::CELLS;
+use axis_bounds::Slot;
+use search_kept::CELLS;
 use model::Chip;
 ghost use mathlib.Core.Path.{_≡_};
 ghost use mathlib.Core.Bool.{true};
@@ -13,10 +13,10 @@ fn with_order(c: Chip, e: [u32; CELLS], i: usize, j: usize) -> [u32; CELLS]
     requires { ⌜ (i < j) × (j < 8) ⌝ }
     ensures { λ r. ⌜ OrderKept (chipOf c) e r ⌝ }
 {
-    if !equal::alike(c, i, j) {
+    if !search_equal::alike(c, i, j) {
         return e;
     }
-    kept::keep(
+    search_kept::keep(
         e,
         Slot {
             tail: i + 1,

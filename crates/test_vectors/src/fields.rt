@@ -1,5 +1,5 @@
 // The fields of a case: parts of its line between tabs, numbers, positions.
-use decimal::Number;
+use num_text::Number;
 use model::Mac;
 use model::Spot;
 ghost use mathlib.Core.Path.{_≡_};
@@ -56,7 +56,7 @@ pub(crate) fn number(s: &[u8]) -> u64 {
     if check::same(s, b"max") {
         return 18446744073709551615;
     }
-    match decimal::read_number(s) {
+    match num_text::read_number(s) {
         Number::Value(_, m) => m,
         Number::Bad => 0,
     }

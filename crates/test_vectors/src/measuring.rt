@@ -25,6 +25,6 @@ pub(crate) fn measure(s: &[u8], c: Chip) {
     let spots = spots_at(s, 3);
     print_measured(measure::measure_array(c, count, spots));
     io::write_all(1, b"; list: ");
-    print_measured(measurelist::measure_spots(c, count, spots));
+    print_measured(measure_list::measure_spots(c, count, spots));
     io::write_all(1, b"\n");
 }

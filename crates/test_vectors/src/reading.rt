@@ -1,8 +1,8 @@
 // Texts read, and written back.
 use crate::report::print_refusal;
-use chipreader::ChipAnswer;
+use chip_read::ChipAnswer;
 use model::WriteAnswer;
-use recordreader::RecordAnswer;
+use record_read::RecordAnswer;
 
 // Prints whether what was written is the text.
 fn print_written(answer: WriteAnswer, written: &[u8], text: &[u8]) {
@@ -30,28 +30,28 @@ fn is_text(written: &[u8], n: usize, text: &[u8]) -> bool {
 }
 
 pub(crate) fn chip(text: &[u8]) {
-    let read = chipreader::read_chip(text);
+    let read = chip_read::read_chip(text);
     let answer = read.answer;
     let chip = read.chip;
     match answer {
         ChipAnswer::Refused(f) => print_refusal(f),
         ChipAnswer::Accepted => {
             let mut out = io::buffer();
-            let written = chipwriter::write_chip(chip, &mut out);
+            let written = chip_write::write_chip(chip, &mut out);
             print_written(written, &out, text);
         }
     }
 }
 
 pub(crate) fn record(text: &[u8]) {
-    let read = recordreader::read_record(text);
+    let read = record_read::read_record(text);
     let answer = read.answer;
     let record = read.record;
     match answer {
         RecordAnswer::Refused(f) => print_refusal(f),
         RecordAnswer::Accepted => {
             let mut out = io::buffer();
-            let written = recordwriter::write_record(record, &mut out);
+            let written = record_write::write_record(record, &mut out);
             print_written(written, &out, text);
         }
     }

@@ -9,7 +9,7 @@ const ROOM: usize = 256;
 
 fn lend_print(text: &[u8], room: usize, out: &mut [u8]) {
     if room <= out.len() {
-        let answer = printed::print_text(text, &mut out[0..room]);
+        let answer = place_print::print_text(text, &mut out[0..room]);
         print_text(answer, out);
     }
 }

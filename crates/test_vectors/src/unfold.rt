@@ -1,7 +1,7 @@
 // Texts of cases unfolded: escapes and repetitions.
 use crate::fields::after;
 use crate::fields::index_of;
-use decimal::Number;
+use num_text::Number;
 ghost use Prim.Native.Nat.{_+_, _≤_, _<_};
 ghost use lib.ListN.{length};
 
@@ -99,7 +99,7 @@ fn put_repeated(s: &[u8], j: usize, e: usize, out: &mut [u8], at: usize) -> usiz
     if star <= j {
         return at;
     }
-    let Number::Value(_, times) = decimal::read_number(&s[j + 1..star]) else {
+    let Number::Value(_, times) = num_text::read_number(&s[j + 1..star]) else {
         return at;
     };
     repeat(&s[star + 1..e], times, out, at)

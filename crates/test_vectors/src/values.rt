@@ -21,7 +21,7 @@ use model::Record;
 
 fn write_chip(c: Chip, room: usize, out: &mut [u8]) {
     if room <= out.len() {
-        let answer = chipwriter::write_chip(c, &mut out[0..room]);
+        let answer = chip_write::write_chip(c, &mut out[0..room]);
         print_length(answer, out);
     }
 }
@@ -34,7 +34,7 @@ pub(crate) fn chip(s: &[u8], c: Chip) {
 
 fn write_record(r: Record, room: usize, out: &mut [u8]) {
     if room <= out.len() {
-        let answer = recordwriter::write_record(r, &mut out[0..room]);
+        let answer = record_write::write_record(r, &mut out[0..room]);
         print_length(answer, out);
     }
 }

@@ -42,7 +42,7 @@ fn bytes_of(text: &[u8], n: usize) -> usize
 // The chip that the first n bytes of a text mean.
 fn chip_in(text: &[u8], n: usize) -> Chip {
     let e = bytes_of(text, n);
-    let read = chipreader::read_chip(&text[0..e]);
+    let read = chip_read::read_chip(&text[0..e]);
     read.chip
 }
 

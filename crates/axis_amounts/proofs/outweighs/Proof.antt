@@ -1,8 +1,8 @@
 use borrow.Author.Needs.{needs}
 use Prim.Native.Nat.{_≤_, _-_}
 use mathlib.Core.Path.{_≡_}
-use Rattle.flow.specs.Flow.{weigh}
-use Rattle.bounds.specs.Listed.{pluses, minuses}
+use Rattle.flow_laws.specs.Flow.{weigh}
+use Rattle.axis_bounds.specs.Listed.{pluses, minuses}
 use Rattle.axis_graph.specs.Graph.{at}
 use Rattle.axis_amounts.proofs.Gathers.{weigh-none, plus-fits, minus-fits, plus-one, minus-one, plus-idle, minus-idle, outweighs-all}
 use Rattle.axis_amounts.proofs.outweighs.Statement.{statement}

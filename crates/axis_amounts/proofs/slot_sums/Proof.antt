@@ -1,6 +1,6 @@
 use borrow.Author.Needs.{needs}
 use Prim.Native.Nat.{_≤_, _-_}
-use Rattle.bounds.specs.Listed.{tails, heads}
+use Rattle.axis_bounds.specs.Listed.{tails, heads}
 use Rattle.axis_graph.specs.Graph.{at}
 use Rattle.axis_amounts.specs.Amounts.{Gathered}
 use Rattle.axis_graph.proofs.SlotEnds.{tail-node, head-node, tail-fits, head-fits}

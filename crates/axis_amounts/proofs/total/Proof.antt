@@ -1,7 +1,7 @@
 use borrow.Author.Needs.{needs}
 use Prim.Native.Nat.{_≤_, _-_}
 use mathlib.Core.Path.{_≡_}
-use Rattle.numbers.specs.Sum.{sum}
+use Rattle.num_laws.specs.Sum.{sum}
 use Rattle.axis_graph.specs.Solved.{weights}
 use Rattle.axis_amounts.proofs.Gathers.{total-none, total-all, weight-fits, weight-more}
 use Rattle.axis_amounts.proofs.total.Statement.{statement}

@@ -1,6 +1,6 @@
 use Prim.Native.Nat.{ℕ}
 use lib.ListN.{replicate, length-replicate}
-use Rattle.chip.proofs.Passing.{Whole, whole}
+use Rattle.chip_text.proofs.Passing.{Whole, whole}
 use Rattle.chip_put.proofs.Chips.{chip-back}
 use borrow.Author.Needs.{needs}
 use Rattle.chip_put.proofs.array_of.Statement.{statement}

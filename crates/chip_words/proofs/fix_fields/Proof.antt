@@ -1,4 +1,4 @@
-use Rattle.line.proofs.Layouts.{fields-four}
+use Rattle.text_line.proofs.Layouts.{fields-four}
 use borrow.Author.Needs.{needs}
 use Rattle.chip_words.proofs.fix_fields.Statement.{statement}
 use Rattle.chip_words.proofs.fix_fields.Tie as tie

@@ -2,9 +2,9 @@ use borrow.Author.Needs.{needs}
 use mathlib.Core.Path.{_≡_, refl}
 use Prim.Native.Nat.{_≤_, _-_}
 use lib.ListN.{drop}
-use Rattle.grammar.specs.Words.{isIn}
-use Rattle.chip.specs.Words.{chipWords}
-use Rattle.line.proofs.Find.{this-is, other-is, none-is}
+use Rattle.text_grammar.specs.Words.{isIn}
+use Rattle.chip_text.specs.Words.{chipWords}
+use Rattle.text_line.proofs.Find.{this-is, other-is, none-is}
 use Rattle.chip_words.proofs.is_in.Statement.{statement}
 use Rattle.chip_words.proofs.is_in.Tie as tie
 

@@ -1,4 +1,4 @@
-use Rattle.chip.specs.declared.ChipWord.the-variants as word
+use Rattle.chip_text.specs.declared.ChipWord.the-variants as word
 use Rattle.chip_words.proofs.Words.{laid-as, net-laid}
 use borrow.Author.Needs.{needs}
 use Rattle.chip_words.proofs.layout_of.Statement.{statement}

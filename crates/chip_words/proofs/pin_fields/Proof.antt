@@ -1,4 +1,4 @@
-use Rattle.line.proofs.Layouts.{fields-three}
+use Rattle.text_line.proofs.Layouts.{fields-three}
 use borrow.Author.Needs.{needs}
 use Rattle.chip_words.proofs.pin_fields.Statement.{statement}
 use Rattle.chip_words.proofs.pin_fields.Tie as tie

@@ -1,5 +1,5 @@
-use Rattle.chip.specs.Words.{chipWords}
-use Rattle.line.proofs.Find.{same-words}
+use Rattle.chip_text.specs.Words.{chipWords}
+use Rattle.text_line.proofs.Find.{same-words}
 use borrow.Author.Needs.{needs}
 use Rattle.chip_words.proofs.same_word.Statement.{statement}
 use Rattle.chip_words.proofs.same_word.Tie as tie

@@ -1,4 +1,4 @@
-use Rattle.line.proofs.Layouts.{fields-two}
+use Rattle.text_line.proofs.Layouts.{fields-two}
 use borrow.Author.Needs.{needs}
 use Rattle.chip_words.proofs.sides.Statement.{statement}
 use Rattle.chip_words.proofs.sides.Tie as tie

@@ -1,5 +1,5 @@
 use borrow.Author.Needs.{needs}
-use Rattle.slots.specs.Slots.{macSide}
+use Rattle.fit_slots.specs.Slots.{macSide}
 use Prim.Native.Nat.{_-_, _≤_}
 use Rattle.fit_axes.proofs.Copies.{Copied, copied-none, copied-all, side-more}
 use Rattle.fit_axes.proofs.mac_sides.Statement.{statement}

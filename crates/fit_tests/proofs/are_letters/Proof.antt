@@ -1,5 +1,5 @@
 use borrow.Author.Needs.{needs}
-use Rattle.slots.specs.Fit.{areLetters}
+use Rattle.fit_slots.specs.Fit.{areLetters}
 use lib.ListN.{length, drop}
 use mathlib.Core.Path.{_≡_}
 use Prim.Native.Nat.{_-_, _≤_}

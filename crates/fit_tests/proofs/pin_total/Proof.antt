@@ -1,5 +1,5 @@
 use borrow.Author.Needs.{needs}
-use Rattle.chip.specs.Valid.{pinsBefore}
+use Rattle.chip_text.specs.Valid.{pinsBefore}
 use mathlib.Core.Path.{_≡_}
 use Prim.Native.Nat.{_-_, _≤_}
 use Rattle.fit_tests.proofs.Pins.{pins-none, pins-more, pins-fit, pins-all}

@@ -1,4 +1,4 @@
-use Rattle.chip.proofs.Passing.{whole, test-passed}
+use Rattle.chip_text.proofs.Passing.{whole, test-passed}
 use Rattle.fit_tests.proofs.Entering.{test-refused}
 use borrow.Author.Needs.{needs}
 use Rattle.fit_tests.proofs.test_letters.Statement.{statement}

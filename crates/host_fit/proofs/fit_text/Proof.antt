@@ -1,12 +1,12 @@
-use Rattle.chip.proofs.Passing.{Whole, whole}
-use Rattle.chipreader.proofs.Passing.{read-accepted, read-refused, read-passed}
+use Rattle.chip_text.proofs.Passing.{Whole, whole}
+use Rattle.chip_read.proofs.Passing.{read-accepted, read-refused, read-passed}
 use Rattle.host_fit.proofs.FitDone.{fit-read, fit-refused}
 use borrow.Author.Needs.{needs}
 use Rattle.host_fit.proofs.fit_text.Statement.{statement}
 use Rattle.host_fit.proofs.fit_text.Tie as tie
 use Rattle.host_fit.proofs.fit_text.Reads as reads
 use Rattle.host_fit.proofs.fit_text.Lts as lts
-use Rattle.chipreader.proofs.read_chip.Reads as read-chip-reads
+use Rattle.chip_read.proofs.read_chip.Reads as read-chip-reads
 use Rattle.host_codes.proofs.refusal_code.Reads as refusal-code-reads
 use Rattle.host_fit.proofs.fit_chip.Reads as fit-chip-reads
 

@@ -1,12 +1,12 @@
-use Rattle.chip.proofs.Passing.{Whole, whole}
-use Rattle.chipreader.proofs.Passing.{read-accepted, read-refused, read-passed}
+use Rattle.chip_text.proofs.Passing.{Whole, whole}
+use Rattle.chip_read.proofs.Passing.{read-accepted, read-refused, read-passed}
 use Rattle.host_measure.proofs.MeasureRead.{measure-read, measure-refused}
 use borrow.Author.Needs.{needs}
 use Rattle.host_measure.proofs.measure_text.Statement.{statement}
 use Rattle.host_measure.proofs.measure_text.Tie as tie
 use Rattle.host_measure.proofs.measure_text.Reads as reads
 use Rattle.host_measure.proofs.measure_text.Lts as lts
-use Rattle.chipreader.proofs.read_chip.Reads as read-chip-reads
+use Rattle.chip_read.proofs.read_chip.Reads as read-chip-reads
 use Rattle.host_codes.proofs.measure_code.Reads as measure-code-reads
 use Rattle.host_codes.proofs.refusal_code.Reads as refusal-code-reads
 use Rattle.host_measure.proofs.measure_chip.Reads as measure-chip-reads

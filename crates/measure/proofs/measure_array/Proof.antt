@@ -1,4 +1,4 @@
-use Rattle.chip.proofs.Passing.{whole}
+use Rattle.chip_text.proofs.Passing.{whole}
 use Rattle.measure.proofs.Answers.{is-refused, measurable, is-measured}
 use borrow.Author.Needs.{needs}
 use Rattle.measure.proofs.measure_array.Statement.{statement}

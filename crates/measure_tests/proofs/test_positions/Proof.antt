@@ -1,4 +1,4 @@
-use Rattle.chip.proofs.Passing.{whole, test-passed}
+use Rattle.chip_text.proofs.Passing.{whole, test-passed}
 use Rattle.measure_tests.proofs.Testing.{chip-refused, chip-passed}
 use borrow.Author.Needs.{needs}
 use Rattle.measure_tests.proofs.test_positions.Statement.{statement}

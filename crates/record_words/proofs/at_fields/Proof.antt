@@ -1,4 +1,4 @@
-use Rattle.line.proofs.Layouts.{fields-three}
+use Rattle.text_line.proofs.Layouts.{fields-three}
 use borrow.Author.Needs.{needs}
 use Rattle.record_words.proofs.at_fields.Statement.{statement}
 use Rattle.record_words.proofs.at_fields.Tie as tie

@@ -2,9 +2,9 @@ use borrow.Author.Needs.{needs}
 use mathlib.Core.Path.{_≡_, refl}
 use Prim.Native.Nat.{_≤_, _-_}
 use lib.ListN.{drop}
-use Rattle.grammar.specs.Words.{isIn}
-use Rattle.record.specs.Words.{recordWords}
-use Rattle.line.proofs.Find.{this-is, other-is, none-is}
+use Rattle.text_grammar.specs.Words.{isIn}
+use Rattle.record_text.specs.Words.{recordWords}
+use Rattle.text_line.proofs.Find.{this-is, other-is, none-is}
 use Rattle.record_words.proofs.is_in.Statement.{statement}
 use Rattle.record_words.proofs.is_in.Tie as tie
 

@@ -1,5 +1,5 @@
-use Rattle.record.specs.Words.{recordWords}
-use Rattle.line.proofs.Find.{same-words}
+use Rattle.record_text.specs.Words.{recordWords}
+use Rattle.text_line.proofs.Find.{same-words}
 use borrow.Author.Needs.{needs}
 use Rattle.record_words.proofs.same_word.Statement.{statement}
 use Rattle.record_words.proofs.same_word.Tie as tie

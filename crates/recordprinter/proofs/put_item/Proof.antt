@@ -1,5 +1,5 @@
-use Rattle.linewriter.proofs.Items.{item-written}
-use Rattle.record.specs.Words.{recordWords}
+use Rattle.text_put.proofs.Items.{item-written}
+use Rattle.record_text.specs.Words.{recordWords}
 use Rattle.record_words.proofs.Words.{laying}
 use borrow.Author.Needs.{needs}
 use Rattle.recordprinter.proofs.put_item.Statement.{statement}

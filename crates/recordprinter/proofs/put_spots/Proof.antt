@@ -1,10 +1,10 @@
 use Prim.Native.Nat.{_≤_, _-_}
-use Rattle.decimal.specs.Held.{Wrote}
-use Rattle.decimal.proofs.Wrote.{wrote-length}
-use Rattle.grammar.specs.Words.{itemsText}
-use Rattle.linewriter.specs.Run.{run}
-use Rattle.linewriter.proofs.Items.{run-none}
-use Rattle.record.specs.Words.{recordWords}
+use Rattle.num_text.specs.Held.{Wrote}
+use Rattle.num_text.proofs.Wrote.{wrote-length}
+use Rattle.text_grammar.specs.Words.{itemsText}
+use Rattle.text_put.specs.Run.{run}
+use Rattle.text_put.proofs.Items.{run-none}
+use Rattle.record_text.specs.Words.{recordWords}
 use Rattle.recordprinter.proofs.Printed.{spotItem, spot-more, spots-all}
 use borrow.Author.Needs.{needs}
 use Rattle.recordprinter.proofs.put_spots.Statement.{statement}

@@ -1,4 +1,4 @@
-use Rattle.linewriter.proofs.Counted.{blank-past}
+use Rattle.text_put.proofs.Counted.{blank-past}
 use borrow.Author.Needs.{needs}
 use Rattle.recordprinter.proofs.spot_at.Statement.{statement}
 use Rattle.recordprinter.proofs.spot_at.Tie as tie

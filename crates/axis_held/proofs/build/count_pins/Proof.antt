@@ -1,7 +1,7 @@
 use Prim.Native.Nat.{_≤_, _-_}
 use borrow.Author.Needs.{needs}
 use mathlib.Core.Path.{_≡_}
-use Rattle.bounds.specs.Held.{pinsBefore}
+use Rattle.axis_bounds.specs.Held.{pinsBefore}
 use Rattle.axis_held.proofs.Built.{count-none, count-fits, count-more, count-end}
 use Rattle.axis_held.proofs.build.count_pins.Statement.{statement}
 use Rattle.axis_held.proofs.build.count_pins.Tie as tie

@@ -1,4 +1,4 @@
-use Rattle.numbers.specs.Sum.{sum}
+use Rattle.num_laws.specs.Sum.{sum}
 use Prim.Native.Nat.{_≤_, _-_}
 use mathlib.Core.Path.{_≡_}
 use borrow.Author.Needs.{needs}

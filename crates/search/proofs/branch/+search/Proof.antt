@@ -2,7 +2,7 @@ use borrow.Author.Needs.{needs}
 use denote.Ref.{now}
 use Rattle.model.specs.declared.Chip.{Chip as HeldChip}
 use Rattle.chip_array.specs.Array.{chipIn}
-use Rattle.branches.specs.Branch.{undecided}
+use Rattle.search_branches.specs.Branch.{undecided}
 use Rattle.search_node.specs.Letters.{lettersIn}
 use Rattle.search_node.specs.Node.{Turn}
 use Rattle.search_left.specs.Left.{childList}

@@ -1,5 +1,5 @@
 use Prim.Native.Nat.{_-_, _≤_}
-use Rattle.slots.specs.Axes.{cornerOn}
+use Rattle.fit_slots.specs.Axes.{cornerOn}
 use Rattle.fit_axes.proofs.Copies.{Copied, copied-none, copied-all}
 use Rattle.search_join.proofs.Cornering.{coordinates-more}
 use borrow.Author.Needs.{needs}

@@ -1,13 +1,13 @@
-use Rattle.chip.proofs.Passing.{Whole, whole}
-use Rattle.chipreader.proofs.Passing.{read-passed}
+use Rattle.chip_text.proofs.Passing.{Whole, whole}
+use Rattle.chip_read.proofs.Passing.{read-passed}
 use Rattle.search.proofs.Placing.{place-refused, record-placed}
 use borrow.Author.Needs.{needs}
 use Rattle.search.proofs.service.place_text.Statement.{statement}
 use Rattle.search.proofs.service.place_text.Tie as tie
 use Rattle.search.proofs.service.place_text.Reads as reads
 use Rattle.search.proofs.service.place_text.Lts as lts
-use Rattle.chipreader.proofs.read_chip.Reads as read-chip-reads
-use Rattle.recordwriter.proofs.write_record.Reads as write-record-reads
+use Rattle.chip_read.proofs.read_chip.Reads as read-chip-reads
+use Rattle.record_write.proofs.write_record.Reads as write-record-reads
 use Rattle.search.proofs.service.chip_record.Reads as chip-record-reads
 
 -- the chip's arrays are as long as its type says

@@ -1,4 +1,4 @@
-use Rattle.chip.proofs.Passing.{Whole, whole, test-passed}
+use Rattle.chip_text.proofs.Passing.{Whole, whole, test-passed}
 use Rattle.search.proofs.Placing.{search-refused, record-searched}
 use borrow.Author.Needs.{needs}
 use Rattle.search.proofs.service.search_chip.Statement.{statement}
@@ -6,7 +6,7 @@ use Rattle.search.proofs.service.search_chip.Tie as tie
 use Rattle.search.proofs.service.search_chip.Reads as reads
 use Rattle.search.proofs.service.search_chip.Lts as lts
 use Rattle.chip_test.proofs.test_chip.Reads as test-chip-reads
-use Rattle.recordwriter.proofs.write_record.Reads as write-record-reads
+use Rattle.record_write.proofs.write_record.Reads as write-record-reads
 use Rattle.search.proofs.service.chip_record.Reads as chip-record-reads
 
 -- the chip's arrays are as long as its type says

@@ -1,0 +1,96 @@
+-- Reading line by line: what is left to read, and each end of the reading.
+use mathlib.Core.Path.{_≡_, refl, sym, ap}
+use mathlib.Core.Bool.{Bool, true, false, not, false≢true}
+use mathlib.Core.List.{List}
+use Prim.Native.Nat.{ℕ, _+_, _-_, _≤_, _<_}
+use lib.ListN.{length, take, drop}
+use borrow.Author.Tests.{not-true, not-false}
+use Rattle.model.specs.declared.Chip.{Chip as HeldChip}
+use Rattle.model.specs.declared.Refusal.{Refusal}
+use Rattle.model.specs.Meaning.{Chip, chipOf, firstOf, netsOf, taken, blankFix, blankMac, blankNet, blankPin}
+use Rattle.model.specs.Limits.{mostFixes, mostMacs, mostNets, mostPins}
+use Rattle.model.proofs.Holding.{holds-none}
+use Rattle.model.proofs.HeldAgain.{held-again}
+use Rattle.text_grammar.specs.Reading.{Reading, refused, isLast, stepBytes, stepLine, ending}
+use Rattle.text_grammar.specs.Steps.{lineEnd, lineAt}
+use Rattle.text_grammar.proofs.LineAt.{step-open, step-ended}
+use Rattle.text_grammar.proofs.Left.{Left, text-left, text-fails, text-goes-on, text-ends}
+use Rattle.chip_text.specs.declared.ChipWord.the-variants as word
+use Rattle.chip_text.specs.Words.{chipWords}
+use Rattle.chip_words.specs.declared.ChipLast.the-variants as last
+use Rattle.chip_words.specs.Meant.{lastOf}
+use Rattle.chip_text.specs.Kind.{start, chipKind}
+use Rattle.chip_text.proofs.ReadText.{too-long}
+use Rattle.chip_text.specs.Text.{chipRead, readChip}
+use Rattle.chip_read.specs.declared.State.{State}
+use Rattle.text_line.specs.declared.Fault.the-variants as held
+use Rattle.chip_read.specs.declared.Taken.{Taken}
+use Rattle.chip_read.specs.declared.ChipAnswer.the-variants as answer
+use Rattle.chip_read.specs.declared.ChipRead.{ChipRead}
+use Rattle.chip_read.specs.State.{Sound, partOf, withFault, TakenOk}
+use Rattle.chip_read.specs.Answer.{blankChip, refusedAt, ReadOk}
+
+pub refuses : (r : ChipRead) (f : Refusal) (read : Reading Chip) → r ≡ refusedAt f → refused (f .no) (f .line) ≡ read → ReadOk read r
+refuses r f read e q = rw (e, ← q) (record { meant = refl; whole = refl })
+
+-- ---- before the first line
+
+pub too-long-read : (text : List ℕ) → 16384 < length text → (r : ChipRead) → r ≡ refusedAt (record { no = 1; line = 0 }) → ReadOk (readChip text) r
+too-long-read text h r e = refuses r (record { no = 1; line = 0 }) (readChip text) e (too-long text h)
+
+abbrev empty : HeldChip → State
+empty c = record { last = last.Before; pins = 0; chip = c }
+
+module _ (c : HeldChip) (e : c ≡ blankChip) where
+  pub all-left : (text : List ℕ) → length text ≤ 16384 → Left chipKind start text (partOf (empty c)) 0 1
+  unfolding chipOf firstOf netsOf
+  all-left text h = rw e (text-left chipKind start text h)
+
+  pub empty-sound : Sound (empty c)
+  unfolding firstOf taken
+  empty-sound =
+      rw e
+      (record {
+        fixes = holds-none blankFix mostFixes;
+        macs = holds-none blankMac mostMacs;
+        nets = holds-none blankNet mostNets;
+        pins = holds-none blankPin mostPins;
+        counted = refl;
+        opened = λ o. absurd (false≢true o);
+      })
+
+-- ---- a line
+
+module _ (text : List ℕ) (a z : ℕ) (end : z ≡ lineEnd text a) (s : State) (t : Taken) (line : ℕ) where
+  pub no-feed : Sound s → z ≡ length text → t ≡ withFault s (record { no = 2; line = line }) → TakenOk t line (stepLine chipKind (partOf s) (lineAt text a z))
+  no-feed sound q e = rw e (record { ok = record { meant = step-open text a z end chipKind (partOf s) q; at = refl }; sound = sound })
+
+  pub has-feed : (z ≡ length text → ⊥) → TakenOk t line (stepBytes chipKind (partOf s) (take (z - a) (drop a text))) → TakenOk t line (stepLine chipKind (partOf s) (lineAt text a z))
+  has-feed q ok = rw (← step-ended text a z end chipKind (partOf s) q) ok
+
+  module _ (h : a < length text) (left : Left chipKind start text (partOf s) a line) (ok : TakenOk t line (stepLine chipKind (partOf s) (lineAt text a z))) where
+    pub line-fails : (f : Refusal) → t .fault ≡ held.Refused f → refused (f .no) (f .line) ≡ readChip text
+    unfolding readChip
+    line-fails f g =
+        let own : f .line ≡ line = rw g at (ok .ok .at) in
+        rw own (ap chipRead (text-fails chipKind start text (partOf s) a line left z end h (f .no) (rw g at (ok .ok .meant))))
+
+    pub line-read : t .fault ≡ held.Clear → Left chipKind start text (partOf (t .state)) (z + 1) (line + 1)
+    line-read g = text-goes-on chipKind start text (partOf s) a line left z end h (partOf (t .state)) (rw g at (ok .ok .meant))
+
+-- ---- after the last line
+
+pub all-read : (text : List ℕ) (s : State) (a line : ℕ) → Left chipKind start text (partOf s) a line → length text ≤ a → (r : ChipRead) → ReadOk (chipRead (ending chipKind (chipKind .complete (partOf s)) (partOf s) line)) r → ReadOk (readChip text) r
+unfolding readChip
+all-read text s a line left h r ok = rw (text-ends chipKind start text (partOf s) a line left h) ok
+
+module _ (s : State) (line : ℕ) (b : Bool) (own : b ≡ isLast chipWords (lastOf (s .last)) word.End) where
+  pub complete : Sound s → not b ≡ false → ReadOk (chipRead (ending chipKind (chipKind .complete (partOf s)) (partOf s) line)) (record { answer = answer.Accepted; chip = s .chip })
+  complete sound h =
+      record {
+        meant = rw (← own, not-false b h);
+        whole = rw (← own, not-false b h) (ap (λ (c : HeldChip). record { answer = answer.Accepted; chip = c }) (sym (held-again (s .chip) (s .pins) (sound .fixes) (sound .macs) (sound .nets) (sound .pins) (sound .counted))));
+      }
+
+  pub not-complete : not b ≡ true → refused 5 line ≡ chipRead (ending chipKind (chipKind .complete (partOf s)) (partOf s) line)
+  not-complete h = rw (← own, not-true b h)

@@ -1,0 +1,369 @@
+// Reading a chip from its text.
+use chip_text::ChipWord;
+use chip_words::ChipFound;
+use chip_words::ChipLast;
+use chip_words::Counts;
+use text_line::Fault;
+use text_line::Fields;
+use model::Chip;
+use model::Die;
+use model::DieMade;
+use model::Fix;
+use model::FixMade;
+use model::Mac;
+use model::MacMade;
+use model::Net;
+use model::NetMade;
+use model::Pin;
+use model::PinMade;
+use model::Refusal;
+use model::TEXT_MOST;
+ghost use mathlib.Core.Path.{_≡_};
+ghost use Rattle.model.specs.Limits.{mostBytes};
+ghost use Rattle.model.specs.Meaning.{chipOf};
+ghost use Prim.Native.Nat.{_≤_, _<_};
+ghost use lib.ListN.{length};
+ghost use Rattle.text_grammar.specs.Line.{fields};
+ghost use Rattle.text_grammar.specs.Reading.{stepBytes, stepFields, stepLine, ending};
+ghost use Rattle.text_grammar.specs.Steps.{entryFault, Entered, ReadAs, lineEnd, lineAt};
+ghost use Rattle.chip_text.specs.Words.{form, chipWords};
+ghost use Rattle.chip_text.specs.Kind.{addFix, add, chipKind};
+ghost use Rattle.chip_text.specs.Text.{chipRead, readChip};
+ghost use Rattle.chip_read.specs.State.{Sound, partOf, chipValues, withFault, withChip, TakenOk};
+ghost use Rattle.chip_read.specs.Answer.{blankChip, refusedAt, meantChip, chipAnswer, ReadOk};
+
+// What reading a chip answers.
+pub enum ChipAnswer {
+    Accepted,
+    Refused(Refusal),
+}
+
+// The answer with the chip; its entries past the counts are blank, and after a refusal the chip is.
+pub struct ChipRead {
+    pub answer: ChipAnswer,
+    pub chip: Chip,
+}
+
+// What has been read: the word of the last line, the chip so far, and the number of its pins.
+pub(crate) struct State {
+    pub last: ChipLast,
+    pub pins: usize,
+    pub chip: Chip,
+}
+
+// What a line leads to: its fault, or what has been read with it.
+pub(crate) struct Taken {
+    pub fault: Fault,
+    pub state: State,
+}
+
+// A chip that holds nothing.
+fn blank_chip() -> Chip
+    ensures { λ r. ⌜ r ≡ blankChip ⌝ }
+{
+    Chip {
+        die: Die { w: 0, h: 0 },
+        k: 0,
+        fixes: [Fix {
+            x: 0,
+            y: 0,
+            w: 0,
+            h: 0,
+        }; Fix::COUNT],
+        n: 0,
+        macs: [Mac { w: 0, h: 0 }; Mac::COUNT],
+        t: 0,
+        nets: [Net { weight: 0, pins: 0 }; Net::COUNT],
+        pins: [Pin {
+            m: 0,
+            xup: 0,
+            yup: 0,
+        }; Pin::COUNT],
+    }
+}
+
+// The first fault of a line before its fields: place 5, count 6, net without a pin 7; or 0.
+fn entry_fault(s: State, w: ChipWord) -> usize
+    requires { ⌜ Sound s ⌝ }
+    ensures { λ r. ⌜ r ≡ entryFault chipKind (partOf s) w ⌝ }
+{
+    let last = s.last;
+    let held = Counts {
+        fixes: s.chip.k,
+        macs: s.chip.n,
+        nets: s.chip.t,
+        pins: s.pins,
+    };
+    chip_words::entry_fault(last, held, w)
+}
+
+// A faulty line: what was read before it stays.
+fn with_fault(s: State, f: Refusal) -> Taken
+    ensures { λ r. ⌜ r ≡ withFault s f ⌝ }
+{
+    Taken {
+        fault: Fault::Refused(f),
+        state: s,
+    }
+}
+
+// A line without fault, and the chip with what it added.
+fn with_chip(s: State, w: ChipWord, chip: Chip) -> Taken
+    ensures { λ r. ⌜ r ≡ withChip s w chip ⌝ }
+{
+    Taken {
+        fault: Fault::Clear,
+        state: State {
+            last: ChipLast::After(w),
+            pins: s.pins,
+            chip,
+        },
+    }
+}
+
+// What a line adds is made by the constructors. The values that were read are in their ranges, so none refuses them.
+
+// What a `die` line adds: the die.
+fn add_die(s: State, v: [u64; 4], line: usize) -> Taken
+    requires { ⌜ Sound s ⌝ }
+    requires { ⌜ ReadAs chipWords ChipWord.Die (chipValues ChipWord.Die v) ⌝ }
+    ensures { λ r. ⌜ TakenOk r line (add (partOf s) ChipWord.Die (chipValues ChipWord.Die v)) ⌝ }
+{
+    let DieMade::Made(die) = Die::new(v[0], v[1]) else {
+        return with_fault(s, Refusal { no: 4, line });
+    };
+    let mut chip = s.chip;
+    chip.die = die;
+    with_chip(s, ChipWord::Die, chip)
+}
+
+// What a fix adds: a last fix. Fix leaves the die 9; fix overlaps an earlier fix 10.
+fn put_fix(s: State, f: Fix, line: usize) -> Taken
+    requires { ⌜ Sound s ⌝ }
+    requires { ⌜ Entered chipKind (partOf s) ChipWord.Fix ⌝ }
+    ensures { λ r. ⌜ TakenOk r line (addFix (partOf s) f) ⌝ }
+{
+    let mut chip = s.chip;
+    let k = chip.k;
+    let fixes = chip.fixes;
+    let inside = chip_text::fix_in_die(chip.die, f);
+    let clear = chip_text::clear_of_fixes(f, fixes, k);
+    if !inside {
+        return with_fault(s, Refusal { no: 9, line });
+    }
+    if !clear {
+        return with_fault(s, Refusal { no: 10, line });
+    }
+    chip.fixes[k] = f;
+    chip.k = k + 1;
+    with_chip(s, ChipWord::Fix, chip)
+}
+
+// What a `fix` line adds.
+fn add_fix(s: State, v: [u64; 4], line: usize) -> Taken
+    requires { ⌜ Sound s ⌝ }
+    requires { ⌜ ReadAs chipWords ChipWord.Fix (chipValues ChipWord.Fix v) ⌝ }
+    requires { ⌜ Entered chipKind (partOf s) ChipWord.Fix ⌝ }
+    ensures { λ r. ⌜ TakenOk r line (add (partOf s) ChipWord.Fix (chipValues ChipWord.Fix v)) ⌝ }
+{
+    let FixMade::Made(f) = Fix::new(v[0], v[1], v[2], v[3]) else {
+        return with_fault(s, Refusal { no: 4, line });
+    };
+    put_fix(s, f, line)
+}
+
+// What a `mac` line adds: a last macro.
+fn add_mac(s: State, v: [u64; 4], line: usize) -> Taken
+    requires { ⌜ Sound s ⌝ }
+    requires { ⌜ ReadAs chipWords ChipWord.Mac (chipValues ChipWord.Mac v) ⌝ }
+    requires { ⌜ Entered chipKind (partOf s) ChipWord.Mac ⌝ }
+    ensures { λ r. ⌜ TakenOk r line (add (partOf s) ChipWord.Mac (chipValues ChipWord.Mac v)) ⌝ }
+{
+    let MacMade::Made(mac) = Mac::new(v[0], v[1]) else {
+        return with_fault(s, Refusal { no: 4, line });
+    };
+    let mut chip = s.chip;
+    let n = chip.n;
+    chip.macs[n] = mac;
+    chip.n = n + 1;
+    with_chip(s, ChipWord::Mac, chip)
+}
+
+// What a `net` line adds: a last net, without pins.
+fn add_net(s: State, v: [u64; 4], line: usize) -> Taken
+    requires { ⌜ Sound s ⌝ }
+    requires { ⌜ ReadAs chipWords ChipWord.Net (chipValues ChipWord.Net v) ⌝ }
+    requires { ⌜ Entered chipKind (partOf s) ChipWord.Net ⌝ }
+    ensures { λ r. ⌜ TakenOk r line (add (partOf s) ChipWord.Net (chipValues ChipWord.Net v)) ⌝ }
+{
+    let NetMade::Made(net) = Net::new(v[0], 0) else {
+        return with_fault(s, Refusal { no: 4, line });
+    };
+    let mut chip = s.chip;
+    let t = chip.t;
+    chip.nets[t] = net;
+    chip.t = t + 1;
+    with_chip(s, ChipWord::Net, chip)
+}
+
+// What a `pin` line adds: a last pin of the last net. No such macro 8.
+fn add_pin(s: State, v: [u64; 4], line: usize) -> Taken
+    requires { ⌜ Sound s ⌝ }
+    requires { ⌜ ReadAs chipWords ChipWord.Pin (chipValues ChipWord.Pin v) ⌝ }
+    requires { ⌜ Entered chipKind (partOf s) ChipWord.Pin ⌝ }
+    ensures { λ r. ⌜ TakenOk r line (add (partOf s) ChipWord.Pin (chipValues ChipWord.Pin v)) ⌝ }
+{
+    let m = v[0] as usize;
+    let PinMade::Made(pin) = Pin::held(m, v[1], v[2]) else {
+        return with_fault(s, Refusal { no: 4, line });
+    };
+    let mut chip = s.chip;
+    if chip.n < m {
+        return with_fault(s, Refusal { no: 8, line });
+    }
+    let last = chip.t - 1;
+    let q = s.pins;
+    let net = chip.nets[last];
+    chip.nets[last] = Net {
+        weight: net.weight,
+        pins: net.pins + 1,
+    };
+    chip.pins[q] = pin;
+    Taken {
+        fault: Fault::Clear,
+        state: State {
+            last: ChipLast::After(ChipWord::Pin),
+            pins: q + 1,
+            chip,
+        },
+    }
+}
+
+// What a line with the word w and the values v adds, or its fault.
+fn add_item(s: State, w: ChipWord, v: [u64; 4], line: usize) -> Taken
+    requires { ⌜ Sound s ⌝ }
+    requires { ⌜ ReadAs chipWords w (chipValues w v) ⌝ }
+    requires { ⌜ Entered chipKind (partOf s) w ⌝ }
+    ensures { λ r. ⌜ TakenOk r line (add (partOf s) w (chipValues w v)) ⌝ }
+{
+    match w {
+        ChipWord::Die => add_die(s, v, line),
+        ChipWord::Fix => add_fix(s, v, line),
+        ChipWord::Mac => add_mac(s, v, line),
+        ChipWord::Net => add_net(s, v, line),
+        ChipWord::Pin => add_pin(s, v, line),
+        ChipWord::End => with_chip(s, ChipWord::End, s.chip),
+    }
+}
+
+// What a line leads to whose word passes the tests before the fields, by the bytes after the word.
+fn take_fields(rest: &[u8], s: State, w: ChipWord, line: usize) -> Taken
+    requires { ⌜ Sound s ⌝ }
+    requires { ⌜ Entered chipKind (partOf s) w ⌝ }
+    ensures { λ r. ⌜ TakenOk r line (stepFields chipKind (partOf s) w (fields (form w) (now (rest .entry)))) ⌝ }
+{
+    let layout = chip_words::layout_of(w);
+    let fields = text_line::read_fields(rest, layout, line);
+    let answer = fields.answer;
+    let values = fields.values;
+    match answer {
+        Fields::Got => add_item(s, w, values, line),
+        Fields::Refused(f) => with_fault(s, f),
+    }
+}
+
+// What a line with these bytes leads to, where it has its LF.
+fn take_line(bytes: &[u8], s: State, line: usize) -> Taken
+    requires { ⌜ Sound s ⌝ }
+    ensures { λ r. ⌜ TakenOk r line (stepBytes chipKind (partOf s) (now (bytes .entry))) ⌝ }
+{
+    let b = text_line::bytes_before(bytes, 44);
+    let ChipFound::Known(w) = chip_words::word_of(&bytes[..b]) else {
+        return with_fault(s, Refusal { no: 2, line });
+    };
+    let no = entry_fault(s, w);
+    if no != 0 {
+        return with_fault(s, Refusal { no, line });
+    }
+    take_fields(&bytes[b..], s, w, line)
+}
+
+// What the line text[a..e] leads to: missing LF 2.
+fn next_line(text: &[u8], a: usize, e: usize, s: State, line: usize) -> Taken
+    requires { ⌜ Sound s ⌝ }
+    requires { ⌜ a ≤ length (now text) ⌝ }
+    requires { ⌜ e ≡ lineEnd (now text) a ⌝ }
+    ensures { λ r. ⌜ TakenOk r line (stepLine chipKind (partOf s) (lineAt (now (text .entry)) a e)) ⌝ }
+{
+    if e == text.len() {
+        return with_fault(s, Refusal { no: 2, line });
+    }
+    take_line(&text[a..e], s, line)
+}
+
+// A refusal, with a blank chip.
+fn refused(f: Refusal) -> ChipRead
+    ensures { λ r. ⌜ r ≡ refusedAt f ⌝ }
+{
+    ChipRead {
+        answer: ChipAnswer::Refused(f),
+        chip: blank_chip(),
+    }
+}
+
+// The end of the text, where line `line` would begin: `end` must stand before it.
+fn finish(s: State, line: usize) -> ChipRead
+    requires { ⌜ Sound s ⌝ }
+    ensures { λ r. ⌜ ReadOk (chipRead (ending chipKind (chipKind .complete (partOf s)) (partOf s) line)) r ⌝ }
+{
+    let last = s.last;
+    let chip = s.chip;
+    if !chip_words::is_last(last, ChipWord::End) {
+        return refused(Refusal { no: 5, line });
+    }
+    ChipRead {
+        answer: ChipAnswer::Accepted,
+        chip,
+    }
+}
+
+// The lines of a text that is not too long.
+fn read_lines(text: &[u8]) -> ChipRead
+    requires { ⌜ length (now text) ≤ mostBytes ⌝ }
+    ensures { λ r. ⌜ ReadOk (readChip (now (text .entry))) r ⌝ }
+{
+    let mut s = State {
+        last: ChipLast::Before,
+        pins: 0,
+        chip: blank_chip(),
+    };
+    let mut a: usize = 0;
+    let mut line: usize = 1;
+    while a < text.len() {
+        let e = text_line::line_end(text, a);
+        let taken = next_line(text, a, e, s, line);
+        let fault = taken.fault;
+        s = taken.state;
+        match fault {
+            Fault::Clear => {
+                a = e + 1;
+                line += 1;
+            }
+            Fault::Refused(f) => {
+                return refused(f);
+            }
+        }
+    }
+    finish(s, line)
+}
+
+// The chip that a text means, or number and line of its refusal: what the answer means, and the whole answer.
+pub fn read_chip(text: &[u8]) -> ChipRead
+    ensures { λ r. ⌜ meantChip r ≡ readChip (now (text .entry)) ⌝ }
+    ensures { λ r. ⌜ r ≡ chipAnswer (readChip (now (text .entry))) ⌝ }
+{
+    if TEXT_MOST < text.len() {
+        return refused(Refusal { no: 1, line: 0 });
+    }
+    read_lines(text)
+}

@@ -1,0 +1,38 @@
+-- An accepted text is the text of the chip that it was read as: `read-text`, `one-text`. It has at most 16,384 bytes: `too-long`, `accepted-short`.
+use mathlib.Core.Path.{_≡_, refl, ap}
+use mathlib.Core.List.{List}
+use Prim.Native.Nat.{ℕ, _≤_, _<_}
+use lib.ListN.{length}
+use Rattle.model.specs.Meaning.{Chip}
+use Rattle.text_grammar.specs.Reading.{Reading, accepted, refused}
+use Rattle.text_grammar.proofs.Items.{no-refusal}
+use Rattle.text_grammar.proofs.Left.{text-too-long}
+use Rattle.text_grammar.proofs.Meaning as meaning
+use Rattle.chip_text.specs.Kind.{Part, start, chipKind}
+use Rattle.chip_text.specs.Text.{chipRead, readChip, chipItems, chipText}
+use Rattle.chip_text.proofs.Told.{words-told}
+use Rattle.chip_text.proofs.Staged.{run-items}
+
+pub chip-accepted : (r : Reading Part) (c : Chip) → chipRead r ≡ accepted c → (s : Part) × (r ≡ accepted s) × (s .chip ≡ c)
+chip-accepted (accepted s) c e = (s, refl, cc)
+chip-accepted (refused n l) c e = no-refusal e
+
+pub chip-means : meaning.Means chipKind start chipRead chipItems
+chip-means = record { told = words-told; meaning = λ s. s .chip; back = chip-accepted; run = run-items }
+
+-- a text of more than 16,384 bytes is refused
+pub too-long : (t : List ℕ) → 16384 < length t → refused 1 0 ≡ readChip t
+unfolding readChip
+too-long t h = ap chipRead (text-too-long chipKind start t h)
+
+pub accepted-short : (t : List ℕ) (c : Chip) → readChip t ≡ accepted c → length t ≤ 16384
+unfolding readChip
+accepted-short = meaning.read-short chip-means
+
+pub read-text : (t : List ℕ) (c : Chip) → readChip t ≡ accepted c → t ≡ chipText c
+unfolding readChip chipText
+read-text = meaning.read-text chip-means
+
+pub one-text : (s t : List ℕ) (c : Chip) → readChip s ≡ accepted c → readChip t ≡ accepted c → s ≡ t
+unfolding readChip
+one-text = meaning.one-text chip-means

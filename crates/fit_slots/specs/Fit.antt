@@ -1,0 +1,91 @@
+-- What a fit answers. Document 01, "The fit" and "Refusal table": the refusal of the chip, tested as its text would be; then the first of 11, 12, 15 whose test fails; else a placement with its length, or no fit.
+use Prim.Native.Nat.{ℕ, _+_, _*_, _/_, _-_}
+use mathlib.Core.Path.{_≡_}
+use mathlib.Core.List.{List, [], _∷_, map}
+use mathlib.Core.Bool.{Bool, true, false, _&&_, _||_}
+use lib.Dec.{leb, eqb}
+use lib.ListN.{length, take, drop}
+use Rattle.model.specs.declared.Spot.{Spot}
+use Rattle.model.specs.Meaning.{Chip}
+use Rattle.refusals.specs.Tests.{Test, test, firstFailed, unlessFailed}
+use Rattle.text_grammar.specs.Reading.{Reading, accepted, refused}
+use Rattle.chip_text.specs.Kind.{pinCount}
+use Rattle.chip_text.specs.Text.{readChip, chipText}
+use Rattle.placement.specs.Letters.{Letter, left, right, low, high, dot}
+use Rattle.placement.specs.Least.{Best, nothing, found, fitOf}
+use Rattle.fit_slots.specs.Amounts.{Flow, Chain}
+
+-- a fit: refused with number and line, no fit, or the wirelength, the number of slots and the placement
+pub data Fit : Type 0 where
+  refusedBy : ℕ → ℕ → Fit
+  noFit : Fit
+  placed : ℕ → ℕ → List Spot → Fit
+
+-- the bytes L, R, B, A and the dot
+abbrev pub isLetter : ℕ → Bool
+isLetter b = eqb b 76 || (eqb b 82 || (eqb b 66 || (eqb b 65 || eqb b 46)))
+
+unfoldable pub areLetters : List ℕ → Bool
+areLetters [] = true
+areLetters (b ∷ s) = isLetter b && areLetters s
+
+abbrev pub pick : Bool → Letter → Letter → Letter
+pick true l m = l
+pick false l m = m
+
+abbrev pub letterOf : ℕ → Letter
+letterOf b = pick (eqb b 76) left (pick (eqb b 82) right (pick (eqb b 66) low (pick (eqb b 65) high dot)))
+
+abbrev pub lettersOf : List ℕ → List Letter
+lettersOf s = map letterOf s
+
+-- "With n macros, k fixes there are p = n(n−1)/2 + n·k letters"
+abbrev pub lettersFor : ℕ → ℕ → ℕ
+lettersFor n k = n * (n - 1) / 2 + n * k
+
+abbrev pub letterCount : Chip → ℕ
+letterCount c = lettersFor (length (c .macs)) (length (c .fixes))
+
+-- 2n + p + 2q slots for each of the two directions
+abbrev pub slotCount : Chip → ℕ
+slotCount c = 2 * (2 * length (c .macs) + letterCount c + 2 * pinCount (c .nets))
+
+abbrev pub bestFit : ℕ → Best → Fit
+bestFit slots nothing = noFit
+bestFit slots (found l ps) = placed l slots ps
+
+-- 11 where there is not one letter for each pair, 12 where a byte is no letter, 15 where the lent list is shorter than the slots
+abbrev pub fitTests : Chip → List ℕ → ℕ → List Test
+fitTests c s room =
+    test 11 (eqb (length s) (letterCount c))
+    ∷ test 12 (areLetters s)
+    ∷ test 15 (leb (slotCount c) room)
+    ∷ []
+
+abbrev pub fitChip : Reading Chip → List ℕ → ℕ → Fit
+fitChip (refused number line) s room = refusedBy number line
+fitChip (accepted c) s room = unlessFailed refusedBy (firstFailed (fitTests c s room)) (bestFit (slotCount c) (fitOf c (lettersOf s)))
+
+-- the fit of a chip and a letter string, with a list of that many slots lent
+unfoldable pub fitLetters : Chip → List ℕ → ℕ → Fit
+fitLetters c s room = fitChip (readChip (chipText c)) s room
+
+-- ---- what the lent list holds: before was in it at entry, after at exit
+
+-- the slots past the last are not touched
+pub record Kept (count : ℕ) (before after : List ℕ) : Type 0 where
+  pub long : length after ≡ length before
+  pub rest : drop count after ≡ drop count before
+
+pub record Fitted (c : Chip) (s : List ℕ) (l count : ℕ) (before after : List ℕ) : Type 0 where
+  pub flow : Flow c (lettersOf s) (take count after) l
+  pub kept : Kept count before after
+
+pub record Refuted (c : Chip) (s : List ℕ) (before after : List ℕ) : Type 0 where
+  pub chain : Chain c (lettersOf s) (take (slotCount c) after)
+  pub kept : Kept (slotCount c) before after
+
+abbrev pub Filled : Chip → List ℕ → Fit → List ℕ → List ℕ → Type 0
+Filled c s (refusedBy number line) before after = after ≡ before
+Filled c s noFit before after = Refuted c s before after
+Filled c s (placed l count ps) before after = Fitted c s l count before after

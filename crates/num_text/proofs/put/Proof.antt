@@ -1,0 +1,31 @@
+-- One byte: past the end nothing is written.
+use Rattle.num_text.proofs.Writing.{past}
+use borrow.Author.Needs.{needs}
+use Rattle.num_text.proofs.put.Statement.{statement}
+use Rattle.num_text.proofs.put.Tie as tie
+
+slice-write-out : tie.Need-slice-write-out
+slice-write-out c = search needs
+
+add-result : tie.Need-add-result
+add-result c = search needs
+
+same-length : tie.Need-same-length
+same-length c = search needs
+
+returns : tie.Need-returns
+returns c = search needs
+
+add-result-2 : tie.Need-add-result-2
+add-result-2 c = search needs
+
+returns-2 : tie.Need-returns-2
+returns-2 c = search (needs, past)
+
+returns-3 : tie.Need-returns-3
+returns-3 c = search (needs, past)
+
+pub put-spec : {M : Type 1} → statement M
+put-spec =
+    tie.close
+    (tie.spec slice-write-out add-result same-length returns add-result-2 returns-2 returns-3)

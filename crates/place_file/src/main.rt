@@ -1,4 +1,0 @@
-// `place FILE`, with nothing on standard input.
-fn main() {
-    console::run();
-}

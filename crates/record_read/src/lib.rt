@@ -1,0 +1,313 @@
+// Reading a record from its text.
+use text_line::Fault;
+use text_line::Fields;
+use model::Mac;
+use model::Outcome;
+use model::Record;
+use model::Refusal;
+use model::Spot;
+use model::SpotMade;
+use model::TEXT_MOST;
+use record_text::RecordWord;
+use record_words::RecordFound;
+use record_words::RecordLast;
+ghost use mathlib.Core.Path.{_≡_};
+ghost use Prim.Native.Nat.{_≤_, _<_};
+ghost use lib.ListN.{length, replicate};
+ghost use Rattle.model.specs.Limits.{mostBytes, mostMacs};
+ghost use Rattle.model.specs.Meaning.{blankSpot};
+ghost use Rattle.text_grammar.specs.Line.{fields};
+ghost use Rattle.text_grammar.specs.Reading.{stepBytes, stepFields, stepLine, ending};
+ghost use Rattle.text_grammar.specs.Steps.{entryFault, Entered, ReadAs, lineEnd, lineAt};
+ghost use Rattle.record_text.specs.Words.{form, recordWords};
+ghost use Rattle.record_text.specs.Kind.{add, recordKind};
+ghost use Rattle.record_text.specs.Text.{recordRead, readRecord};
+ghost use Rattle.record_read.specs.State.{Sound, partOf, recordValues, withFault, TakenOk, RecordIs};
+ghost use Rattle.record_read.specs.Answer.{refusedAt, meantRecord, recordAnswer, ReadOk};
+
+// What reading a record answers.
+pub enum RecordAnswer {
+    Accepted,
+    Refused(Refusal),
+}
+
+// The answer with the record; its spots past the count are blank, and after a refusal the record is.
+pub struct RecordRead {
+    pub answer: RecordAnswer,
+    pub record: Record,
+}
+
+// What has been read: the word of the last line, whether there is a `least` line, its wirelength, and the spots so far with their count.
+pub(crate) struct State {
+    pub last: RecordLast,
+    pub found: bool,
+    pub wl: u64,
+    pub count: usize,
+    pub spots: [Spot; Mac::COUNT],
+}
+
+// What a line leads to: its fault, or what has been read with it.
+pub(crate) struct Taken {
+    pub fault: Fault,
+    pub state: State,
+}
+
+// Blank spots: 0,0 each.
+fn blank_spots() -> [Spot; Mac::COUNT]
+    ensures { λ r. ⌜ r ≡ replicate mostMacs blankSpot ⌝ }
+{
+    [Spot { x: 0, y: 0 }; Mac::COUNT]
+}
+
+// The first fault of a line before its fields: place 5, count 6; or 0.
+fn entry_fault(s: State, w: RecordWord) -> usize
+    requires { ⌜ Sound s ⌝ }
+    ensures { λ r. ⌜ r ≡ entryFault recordKind (partOf s) w ⌝ }
+{
+    let last = s.last;
+    record_words::entry_fault(last, s.count, w)
+}
+
+// A faulty line: what was read before it stays.
+fn with_fault(s: State, f: Refusal) -> Taken
+    ensures { λ r. ⌜ r ≡ withFault s f ⌝ }
+{
+    Taken {
+        fault: Fault::Refused(f),
+        state: s,
+    }
+}
+
+// What a `least` line adds: the wirelength, with no spot yet.
+fn add_least(s: State, v: [u64; 4], line: usize) -> Taken
+    requires { ⌜ Sound s ⌝ }
+    ensures { λ r. ⌜ TakenOk r line (add (partOf s) RecordWord.Least (recordValues RecordWord.Least v)) ⌝ }
+{
+    let spots = blank_spots();
+    Taken {
+        fault: Fault::Clear,
+        state: State {
+            last: RecordLast::After(RecordWord::Least),
+            found: true,
+            wl: v[0],
+            count: 0,
+            spots,
+        },
+    }
+}
+
+// What a `none` line adds: that there is no placement.
+fn add_none(s: State, v: [u64; 4], line: usize) -> Taken
+    requires { ⌜ Sound s ⌝ }
+    ensures { λ r. ⌜ TakenOk r line (add (partOf s) RecordWord.None (recordValues RecordWord.None v)) ⌝ }
+{
+    let spots = blank_spots();
+    Taken {
+        fault: Fault::Clear,
+        state: State {
+            last: RecordLast::After(RecordWord::None),
+            found: false,
+            wl: 0,
+            count: 0,
+            spots,
+        },
+    }
+}
+
+// What an `at` line adds: the spot of macro m. m out of turn 8. The values that were read are in their ranges, so the constructor does not refuse them.
+fn add_at(s: State, v: [u64; 4], line: usize) -> Taken
+    requires { ⌜ Sound s ⌝ }
+    requires { ⌜ ReadAs recordWords RecordWord.At (recordValues RecordWord.At v) ⌝ }
+    requires { ⌜ Entered recordKind (partOf s) RecordWord.At ⌝ }
+    ensures { λ r. ⌜ TakenOk r line (add (partOf s) RecordWord.At (recordValues RecordWord.At v)) ⌝ }
+{
+    let m = v[0] as usize;
+    let n = s.count;
+    if m != n + 1 {
+        return with_fault(s, Refusal { no: 8, line });
+    }
+    let SpotMade::Made(p) = Spot::new(v[1], v[2]) else {
+        return with_fault(s, Refusal { no: 4, line });
+    };
+    let mut spots = s.spots;
+    spots[n] = p;
+    Taken {
+        fault: Fault::Clear,
+        state: State {
+            last: RecordLast::After(RecordWord::At),
+            found: s.found,
+            wl: s.wl,
+            count: n + 1,
+            spots,
+        },
+    }
+}
+
+// What the `done` line adds: nothing.
+fn add_done(s: State, v: [u64; 4], line: usize) -> Taken
+    requires { ⌜ Sound s ⌝ }
+    ensures { λ r. ⌜ TakenOk r line (add (partOf s) RecordWord.Done (recordValues RecordWord.Done v)) ⌝ }
+{
+    let spots = s.spots;
+    Taken {
+        fault: Fault::Clear,
+        state: State {
+            last: RecordLast::After(RecordWord::Done),
+            found: s.found,
+            wl: s.wl,
+            count: s.count,
+            spots,
+        },
+    }
+}
+
+// What a line with the word w and the values v adds, or its fault.
+fn add_item(s: State, w: RecordWord, v: [u64; 4], line: usize) -> Taken
+    requires { ⌜ Sound s ⌝ }
+    requires { ⌜ ReadAs recordWords w (recordValues w v) ⌝ }
+    requires { ⌜ Entered recordKind (partOf s) w ⌝ }
+    ensures { λ r. ⌜ TakenOk r line (add (partOf s) w (recordValues w v)) ⌝ }
+{
+    match w {
+        RecordWord::Least => add_least(s, v, line),
+        RecordWord::None => add_none(s, v, line),
+        RecordWord::At => add_at(s, v, line),
+        RecordWord::Done => add_done(s, v, line),
+    }
+}
+
+// What a line leads to whose word passes the tests before the fields, by the bytes after the word.
+fn take_fields(rest: &[u8], s: State, w: RecordWord, line: usize) -> Taken
+    requires { ⌜ Sound s ⌝ }
+    requires { ⌜ Entered recordKind (partOf s) w ⌝ }
+    ensures { λ r. ⌜ TakenOk r line (stepFields recordKind (partOf s) w (fields (form w) (now (rest .entry)))) ⌝ }
+{
+    let layout = record_words::layout_of(w);
+    let fields = text_line::read_fields(rest, layout, line);
+    let answer = fields.answer;
+    let values = fields.values;
+    match answer {
+        Fields::Got => add_item(s, w, values, line),
+        Fields::Refused(f) => with_fault(s, f),
+    }
+}
+
+// What a line with these bytes leads to, where it has its LF.
+fn take_line(bytes: &[u8], s: State, line: usize) -> Taken
+    requires { ⌜ Sound s ⌝ }
+    ensures { λ r. ⌜ TakenOk r line (stepBytes recordKind (partOf s) (now (bytes .entry))) ⌝ }
+{
+    let b = text_line::bytes_before(bytes, 44);
+    let RecordFound::Known(w) = record_words::word_of(&bytes[..b]) else {
+        return with_fault(s, Refusal { no: 2, line });
+    };
+    let no = entry_fault(s, w);
+    if no != 0 {
+        return with_fault(s, Refusal { no, line });
+    }
+    take_fields(&bytes[b..], s, w, line)
+}
+
+// What the line text[a..e] leads to: missing LF 2.
+fn next_line(text: &[u8], a: usize, e: usize, s: State, line: usize) -> Taken
+    requires { ⌜ Sound s ⌝ }
+    requires { ⌜ a ≤ length (now text) ⌝ }
+    requires { ⌜ e ≡ lineEnd (now text) a ⌝ }
+    ensures { λ r. ⌜ TakenOk r line (stepLine recordKind (partOf s) (lineAt (now (text .entry)) a e)) ⌝ }
+{
+    if e == text.len() {
+        return with_fault(s, Refusal { no: 2, line });
+    }
+    take_line(&text[a..e], s, line)
+}
+
+// A refusal, with a blank record.
+fn refused(f: Refusal) -> RecordRead
+    ensures { λ r. ⌜ r ≡ refusedAt f ⌝ }
+{
+    let spots = blank_spots();
+    RecordRead {
+        answer: RecordAnswer::Refused(f),
+        record: Record {
+            outcome: Outcome::None,
+            spots,
+        },
+    }
+}
+
+// The record that has been read.
+fn record_of(s: State) -> Record
+    requires { ⌜ Sound s ⌝ }
+    ensures { λ r. ⌜ RecordIs r (partOf s .result) ⌝ }
+{
+    let spots = s.spots;
+    if s.found {
+        return Record {
+            outcome: Outcome::Least(s.wl, s.count),
+            spots,
+        };
+    }
+    Record {
+        outcome: Outcome::None,
+        spots,
+    }
+}
+
+// The end of the text, where line `line` would begin: `done` must stand before it.
+fn finish(s: State, line: usize) -> RecordRead
+    requires { ⌜ Sound s ⌝ }
+    ensures { λ r. ⌜ ReadOk (recordRead (ending recordKind (recordKind .complete (partOf s)) (partOf s) line)) r ⌝ }
+{
+    let last = s.last;
+    if !record_words::is_last(last, RecordWord::Done) {
+        return refused(Refusal { no: 5, line });
+    }
+    RecordRead {
+        answer: RecordAnswer::Accepted,
+        record: record_of(s),
+    }
+}
+
+// The lines of a text that is not too long.
+fn read_lines(text: &[u8]) -> RecordRead
+    requires { ⌜ length (now text) ≤ mostBytes ⌝ }
+    ensures { λ r. ⌜ ReadOk (readRecord (now (text .entry))) r ⌝ }
+{
+    let spots = blank_spots();
+    let mut s = State {
+        last: RecordLast::Before,
+        found: false,
+        wl: 0,
+        count: 0,
+        spots,
+    };
+    let mut a: usize = 0;
+    let mut line: usize = 1;
+    while a < text.len() {
+        let e = text_line::line_end(text, a);
+        let taken = next_line(text, a, e, s, line);
+        let fault = taken.fault;
+        s = taken.state;
+        match fault {
+            Fault::Clear => {
+                a = e + 1;
+                line += 1;
+            }
+            Fault::Refused(f) => {
+                return refused(f);
+            }
+        }
+    }
+    finish(s, line)
+}
+
+// The record that a text means, or number and line of its refusal: what the answer means, and the whole answer.
+pub fn read_record(text: &[u8]) -> RecordRead
+    ensures { λ r. ⌜ meantRecord r ≡ readRecord (now (text .entry)) ⌝ }
+    ensures { λ r. ⌜ r ≡ recordAnswer (readRecord (now (text .entry))) ⌝ }
+{
+    if TEXT_MOST < text.len() {
+        return refused(Refusal { no: 1, line: 0 });
+    }
+    read_lines(text)
+}

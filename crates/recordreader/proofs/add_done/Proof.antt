@@ -1,9 +1,0 @@
-use Rattle.recordreader.proofs.Added.{done-added}
-use Rattle.recordreader.proofs.add_done.Statement.{statement}
-use Rattle.recordreader.proofs.add_done.Tie as tie
-
-returns : tie.Need-returns
-returns c = search done-added
-
-pub add-done-spec : {M : Type 1} → statement M
-add-done-spec = tie.close (tie.spec returns)

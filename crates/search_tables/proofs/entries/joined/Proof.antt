@@ -1,0 +1,19 @@
+use Rattle.search_tables.proofs.Stores.{joined-on, joined-first}
+use borrow.Author.Needs.{needs}
+use Rattle.search_tables.proofs.entries.joined.Statement.{statement}
+use Rattle.search_tables.proofs.entries.joined.Tie as tie
+
+higher-requires : tie.Need-higher-requires
+higher-requires c κs = search needs
+
+lesser-requires : tie.Need-lesser-requires
+lesser-requires c κs = search needs
+
+returns : tie.Need-returns
+returns c = search joined-on
+
+returns-2 : tie.Need-returns-2
+returns-2 c = search joined-first
+
+pub joined-spec : {M : Type 1} → statement M
+joined-spec = tie.close (tie.spec higher-requires lesser-requires returns returns-2)

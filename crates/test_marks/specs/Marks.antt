@@ -1,0 +1,50 @@
+-- The marked cases of document 01, from bytes to bytes: what is printed for a chip's text, and the fit of a letter string.
+use Prim.Native.Nat.{ℕ}
+use Prim.Native.Char.{code}
+use Prim.Native.String.{String, [] as empty, _∷_ as _▹_}
+use mathlib.Core.List.{List, [], _∷_, _++_}
+use Rattle.text_grammar.specs.Line.{lineFeed}
+use Rattle.fit_slots.specs.Fit.{Fit, noFit, placed}
+
+-- the bytes of ASCII characters
+unfoldable pub bytes : String → List ℕ
+bytes empty = []
+bytes (c ▹ s) = code c ∷ bytes s
+
+-- the bytes of lines, each with its LF
+unfoldable pub text : List String → List ℕ
+text [] = []
+text (s ∷ ls) = bytes s ++ (lineFeed ∷ text ls)
+
+-- a chip, and what is printed for it
+pub record RecordCase : Type 0 where
+  pub chip : List String
+  pub prints : List String
+
+-- a chip, letters, and their fit: its length, the number of its slots and its corners, or none
+pub record FitCase : Type 0 where
+  pub chip : List String
+  pub letters : String
+  pub answer : Fit
+
+abbrev pub example : List String
+example = "die,w,5,h,3" ∷ "fix,x,2,y,0,w,1,h,2" ∷ "mac,w,2,h,2" ∷ "mac,w,2,h,1" ∷ "net,w,3" ∷ "pin,m,1,x,0,y,0" ∷ "pin,m,2,x,0,y,0" ∷ "end" ∷ []
+
+abbrev pub markedRecords : List RecordCase
+markedRecords =
+    record { chip = example; prints = "least,wl,3" ∷ "at,m,1,x,0,y,1" ∷ "at,m,2,x,0,y,0" ∷ "done" ∷ [] } ∷
+    record { chip = "die,w,3,h,1" ∷ "mac,w,2,h,1" ∷ "mac,w,2,h,1" ∷ "end" ∷ []; prints = "none" ∷ "done" ∷ [] } ∷
+    record { chip = "die,w,4,h,1" ∷ "mac,w,2,h,1" ∷ "mac,w,2,h,1" ∷ "end" ∷ []; prints = "least,wl,0" ∷ "at,m,1,x,0,y,0" ∷ "at,m,2,x,2,y,0" ∷ "done" ∷ [] } ∷
+    record { chip = "die,w,4,h,1" ∷ "net,w,2" ∷ "pin,m,0,x,-2,y,0" ∷ "pin,m,0,x,3,y,1" ∷ "end" ∷ []; prints = "least,wl,12" ∷ "done" ∷ [] } ∷
+    record { chip = "die,w,2,h,1" ∷ "fix,x,0,y,0,w,1,h,1" ∷ "mac,w,1,h,1" ∷ "end" ∷ []; prints = "least,wl,0" ∷ "at,m,1,x,1,y,0" ∷ "done" ∷ [] } ∷
+    record { chip = "die,w,2,h,1" ∷ "fix,x,0,y,0,w,1,h,1" ∷ "mac,w,2,h,1" ∷ "end" ∷ []; prints = "none" ∷ "done" ∷ [] } ∷
+    []
+
+abbrev pub markedFits : List FitCase
+markedFits =
+    record { chip = example; letters = "ALL"; answer = placed 3 22 (record { x = 0; y = 1 } ∷ record { x = 0; y = 0 } ∷ []) } ∷
+    record { chip = example; letters = "BLL"; answer = placed 6 22 (record { x = 0; y = 0 } ∷ record { x = 0; y = 2 } ∷ []) } ∷
+    record { chip = example; letters = "LLR"; answer = placed 9 22 (record { x = 0; y = 0 } ∷ record { x = 3; y = 0 } ∷ []) } ∷
+    record { chip = example; letters = "LLL"; answer = noFit } ∷
+    record { chip = example; letters = "..."; answer = placed 0 22 (record { x = 0; y = 0 } ∷ record { x = 0; y = 0 } ∷ []) } ∷
+    []

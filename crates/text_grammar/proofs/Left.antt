@@ -1,0 +1,46 @@
+-- Reading line by line: what is left to read, and each end of the reading.
+use mathlib.Core.Path.{_≡_, sym, _∙_}
+use mathlib.Core.List.{List}
+use Prim.Native.Nat.{ℕ, suc, _+_, _≤_, _<_}
+use native.Mathlib.Numerals.{add-one}
+use lib.ListN.{length, drop, drop-of-length-le}
+use borrow.Author.Tests.{le-leb, lt-leb}
+use Rattle.text_grammar.specs.Line.{lines}
+use Rattle.text_grammar.specs.Reading.{Kind, Step, next, fault, refused, stepLine, readLines, onward, ending, readText}
+use Rattle.text_grammar.specs.Steps.{lineEnd, lineAt}
+use Rattle.text_grammar.proofs.LineAt.{lines-from}
+
+module _ {W S : Type 0} (k : Kind W S) (start : S) (text : List ℕ) where
+  -- s is what the lines before `line` say, and the text from a on is left to read
+  pub record Left (s : S) (a line : ℕ) : Type 0 where
+    pub rest : readText k start text ≡ readLines k s line (lines (drop a text))
+
+  -- ---- before the first line
+
+  pub text-too-long : k .mostBytes < length text → refused 1 0 ≡ readText k start text
+  unfolding readText
+  text-too-long h = rw (lt-leb (length text) (k .mostBytes) h)
+
+  pub text-left : length text ≤ k .mostBytes → Left start 0 1
+  unfolding readText
+  text-left h = record { rest = rw (le-leb (length text) (k .mostBytes) h) }
+
+  module _ (s : S) (a line : ℕ) (left : Left s a line) where
+    -- ---- a line
+
+    module _ (z : ℕ) (end : z ≡ lineEnd text a) (h : a < length text) where
+      rest-lines : (t : Step S) → t ≡ stepLine k s (lineAt text a z) → readText k start text ≡ onward k t line (λ p. readLines k p (suc line) (lines (drop (suc z) text)))
+      unfolding readLines
+      rest-lines t e = left .rest ∙ rw (lines-from text a z end h, e)
+
+      pub text-fails : (n : ℕ) → fault n ≡ stepLine k s (lineAt text a z) → refused n line ≡ readText k start text
+      text-fails n e = sym (rest-lines (fault n) e)
+
+      pub text-goes-on : (t : S) → next t ≡ stepLine k s (lineAt text a z) → Left t (z + 1) (line + 1)
+      text-goes-on t e = record { rest = rest-lines (next t) e ∙ rw (add-one line, add-one z) }
+
+    -- ---- after the last line
+
+    pub text-ends : length text ≤ a → readText k start text ≡ ending k (k .complete s) s line
+    unfolding readLines lines
+    text-ends h = left .rest ∙ rw (drop-of-length-le text {i = a} h)

@@ -1,0 +1,40 @@
+-- The steps of a reader: the tests of a line before its fields, and where a line stands in the text.
+use Prim.Native.Nat.{ℕ, _+_, _-_, min}
+use mathlib.Core.Path.{_≡_}
+use mathlib.Core.List.{List}
+use mathlib.Core.Bool.{Bool, true, false}
+use lib.Dec.{ltb}
+use lib.ListN.{length, take, drop}
+use Rattle.text_grammar.specs.Line.{Line, Value, got, fields, lineFeed, upTo}
+use Rattle.text_grammar.specs.Words.{Words}
+use Rattle.text_grammar.specs.Reading.{Kind, inPlace}
+
+-- a test, the number where it fails, and what follows where it passes
+abbrev pub need : Bool → ℕ → ℕ → ℕ
+need true n more = more
+need false n more = n
+
+module _ {W S : Type 0} (k : Kind W S) (s : S) (w : W) where
+  -- the first fault before the fields of a line with a known word, or 0
+  unfoldable pub entryFault : ℕ
+  entryFault =
+      need (inPlace k s w) 5
+      (need (k .hasRoom s w) 6
+      (need (k .hasPin s w) 7 0))
+
+  -- w passes the tests before the fields
+  pub record Entered : Type 0 where
+    pub clear : entryFault ≡ 0
+
+-- vs are the values that the fields of some line with the word w are read as
+pub record ReadAs {W : Type 0} (d : Words W) (w : W) (vs : List Value) : Type 0 where
+  pub bytes : List ℕ
+  pub read : fields (d .form w) bytes ≡ got vs
+
+-- the place of the first LF from a on, or the end of the text
+abbrev pub lineEnd : List ℕ → ℕ → ℕ
+lineEnd text a = min (a + length (upTo lineFeed (drop a text))) (length text)
+
+-- the line that begins at a and ends at e; the LF at e is missing where e is the end of the text
+abbrev pub lineAt : List ℕ → ℕ → ℕ → Line
+lineAt text a e = record { bytes = take (e - a) (drop a text); ended = ltb e (length text) }

@@ -1,0 +1,22 @@
+-- The layouts of lines with no field up to three.
+use mathlib.Core.Path.{_≡_}
+use mathlib.Core.List.{List, [], _∷_}
+use Rattle.text_line.specs.declared.Rule.{Rule as HeldRule}
+use Rattle.text_line.specs.declared.Layout.{Layout}
+use Rattle.text_line.specs.Layout.{noRule, laidOut}
+
+module _ (z : HeldRule) (e : z ≡ noRule) where
+  pub fields-none : record { count = 0; rules = z ∷ z ∷ z ∷ z ∷ [] } ≡ laidOut []
+  fields-none = rw e
+
+  pub fields-one : (a : HeldRule) → record { count = 1; rules = a ∷ z ∷ z ∷ z ∷ [] } ≡ laidOut (a ∷ [])
+  fields-one a = rw e
+
+  pub fields-two : (a b a′ b′ : HeldRule) → a ≡ a′ → b ≡ b′ → record { count = 2; rules = a ∷ b ∷ z ∷ z ∷ [] } ≡ laidOut (a′ ∷ b′ ∷ [])
+  fields-two a b a′ b′ p q = rw (e, p, q)
+
+  pub fields-three : (a b c a′ b′ c′ : HeldRule) → a ≡ a′ → b ≡ b′ → c ≡ c′ → record { count = 3; rules = a ∷ b ∷ c ∷ z ∷ [] } ≡ laidOut (a′ ∷ b′ ∷ c′ ∷ [])
+  fields-three a b c a′ b′ c′ p q r = rw (e, p, q, r)
+
+pub fields-four : (a b c d a′ b′ c′ d′ : HeldRule) → a ≡ a′ → b ≡ b′ → c ≡ c′ → d ≡ d′ → record { count = 4; rules = a ∷ b ∷ c ∷ d ∷ [] } ≡ laidOut (a′ ∷ b′ ∷ c′ ∷ d′ ∷ [])
+fields-four a b c d a′ b′ c′ d′ p q r s = rw (p, q, r, s)

@@ -1,0 +1,111 @@
+-- The range of a value, as held and as a number. A number that the reader has cut to its cap is out of every range.
+use mathlib.Core.Path.{_≡_, refl, sym, ap, _∙_}
+use mathlib.Core.Bool.{true, false, and-false, true≢false}
+use Prim.Native.Nat.{ℕ, zero, suc, _+_, _-_, _≤_, _<_, min}
+use native.Mathlib.Decide.{decLe, decLt}
+use native.Mathlib.Omega.{arith}
+use lib.Dec.{leb}
+use lib.IntN.{ℤ, pos, negsuc}
+use lib.Signed.{leZ}
+use borrow.Author.Tests.{le-leb, lt-leb, lt-ltb, le-ltb}
+use Rattle.num_text.specs.declared.Number.the-variants as held
+use Rattle.num_text.specs.Number.{Numeral, number, noNumber}
+use Rattle.num_text.specs.Held.{cap, heldNumber}
+use Rattle.text_grammar.specs.Line.{Fields, faulty, ranged, numbered, valued}
+use Rattle.model.specs.Limits.{isWithin}
+use Rattle.text_line.specs.declared.Rule.{Rule as HeldRule}
+use Rattle.text_line.specs.declared.Field.the-variants as field
+use Rattle.text_line.specs.Held.{lowered}
+use Rattle.text_line.specs.Layout.{rangeOf}
+use Rattle.text_line.specs.Steps.{outOfRange, ifInRange, within}
+
+module _ (r : HeldRule) (v b l : ℕ) where
+  pub too-low : v < r .least → outOfRange l ≡ ifInRange (within r v) v b l
+  too-low h = rw (lt-leb _ _ h)
+
+  pub too-high : r .most < v → outOfRange l ≡ ifInRange (within r v) v b l
+  too-high h = rw (lt-leb v (r .most) h, and-false)
+
+  pub in-range : r .least ≤ v → v ≤ r .most → field.Value v b ≡ ifInRange (within r v) v b l
+  in-range h k = rw (le-leb _ _ h, le-leb _ _ k)
+
+-- ---- held values are ordered as the numbers are
+
+lowered-above : (u v : ℕ) → u ≤ v → lowered u v ≡ pos (v - u)
+lowered-above zero v h = ap pos (omega arith)
+lowered-above (suc u) v h = rw (le-ltb v (suc u) h)
+
+lowered-below : (u v : ℕ) → v < u → lowered u v ≡ negsuc (u - suc v)
+lowered-below zero v h = absurd (omega arith)
+lowered-below (suc u) v h = rw (lt-ltb v (suc u) h)
+
+same-leb : (a b c d : ℕ) → (a ≤ b → c ≤ d) → (c ≤ d → a ≤ b) → leb a b ≡ leb c d
+same-leb a b c d f g = by (decLe a b)
+  where
+    by : Dec (a ≤ b) → leb a b ≡ leb c d
+    by (yes h) = rw (le-leb a b h, le-leb c d (f h))
+    by (no n) = rw (lt-leb a b (omega arith), lt-leb c d (by-no (decLe c d)))
+      where
+        by-no : Dec (c ≤ d) → d < c
+        by-no (yes k) = absurd (n (g k))
+        by-no (no k) = omega arith
+
+lowered-order : (u a b : ℕ) → leZ (lowered u a) (lowered u b) ≡ leb a b
+lowered-order u a b = by (decLt a u) (decLt b u)
+  where
+    by : Dec (a < u) → Dec (b < u) → leZ (lowered u a) (lowered u b) ≡ leb a b
+    by (yes h) (yes k) = rw (lowered-below u a h, lowered-below u b k) (same-leb (u - suc b) (u - suc a) a b (λ e. omega arith) (λ e. omega arith))
+    by (yes h) (no k) = rw (lowered-below u a h, lowered-above u b (omega arith), le-leb a b (omega arith))
+    by (no h) (yes k) = rw (lowered-above u a (omega arith), lowered-below u b k, lt-leb a b (omega arith))
+    by (no h) (no k) = rw (lowered-above u a (omega arith), lowered-above u b (omega arith)) (same-leb (a - u) (b - u) a b (λ e. omega arith) (λ e. omega arith))
+
+pub never : {A : Type 0} → true ≡ false → A
+never e = absurd (true≢false e)
+
+-- ---- the range test of the program is that of the rule
+
+module _ (r : HeldRule) (k : r .most < cap) (more : Fields) where
+  held-range : (z : ℤ) (v : ℕ) → z ≡ lowered (r .up) v → valued (ranged (isWithin (rangeOf r) z) z) more ≡ valued (ranged (within r v) (lowered (r .up) v)) more
+  held-range z v e = rw (e, lowered-order (r .up) (r .least) v, lowered-order (r .up) v (r .most))
+
+  raised : (n : ℕ) → pos n ≡ lowered (r .up) (r .up + n)
+  raised n = sym (lowered-above (r .up) (r .up + n) (omega arith) ∙ ap pos (omega arith))
+
+  -- all numbers above the cap are out of range alike
+  cut-range : (n m : ℕ) → m ≡ min cap n → valued (ranged (isWithin (rangeOf r) (pos n)) (pos n)) more ≡ valued (ranged (within r (r .up + m)) (lowered (r .up) (r .up + m))) more
+  cut-range n m e = held-range (pos n) (r .up + n) (raised n) ∙ by (decLe n cap)
+    where
+      by : Dec (n ≤ cap) → valued (ranged (within r (r .up + n)) (lowered (r .up) (r .up + n))) more ≡ valued (ranged (within r (r .up + m)) (lowered (r .up) (r .up + m))) more
+      by (yes h) = ap (λ (x : ℕ). valued (ranged (within r (r .up + x)) (lowered (r .up) (r .up + x))) more) (omega arith)
+      by (no h) = rw (lt-leb (r .up + n) (r .most) (omega arith), lt-leb (r .up + m) (r .most) (omega arith)) (simp and-false)
+
+  pub no-number-held : (q : Numeral) → held.Bad ≡ heldNumber q → valued (numbered q (rangeOf r)) more ≡ faulty 3
+  no-number-held (number (pos n)) e = never (cc)
+  no-number-held (number (negsuc n)) e = never (cc)
+  no-number-held noNumber e = refl
+
+  pub positive-held : (q : Numeral) (m : ℕ) → held.Value false m ≡ heldNumber q → valued (numbered q (rangeOf r)) more ≡ valued (ranged (within r (r .up + m)) (lowered (r .up) (r .up + m))) more
+  positive-held (number (pos n)) m e = cut-range n m (cc)
+  positive-held (number (negsuc n)) m e = never (cc)
+  positive-held noNumber m e = never (cc)
+
+  -- a number below 0 that is held
+  pub negative-held : (q : Numeral) (m : ℕ) → held.Value true m ≡ heldNumber q → r .up ≤ 4096 → m ≤ r .up → valued (numbered q (rangeOf r)) more ≡ valued (ranged (within r (r .up - m)) (lowered (r .up) (r .up - m))) more
+  negative-held (number (pos n)) m e u h = never (cc)
+  negative-held (number (negsuc n)) m e u h =
+      let c : m ≡ min cap (suc n) = cc in
+      held-range (negsuc n) (r .up - m) (sym (lowered-below (r .up) (r .up - m) (omega arith) ∙ ap negsuc (omega arith)))
+  negative-held noNumber m e u h = never (cc)
+
+  -- and one that is too far below
+  far-below : (n : ℕ) → r .up ≤ n → leZ (lowered (r .up) (r .least)) (negsuc n) ≡ false
+  far-below n h = by (decLt (r .least) (r .up))
+    where
+      by : Dec (r .least < r .up) → leZ (lowered (r .up) (r .least)) (negsuc n) ≡ false
+      by (yes l) = rw (lowered-below (r .up) (r .least) l, lt-leb n (r .up - suc (r .least)) (omega arith))
+      by (no l) = rw (lowered-above (r .up) (r .least) (omega arith))
+
+  pub below-held : (q : Numeral) (m : ℕ) → held.Value true m ≡ heldNumber q → r .up < m → valued (numbered q (rangeOf r)) more ≡ faulty 4
+  below-held (number (pos n)) m e h = never (cc)
+  below-held (number (negsuc n)) m e h = let c : m ≡ min cap (suc n) = cc in rw (far-below n (omega arith))
+  below-held noNumber m e h = never (cc)

@@ -1,0 +1,94 @@
+-- A field: its name, its number, its range.
+use Rattle.text_line.proofs.OneField.{no-mark, name-end, name-end-fits, field-end, field-end-fits, no-number, too-far-below, negative, positive, magnitude-fits}
+use borrow.Author.Needs.{needs}
+use Rattle.text_line.proofs.read_field.Statement.{statement}
+use Rattle.text_line.proofs.read_field.Tie as tie
+
+starts-at-requires : tie.Need-starts-at-requires
+starts-at-requires c κs = search needs
+
+returns : tie.Need-returns
+returns c = search no-mark
+
+add-p : tie.Need-add-p
+add-p c = search (needs, name-end-fits)
+
+sub-bytes-before : tie.Need-sub-bytes-before
+sub-bytes-before c = search name-end
+
+part-bytes-before-start : tie.Need-part-bytes-before-start
+part-bytes-before-start c = search (needs, name-end)
+
+part-bytes-before-end : tie.Need-part-bytes-before-end
+part-bytes-before-end c = search needs
+
+bytes-before-requires : tie.Need-bytes-before-requires
+bytes-before-requires c κs = search needs
+
+add-b : tie.Need-add-b
+add-b c = search (needs, field-end-fits)
+
+sub-read-number : tie.Need-sub-read-number
+sub-read-number c = search needs
+
+part-read-number-start : tie.Need-part-read-number-start
+part-read-number-start c = search needs
+
+part-read-number-end : tie.Need-part-read-number-end
+part-read-number-end c = search (needs, field-end)
+
+read-number-requires : tie.Need-read-number-requires
+read-number-requires c κs = search needs
+
+enum-known-negative : tie.Need-enum-known-negative
+enum-known-negative c = search needs
+
+enum-told : tie.Need-enum-told
+enum-told c = search needs
+
+returns-2 : tie.Need-returns-2
+returns-2 c = search no-number
+
+returns-3 : tie.Need-returns-3
+returns-3 c = search too-far-below
+
+in-range-requires : tie.Need-in-range-requires
+in-range-requires c κs = search needs
+
+returns-4 : tie.Need-returns-4
+returns-4 c = search negative
+
+add-in-range : tie.Need-add-in-range
+add-in-range c = search (needs, magnitude-fits)
+
+in-range-requires-2 : tie.Need-in-range-requires-2
+in-range-requires-2 c κs = search needs
+
+returns-5 : tie.Need-returns-5
+returns-5 c = search positive
+
+pub read-field-spec : {M : Type 1} → statement M
+read-field-spec =
+    tie.close
+    (tie.spec
+    starts-at-requires
+    returns
+    add-p
+    sub-bytes-before
+    part-bytes-before-start
+    part-bytes-before-end
+    bytes-before-requires
+    add-b
+    sub-read-number
+    part-read-number-start
+    part-read-number-end
+    read-number-requires
+    enum-known-negative
+    enum-told
+    returns-2
+    returns-3
+    in-range-requires
+    returns-4
+    add-in-range
+    in-range-requires-2
+    returns-5)

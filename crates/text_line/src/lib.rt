@@ -1,0 +1,303 @@
+// One line of a text: where it ends, its word and its fields.
+use num_text::Number;
+use model::Pin;
+use model::Refusal;
+ghost use mathlib.Core.Path.{_≡_};
+ghost use mathlib.Core.List.{[], _∷_};
+ghost use Prim.Native.Nat.{_<_, _≤_};
+ghost use lib.ListN.{length, take, drop};
+ghost use Rattle.text_grammar.specs.Line.{upTo};
+ghost use Rattle.text_grammar.specs.Steps.{lineEnd};
+ghost use Rattle.text_grammar.specs.Words.{same};
+ghost use Rattle.text_line.specs.Layout.{shortRule, noRule, laidOut, Sane, isSane, isLayout, Laid, FieldsOk};
+ghost use Rattle.text_line.specs.Steps.{Starts, ifInRange, within, FieldOk};
+
+// The spelling of a word: five bytes, and how many of them are the word's; the others are 0.
+pub struct Spelling {
+    pub bytes: [u8; 5],
+    pub size: usize,
+}
+
+// A field: its name between two commas (the first `size` bytes of `mark`), how much higher its value is held, and its range, as held.
+pub struct Rule {
+    pub mark: [u8; 4],
+    pub size: usize,
+    pub up: u64,
+    pub least: u64,
+    pub most: u64,
+}
+
+// The fields of a line: the first `count` of `rules`.
+pub struct Layout {
+    pub count: usize,
+    pub rules: [Rule; 4],
+}
+
+// What one field holds: its value, as held, and the place after it; or the refusal.
+pub(crate) enum Field {
+    Value(u64, usize),
+    Refused(Refusal),
+}
+
+// The fault of a line: none, or its refusal.
+pub enum Fault {
+    Clear,
+    Refused(Refusal),
+}
+
+// What reading the fields of a line answers.
+pub enum Fields {
+    Got,
+    Refused(Refusal),
+}
+
+// The answer with the values of the fields, x and y of a pin held 4,096 higher; 0 past the last field, and after a refusal.
+pub struct FieldsRead {
+    pub answer: Fields,
+    pub values: [u64; 4],
+}
+
+// The number of bytes before the first d, or of all where there is no d.
+pub fn bytes_before(s: &[u8], d: u8) -> usize
+    ensures { λ r. ⌜ r ≡ length (upTo d (now (s .entry))) ⌝ }
+{
+    let mut i: usize = 0;
+    while i < s.len() {
+        if s[i] == d {
+            return i;
+        }
+        i += 1;
+    }
+    i
+}
+
+// The place of the first LF from a on, or the end of the text.
+pub fn line_end(text: &[u8], a: usize) -> usize
+    ensures { λ r. ⌜ r ≡ lineEnd (now (text .entry)) a ⌝ }
+{
+    if text.len() < a {
+        return text.len();
+    }
+    a + bytes_before(&text[a..], 10)
+}
+
+// Whether two texts are the same bytes.
+fn same_bytes(s: &[u8], t: &[u8]) -> bool
+    ensures { λ r. ⌜ r ≡ same (now (s .entry)) (now (t .entry)) ⌝ }
+{
+    if s.len() != t.len() {
+        return false;
+    }
+    let mut i: usize = 0;
+    while i < s.len() {
+        if s[i] != t[i] {
+            return false;
+        }
+        i += 1;
+    }
+    true
+}
+
+// Whether the bytes s are the first `size` of those given.
+pub fn spells(bytes: [u8; 5], size: usize, s: &[u8]) -> bool
+    ensures { λ r. ⌜ r ≡ same (take size bytes) (now (s .entry)) ⌝ }
+{
+    if 5 < size {
+        return same_bytes(&bytes, s);
+    }
+    same_bytes(&bytes[..size], s)
+}
+
+// Whether two spellings, the first bytes of those given, are the same.
+pub fn same_spelling(a: [u8; 5], n: usize, b: [u8; 5], m: usize) -> bool
+    ensures { λ r. ⌜ r ≡ same (take n a) (take m b) ⌝ }
+{
+    if 5 < m {
+        return spells(a, n, &b);
+    }
+    spells(a, n, &b[..m])
+}
+
+// A field whose name is the byte `name`.
+pub fn short_rule(name: u8, up: u64, least: u64, most: u64) -> Rule
+    ensures { λ r. ⌜ r ≡ shortRule name up least most ⌝ }
+{
+    Rule {
+        mark: [44, name, 44, 0],
+        size: 3,
+        up,
+        least,
+        most,
+    }
+}
+
+// The field past the last.
+pub fn no_rule() -> Rule
+    ensures { λ r. ⌜ r ≡ noRule ⌝ }
+{
+    Rule {
+        mark: [0; 4],
+        size: 0,
+        up: 0,
+        least: 0,
+        most: 0,
+    }
+}
+
+// The layout of a line with one field, and of a line with none.
+pub fn one_field(rule: Rule) -> Layout
+    ensures { λ r. ⌜ r ≡ laidOut (rule ∷ []) ⌝ }
+{
+    let none = no_rule();
+    Layout {
+        count: 1,
+        rules: [rule, none, none, none],
+    }
+}
+
+pub fn no_fields() -> Layout
+    ensures { λ r. ⌜ r ≡ laidOut [] ⌝ }
+{
+    let none = no_rule();
+    Layout {
+        count: 0,
+        rules: [none, none, none, none],
+    }
+}
+
+// Whether a field is within the limits of reading and writing.
+fn is_sane(rule: Rule) -> bool
+    ensures { λ r. ⌜ r ≡ isSane rule ⌝ }
+{
+    if 4 < rule.size {
+        return false;
+    }
+    if Pin::UP < rule.up {
+        return false;
+    }
+    rule.most < num_text::MOST
+}
+
+// Whether a layout, the first `count` of the rules, is within the limits of reading and writing.
+pub fn is_layout(count: usize, rules: [Rule; 4]) -> bool
+    ensures { λ r. ⌜ r ≡ isLayout count rules ⌝ }
+{
+    if 4 < count {
+        return false;
+    }
+    let mut i: usize = 0;
+    while i < 4 {
+        if !is_sane(rules[i]) {
+            return false;
+        }
+        i += 1;
+    }
+    true
+}
+
+// Whether the first `size` bytes of the mark stand in the text from a on.
+fn starts_at(text: &[u8], a: usize, mark: [u8; 4], size: usize) -> bool
+    requires { ⌜ (a ≤ length (now text)) × (size ≤ 4) ⌝ }
+    ensures { λ r. ⌜ Starts mark size (drop a (now (text .entry))) r ⌝ }
+{
+    if text.len() - a < size {
+        return false;
+    }
+    let mut i: usize = 0;
+    while i < size {
+        if text[a + i] != mark[i] {
+            return false;
+        }
+        i += 1;
+    }
+    true
+}
+
+// The value v of a field that ends at b, if it is in the range.
+fn in_range(v: u64, b: usize, rule: Rule, line: usize) -> Field
+    ensures { λ r. ⌜ r ≡ ifInRange (within rule v) v b line ⌝ }
+{
+    if v < rule.least {
+        return Field::Refused(Refusal { no: 4, line });
+    }
+    if rule.most < v {
+        return Field::Refused(Refusal { no: 4, line });
+    }
+    Field::Value(v, b)
+}
+
+// The field that begins in the text at a, with the comma before its name.
+pub(crate) fn read_field(text: &[u8], a: usize, rule: Rule, line: usize) -> Field
+    requires { ⌜ (a ≤ length (now text)) × Sane rule ⌝ }
+    ensures { λ r. ⌜ FieldOk (now (text .entry)) a rule line r ⌝ }
+{
+    let size = rule.size;
+    let mark = rule.mark;
+    if !starts_at(text, a, mark, size) {
+        return Field::Refused(Refusal { no: 2, line });
+    }
+    let p = a + size;
+    let b = p + bytes_before(&text[p..], 44);
+    let Number::Value(negative, magnitude) = num_text::read_number(&text[p..b]) else {
+        return Field::Refused(Refusal { no: 3, line });
+    };
+    let up = rule.up;
+    if negative {
+        if up < magnitude {
+            return Field::Refused(Refusal { no: 4, line });
+        }
+        return in_range(up - magnitude, b, rule, line);
+    }
+    in_range(up + magnitude, b, rule, line)
+}
+
+// The first `count` of the fields, read from the bytes after a line's word.
+fn read_laid(text: &[u8], count: usize, rules: [Rule; 4], line: usize) -> FieldsRead
+    requires { ⌜ Laid count rules ⌝ }
+    ensures { λ r. ⌜ FieldsOk count rules line (now (text .entry)) r ⌝ }
+{
+    let mut values = [0u64; 4];
+    let mut a: usize = 0;
+    let mut j: usize = 0;
+    while j < count {
+        let rule = rules[j];
+        match read_field(text, a, rule, line) {
+            Field::Value(v, b) => {
+                values[j] = v;
+                a = b;
+                j += 1;
+            }
+            Field::Refused(f) => {
+                return FieldsRead {
+                    answer: Fields::Refused(f),
+                    values: [0; 4],
+                };
+            }
+        }
+    }
+    if a < text.len() {
+        return FieldsRead {
+            answer: Fields::Refused(Refusal { no: 2, line }),
+            values: [0; 4],
+        };
+    }
+    FieldsRead {
+        answer: Fields::Got,
+        values,
+    }
+}
+
+// The fields of a line with that layout, read from the bytes after its word; a layout beyond the limits is refused by 2.
+pub fn read_fields(text: &[u8], layout: Layout, line: usize) -> FieldsRead
+    ensures { λ r. ⌜ FieldsOk (layout .count) (layout .rules) line (now (text .entry)) r ⌝ }
+{
+    let rules = layout.rules;
+    let count = layout.count;
+    if !is_layout(count, rules) {
+        return FieldsRead {
+            answer: Fields::Refused(Refusal { no: 2, line }),
+            values: [0; 4],
+        };
+    }
+    read_laid(text, count, rules, line)
+}
