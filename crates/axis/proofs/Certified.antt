@@ -13,7 +13,7 @@ use lib.ListN.{replicate, getD-replicate, length-replicate, List·getD-eq-defaul
 use Rattle.axis_bounds.specs.Listed.{tails, heads}
 use Rattle.axis_graph.specs.declared.Graph.{Graph}
 use Rattle.axis_graph.specs.declared.Span.{Span}
-use Rattle.axis_graph.specs.Graph.{at, Fine, Holds, Tights, Closed, Leads}
+use Rattle.axis_graph.specs.Graph.{at, GraphWithin, Holds, Tights, Closed, Leads}
 use Rattle.axis_graph.specs.Solved.{Solved}
 use Rattle.axis_graph.proofs.Optimum.{weak-at, strong-at, tight-at}
 use Rattle.axis_values.specs.Values.{Rooted, parentOf, rankOf, Rests}
@@ -21,7 +21,7 @@ use Rattle.axis_amounts.specs.Amounts.{Flow}
 
 -- ---- nodes that 0 leads to
 
-leads-in : (g : Graph) → Fine g → 0 < g .n → (k : ℕ) → Leads g 0 k → k < g .n
+leads-in : (g : Graph) → GraphWithin g → 0 < g .n → (k : ℕ) → Leads g 0 k → k < g .n
 leads-in g fine some k h = by (decLt k (g .n))
   where
     ones : List ℕ
@@ -42,16 +42,16 @@ leads-in g fine some k h = by (decLt k (g .n))
 
 -- ---- as near to node 0 as any
 
-module _ (g : Graph) (f x way : List ℕ) (fine : Fine g) (t : Rooted (g .slots) (g .m) f x way (g .n)) (z : List ℕ) (h : Holds (g .slots) (g .m) z) (c : Tights (g .slots) (g .m) f z) where
-  above : (d k : ℕ) → k < g .n → rankOf way k < d → at x k + at z 0 ≤ at z k + at x 0
+module _ (g : Graph) (f x parents : List ℕ) (fine : GraphWithin g) (t : Rooted (g .slots) (g .m) f x parents (g .n)) (z : List ℕ) (h : Holds (g .slots) (g .m) z) (c : Tights (g .slots) (g .m) f z) where
+  above : (d k : ℕ) → k < g .n → rankOf parents k < d → at x k + at z 0 ≤ at z k + at x 0
   above zero k l u = absurd (omega arith)
   above (suc d) k l u = by (ℕ-discrete k 0) (λ v a b. above d v b (omega arith))
     where
-      by : Dec (k ≡ 0) → ((v : ℕ) → rankOf way v < rankOf way k → v < g .n → at x v + at z 0 ≤ at z v + at x 0) → at x k + at z 0 ≤ at z k + at x 0
+      by : Dec (k ≡ 0) → ((v : ℕ) → rankOf parents v < rankOf parents k → v < g .n → at x v + at z 0 ≤ at z v + at x 0) → at x k + at z 0 ≤ at z k + at x 0
       by (yes e) ih = rw e (omega arith)
       by (no o) ih =
           let q = t .parent k (omega arith) l in
-          let p = parentOf way k in
+          let p = parentOf parents k in
           let e = q .tight .eq in
           ⊎-elim
           (λ w. let i = ih (tails (g .slots) p) (w .1) (fine .tail .lt p (q .slot)) in let b = h .le p (q .slot) in let x1 : at x (heads (g .slots) p) ≡ at x k = ap (at x) (w .0) in let z1 : at z (heads (g .slots) p) ≡ at z k = ap (at z) (w .0) in omega arith)
@@ -60,7 +60,7 @@ module _ (g : Graph) (f x way : List ℕ) (fine : Fine g) (t : Rooted (g .slots)
 
 -- ---- the certificate
 
-module _ (g : Graph) (nets : List Span) (c : ℕ) (x f way : List ℕ) (some : 0 < g .n) (flow : Flow g nets c f) (rest : Rests g f x way) where
+module _ (g : Graph) (nets : List Span) (c : ℕ) (x f parents : List ℕ) (some : 0 < g .n) (flow : Flow g nets c f) (rest : Rests g f x parents) where
   -- a slot from a node to itself that carries is tight, so it asks nothing
   still : (s : ℕ) → tails (g .slots) s ≡ heads (g .slots) s → at f s ≡ 0
   still s e = by (decLt s (g .m)) (ℕ-discrete (at f s) 0)
@@ -86,5 +86,5 @@ module _ (g : Graph) (nets : List Span) (c : ℕ) (x f way : List ℕ) (some : 0
         balance = bal;
         reaches = e;
         least = λ z h. let a = weak-at g nets c fine ends f bal z h in omega arith;
-        smallest = λ z h q k l. above g f x way fine (rest .rooted) z h (tight-at g nets c fine ends f bal z h (omega arith)) (suc (rankOf way k)) k (leads-in g fine some k l) (omega arith);
+        smallest = λ z h q k l. above g f x parents fine (rest .rooted) z h (tight-at g nets c fine ends f bal z h (omega arith)) (suc (rankOf parents k)) k (leads-in g fine some k l) (omega arith);
       }

@@ -10,11 +10,12 @@ use crate::propose::Proposal;
 use crate::propose::propose;
 use axis_amounts::is_chain;
 use axis_amounts::is_flow;
+use axis_bounds::Axis;
 use axis_graph::NODE_ROOM;
+use axis_graph::PARENTS;
 use axis_graph::SLOT_ROOM;
 use axis_graph::Solution;
 use axis_graph::Verdict;
-use axis_graph::WAYS;
 use axis_graph::above::first_above;
 use axis_held::accept::is_held;
 use axis_held::coordinates::coordinates;
@@ -23,14 +24,13 @@ use axis_held::graphs::net_spans;
 use axis_held::graphs::whole_graph;
 use axis_solve::solve_by_growth;
 use axis_values::is_rest;
-use axis_bounds::Axis;
 ghost use Rattle.axis_bounds.specs.Held.{Held};
 ghost use Rattle.axis_graph.specs.Graph.{Shows};
 ghost use Rattle.axis_graph.specs.Service.{SolutionOk};
 ghost use Rattle.axis.specs.Shown.{ShownFit};
 
-// Whether the values are the smallest of the least, the amounts prove it, and `way` has parents and ranks.
-fn shows_fit(a: Axis, x: [u64; NODE_ROOM], f: [u64; SLOT_ROOM], way: [usize; WAYS]) -> bool
+// Whether the values are the smallest of the least, the amounts prove it, and `parents` has parents and ranks.
+fn shows_fit(a: Axis, x: [u64; NODE_ROOM], f: [u64; SLOT_ROOM], parents: [usize; PARENTS]) -> bool
     requires { ⌜ Held a ⌝ }
     ensures { λ r. ⌜ Shows r (ShownFit a x f) ⌝ }
 {
@@ -39,7 +39,7 @@ fn shows_fit(a: Axis, x: [u64; NODE_ROOM], f: [u64; SLOT_ROOM], way: [usize; WAY
     if !is_flow(g, e, a.t, f) {
         return false;
     }
-    is_rest(g, f, x, way)
+    is_rest(g, f, x, parents)
 }
 
 // A proposed answer, if it passes the test, or else the sure one.
@@ -49,8 +49,8 @@ fn judge_fit(a: Axis, c: Proposal) -> Solution
 {
     let v = c.x;
     let f = c.f;
-    let way = c.way;
-    if shows_fit(a, v, f, way) {
+    let parents = c.parents;
+    if shows_fit(a, v, f, parents) {
         let at = coordinates(v, a.n);
         return Solution {
             verdict: Verdict::Solved,

@@ -14,11 +14,11 @@ use crate::tables::put_die;
 use crate::tables::put_letters;
 use crate::tables::put_tables;
 use crate::tables::wide;
+use axis_bounds::Axis;
 use axis_graph::NODE_ROOM;
 use axis_graph::NODES;
+use axis_graph::PARENTS;
 use axis_graph::SLOT_ROOM;
-use axis_graph::WAYS;
-use axis_bounds::Axis;
 use half_fit::service::HalfOutcome;
 use half_fit::service::first_half;
 use std::num::wrapping_add_u32;
@@ -59,12 +59,12 @@ const START: u64 = 250000;
 // Above all places.
 const FAR: u32 = 1000000;
 
-// Values x, amounts f, and `way`: for each node its parent slot, then its rank. Where nothing fits, f is a chain.
+// Values x, amounts f, and `parents`: for each node its parent slot, then its rank. Where nothing fits, f is a chain.
 pub(crate) struct Proposal {
     pub fits: bool,
     pub x: [u64; NODE_ROOM],
     pub f: [u64; SLOT_ROOM],
-    pub way: [usize; WAYS],
+    pub parents: [usize; PARENTS],
 }
 
 // Number k of the part of the state that begins 32 p numbers in.
@@ -139,9 +139,9 @@ fn put_value(x: &mut [u64; NODE_ROOM], k: usize, y: u32, down: u64) {
     x[k % NODE_ROOM] = START + y as u64 - down % 65536;
 }
 
-fn put_tie(way: &mut [usize; WAYS], k: usize, s: usize, r: usize) {
-    way[k % NODES] = s;
-    way[NODES + k % NODES] = r;
+fn put_tie(parents: &mut [usize; PARENTS], k: usize, s: usize, r: usize) {
+    parents[k % NODES] = s;
+    parents[NODES + k % NODES] = r;
 }
 
 // The slot by which macro v hangs on its parent, or on the hi or lo between them.
@@ -174,7 +174,7 @@ fn put_macros(
     lane: usize,
     n: usize,
     x: &mut [u64; NODE_ROOM],
-    way: &mut [usize; WAYS],
+    parents: &mut [usize; PARENTS],
 ) {
     put_value(x, 0, 0, 0);
     let mut v: usize = 0;
@@ -182,7 +182,7 @@ fn put_macros(
         v += 1;
         put_value(x, v, get(st, X, v % 16), 0);
         put_tie(
-            way,
+            parents,
             v,
             tie_slot(by, picks, st, lane, v),
             rank_of(st, v) % 16 * 2,
@@ -258,7 +258,7 @@ fn put_spans(
     n: usize,
     t: usize,
     x: &mut [u64; NODE_ROOM],
-    way: &mut [usize; WAYS],
+    parents: &mut [usize; PARENTS],
 ) {
     let mut j: usize = 0;
     while j < 32 {
@@ -268,11 +268,16 @@ fn put_spans(
         let hi = n % 16 + 1 + 2 * j;
         let top = net_end(tab, st, HI_SIDE, j);
         put_value(x, hi, top.y, base);
-        put_tie(way, hi, hi_slot(picks, lane, top.at), top.rank % 16 * 2 + 1);
+        put_tie(
+            parents,
+            hi,
+            hi_slot(picks, lane, top.at),
+            top.rank % 16 * 2 + 1,
+        );
         let low = net_end(tab, st, LO_SIDE, j);
         put_value(x, hi + 1, low.y, base);
         put_tie(
-            way,
+            parents,
             hi + 1,
             lo_slot(picks, lane, low.at),
             low.rank % 16 * 2 + 1,
@@ -363,7 +368,7 @@ pub(crate) fn propose(a: Axis) -> Proposal {
     let mut st = [0u32; POOL];
     let mut x = [0u64; NODE_ROOM];
     let mut f = [0u64; SLOT_ROOM];
-    let mut way = [0usize; WAYS];
+    let mut parents = [0usize; PARENTS];
     let n = a.n;
     let from = 2 * (n % 16);
     let lane = from + a.p % 1024;
@@ -378,10 +383,25 @@ pub(crate) fn propose(a: Axis) -> Proposal {
     if fits {
         put_flows(&by, &st, &mut f);
         put_entries(&tab, &picks, &st, lane, &mut f);
-        put_macros(&by, &picks, &st, lane, n, &mut x, &mut way);
-        put_spans(&tab, &picks, &st, lane, a.base, n, a.t, &mut x, &mut way);
+        put_macros(&by, &picks, &st, lane, n, &mut x, &mut parents);
+        put_spans(
+            &tab,
+            &picks,
+            &st,
+            lane,
+            a.base,
+            n,
+            a.t,
+            &mut x,
+            &mut parents,
+        );
     } else {
         put_chain(&by, &st, on_chain(&arcs, &st), &mut f);
     }
-    Proposal { fits, x, f, way }
+    Proposal {
+        fits,
+        x,
+        f,
+        parents,
+    }
 }

@@ -21,9 +21,9 @@ use Rattle.axis_bounds.specs.Listed.{tails, heads, pluses, minuses}
 use Rattle.axis_graph.specs.declared.Graph.{Graph}
 use Rattle.axis_graph.specs.declared.Span.{Span}
 use Rattle.axis_graph.specs.Limits.{nodeRoom, slotRoom, netRoom, sideMost, weightMost, amountMost}
-use Rattle.axis_graph.specs.Graph.{at, Fine, Shows}
+use Rattle.axis_graph.specs.Graph.{at, GraphWithin, Shows}
 use Rattle.axis_graph.specs.Solved.{Refuted, los, his, weights, NetEnds}
-use Rattle.axis_amounts.specs.Amounts.{Within, Idle, Gathered, Modest, SlotSums, NetSums, Even, FineSpans, Spanned, Outweighs, Flow}
+use Rattle.axis_amounts.specs.Amounts.{Within, Idle, Gathered, Modest, SlotSums, NetSums, Even, SpansWithin, Spanned, Outweighs, Flow}
 use Rattle.axis_graph.proofs.Zeros.{zero-at}
 use Rattle.axis_graph.proofs.Answers.{shown-by}
 
@@ -82,7 +82,7 @@ module _ (f : List ℕ) where
     sum-most : (end : ℕ → ℕ) (i : ℕ) → i ≤ slotRoom → (r : List ℕ) → Gathered zeros end (at f) i r → (k : ℕ) → k < nodeRoom → at r k ≤ slotRoom * amountMost
     sum-most end i l r h k m = let a = node-most end (at f) amountMost (w .most) i k in let b = h .is k m in let z = zero-at nodeRoom k in omega arith
 
-    module _ (g : Graph) (fine : Fine g) (i : ℕ) (l : i < g .m) (r : List ℕ) where
+    module _ (g : Graph) (fine : GraphWithin g) (i : ℕ) (l : i < g .m) (r : List ℕ) where
       pub into-fits : Gathered zeros (heads (g .slots)) (at f) i r → Fits w64 (at r (heads (g .slots) i) + at f i)
       into-fits h = let a = sum-most (heads (g .slots)) i (let o = fine .slots in omega arith) r h (heads (g .slots) i) (fine .fine i l .head) in let b = w .most i in omega arith
 
@@ -95,7 +95,7 @@ module _ (f : List ℕ) where
       pub out-more : Gathered zeros (tails (g .slots)) (at f) i r → Gathered zeros (tails (g .slots)) (at f) (i + 1) (set r (tails (g .slots) i) (at r (tails (g .slots) i) + at f i))
       out-more h = gathered-more (tails (g .slots)) (at f) zeros i r h (fine .fine i l .tail)
 
-    pub sums-all : (g : Graph) → Fine g → (i : ℕ) (into out : List ℕ) → Gathered zeros (heads (g .slots)) (at f) i into → Gathered zeros (tails (g .slots)) (at f) i out → i ≤ g .m → g .m ≤ i → SlotSums g f into out
+    pub sums-all : (g : Graph) → GraphWithin g → (i : ℕ) (into out : List ℕ) → Gathered zeros (heads (g .slots)) (at f) i into → Gathered zeros (tails (g .slots)) (at f) i out → i ≤ g .m → g .m ≤ i → SlotSums g f into out
     sums-all g fine i into out p q a b =
         let e : i ≡ g .m = omega arith in
         let u = subst (λ (j : ℕ). Gathered zeros (heads (g .slots)) (at f) j into) e p in
@@ -114,13 +114,13 @@ module _ (f : List ℕ) where
 -- ---- the nets
 
 -- the weights of c nets within the limit
-weights-most : (n : ℕ) (nets : List Span) (c : ℕ) → FineSpans n nets c → sum (weights nets) c ≤ c * weightMost
+weights-most : (n : ℕ) (nets : List Span) (c : ℕ) → SpansWithin n nets c → sum (weights nets) c ≤ c * weightMost
 unfolding sum
 weights-most n nets zero h = omega arith
 weights-most n nets (suc c) h = let a = weights-most n nets c (record { at = λ j l. h .at j (omega arith) }) in let b = h .at c (omega arith) .weight in omega arith
 
 -- what the test of the nets shows
-module _ (g : Graph) (fine : Fine g) (nets : List Span) (c : ℕ) (h : FineSpans (g .n) nets c) where
+module _ (g : Graph) (fine : GraphWithin g) (nets : List Span) (c : ℕ) (h : SpansWithin (g .n) nets c) where
   pub nets-spanned : c ≤ netRoom → Spanned nets c
   nets-spanned l = let a = fine .nodes in record { lo = λ j k. let p = h .at j k .lo in omega arith; hi = λ j k. let p = h .at j k .hi in omega arith; total = let w = weights-most (g .n) nets c h in omega arith }
 
@@ -233,7 +233,7 @@ module _ (ss : List Slot) (f : List ℕ) (i w : ℕ) where
     pub minus-one : w ≡ weigh (minuses ss) (at f) i → 0 < at f i → w + minuses ss i ≡ weigh (minuses ss) (at f) (i + 1)
     minus-one e p = weigh-one (minuses ss) (at f) i w e p (wi .most i)
 
-module _ (g : Graph) (f : List ℕ) (fine : Fine g) (wi : Within f 1) (i : ℕ) (l : i < g .m) (w : ℕ) where
+module _ (g : Graph) (f : List ℕ) (fine : GraphWithin g) (wi : Within f 1) (i : ℕ) (l : i < g .m) (w : ℕ) where
   pub plus-fits : w ≡ weigh (pluses (g .slots)) (at f) i → Fits w64 (w + pluses (g .slots) i)
   plus-fits e = let a = weigh-most (pluses (g .slots)) (at f) sideMost i (λ s k. fine .fine s (omega arith) .plus) (wi .most) in let b = fine .fine i l .plus in let o = fine .slots in omega arith
 
@@ -249,7 +249,7 @@ outweighs-all g f i p q ep eq a b =
 
 -- ---- what the sums show
 
-module _ (g : Graph) (f : List ℕ) (fine : Fine g) (into out : List ℕ) (s : SlotSums g f into out) where
+module _ (g : Graph) (f : List ℕ) (fine : GraphWithin g) (into out : List ℕ) (s : SlotSums g f into out) where
   -- a closed chain
   pub refuted : (b : Bool) → Shows b (Within f 1) → not b ≡ false → (d : Bool) → Shows d (Idle g f) → not d ≡ false → (e : Bool) → Shows e (Even into out (g .n)) → not e ≡ false → (r : Bool) → Shows r (Outweighs g f) → Shows r (Refuted g f)
   refuted b wi wn d id idn e ev en r o =
@@ -264,7 +264,7 @@ module _ (g : Graph) (f : List ℕ) (fine : Fine g) (into out : List ℕ) (s : S
       }
 
   -- a flow
-  pub flows : (nets : List Span) (c : ℕ) (q : ℕ) → q ≡ sum (weights nets) c → (b : Bool) → Shows b (Within f q) → not b ≡ false → (d : Bool) → Shows d (Idle g f) → not d ≡ false → (into′ out′ : List ℕ) → NetSums nets c into out into′ out′ → FineSpans (g .n) nets c → (r : Bool) → Shows r (Even into′ out′ (g .n)) → Shows r (Flow g nets c f)
+  pub flows : (nets : List Span) (c : ℕ) (q : ℕ) → q ≡ sum (weights nets) c → (b : Bool) → Shows b (Within f q) → not b ≡ false → (d : Bool) → Shows d (Idle g f) → not d ≡ false → (into′ out′ : List ℕ) → NetSums nets c into out into′ out′ → SpansWithin (g .n) nets c → (r : Bool) → Shows r (Even into′ out′ (g .n)) → Shows r (Flow g nets c f)
   flows nets c q eq b wi wn d id idn into′ out′ ns sp r ev =
       record {
         shown = λ t.
@@ -295,5 +295,5 @@ chain-within f b s e = shown-by b s e
 pub chain-few : (f : List ℕ) (b : Bool) → Shows b (Within f 1) → not b ≡ false → Within f amountMost
 chain-few f b s e = record { most = λ k. let p = shown-by b s e .most k in omega arith }
 
-pub flow-few : (g : Graph) → Fine g → (nets : List Span) (c : ℕ) → FineSpans (g .n) nets c → c ≤ netRoom → (f : List ℕ) (q : ℕ) → q ≡ sum (weights nets) c → (b : Bool) → Shows b (Within f q) → not b ≡ false → Within f amountMost
+pub flow-few : (g : Graph) → GraphWithin g → (nets : List Span) (c : ℕ) → SpansWithin (g .n) nets c → c ≤ netRoom → (f : List ℕ) (q : ℕ) → q ≡ sum (weights nets) c → (b : Bool) → Shows b (Within f q) → not b ≡ false → Within f amountMost
 flow-few g fine nets c h l f q e b s o = record { most = λ k. let p = shown-by b s o .most k in let t = nets-spanned g fine nets c h l .total in omega arith }

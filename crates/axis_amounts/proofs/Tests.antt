@@ -16,7 +16,7 @@ use Rattle.axis_graph.specs.Solved.{noSpan}
 use Rattle.axis_graph.specs.Limits.{slotRoom}
 use Rattle.axis_graph.specs.Graph.{at, Shows}
 use Rattle.axis_graph.specs.Above.{FirstAbove}
-use Rattle.axis_amounts.specs.Amounts.{Within, Idle, Even, FineSpan, FineSpans}
+use Rattle.axis_amounts.specs.Amounts.{Within, Idle, Even, SpanWithin, SpansWithin}
 use Rattle.axis_graph.proofs.FirstAbove.{every-fits}
 
 -- ---- amounts
@@ -67,14 +67,14 @@ module _ (into out : List ℕ) where
 -- ---- nets
 
 module _ (n : ℕ) (nets : List Span) where
-  pub spans-none : FineSpans n nets 0
+  pub spans-none : SpansWithin n nets 0
   spans-none = record { at = λ j l. absurd (omega arith) }
 
-  pub spans-more : (i : ℕ) → FineSpans n nets i → (b : Bool) → Shows b (FineSpan n (getD nets i noSpan)) → not b ≡ false → FineSpans n nets (i + 1)
-  spans-more i h b s e = record { at = below-more (λ j. FineSpan n (getD nets j noSpan)) i (h .at) (shown-by b s e) }
+  pub spans-more : (i : ℕ) → SpansWithin n nets i → (b : Bool) → Shows b (SpanWithin n (getD nets i noSpan)) → not b ≡ false → SpansWithin n nets (i + 1)
+  spans-more i h b s e = record { at = below-more (λ j. SpanWithin n (getD nets j noSpan)) i (h .at) (shown-by b s e) }
 
-  pub spans-all : (i c : ℕ) → FineSpans n nets i → c ≤ i → Shows true (FineSpans n nets c)
+  pub spans-all : (i c : ℕ) → SpansWithin n nets i → c ≤ i → Shows true (SpansWithin n nets c)
   spans-all i c h l = shows-yes (record { at = λ j k. h .at j (omega arith) })
 
-pub spans-by : (n : ℕ) (nets : List Span) (c : ℕ) (b : Bool) → Shows b (FineSpans n nets c) → not b ≡ false → FineSpans n nets c
+pub spans-by : (n : ℕ) (nets : List Span) (c : ℕ) (b : Bool) → Shows b (SpansWithin n nets c) → not b ≡ false → SpansWithin n nets c
 spans-by n nets c b s e = shown-by b s e

@@ -9,7 +9,7 @@ use Rattle.axis_bounds.specs.Listed.{tails, heads, pluses, minuses}
 use Rattle.axis_graph.specs.declared.Graph.{Graph}
 use Rattle.axis_graph.specs.declared.Span.{Span}
 use Rattle.axis_graph.specs.Limits.{nodeRoom, slotRoom, weightMost, amountMost}
-use Rattle.axis_graph.specs.Graph.{at, Fine}
+use Rattle.axis_graph.specs.Graph.{at, GraphWithin}
 use Rattle.axis_graph.specs.Solved.{noSpan, los, his, weights, NetEnds}
 
 -- no slot carries more than q
@@ -50,14 +50,14 @@ pub record Even (into out : List ℕ) (n : ℕ) : Type 0 where
   pub eq : (k : ℕ) → k < n → at into k ≡ at out k
 
 -- a net between two of n nodes, its weight within the limit
-pub record FineSpan (n : ℕ) (p : Span) : Type 0 where
+pub record SpanWithin (n : ℕ) (p : Span) : Type 0 where
   pub lo : p .lo < n
   pub hi : p .hi < n
   pub weight : p .weight ≤ weightMost
 
 -- the first c nets of a graph
-pub record FineSpans (n : ℕ) (nets : List Span) (c : ℕ) : Type 0 where
-  pub at : (j : ℕ) → j < c → FineSpan n (getD nets j noSpan)
+pub record SpansWithin (n : ℕ) (nets : List Span) (c : ℕ) : Type 0 where
+  pub at : (j : ℕ) → j < c → SpanWithin n (getD nets j noSpan)
 
 -- the ends of the first c nets and the sum of their weights are within the limits
 pub record Spanned (nets : List Span) (c : ℕ) : Type 0 where
@@ -72,7 +72,7 @@ pub record Outweighs (g : Graph) (f : List ℕ) : Type 0 where
 
 -- amounts on a graph within the limits that carry the weights of its nets
 pub record Flow (g : Graph) (nets : List Span) (c : ℕ) (f : List ℕ) : Type 0 where
-  pub fine : Fine g
+  pub fine : GraphWithin g
   pub ends : NetEnds g nets c
   pub most : Within f (sum (weights nets) c)
   pub idle : Idle g f

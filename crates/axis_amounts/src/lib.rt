@@ -2,20 +2,20 @@
 //
 // Amounts are a flow where what enters a node and what leaves it is the same, the nets' weights included. A closed chain whose pluses
 // outweigh its minuses shows that no values keep the bounds.
+use axis_bounds::Axis;
 use axis_graph::Graph;
 use axis_graph::NODE_ROOM;
 use axis_graph::SLOT_ROOM;
 use axis_graph::Span;
 use axis_graph::above::first_above;
 use axis_graph::fine::is_fine;
-use axis_bounds::Axis;
 ghost use mathlib.Core.Path.{_≡_};
 ghost use Prim.Native.Nat.{_≤_};
 ghost use Rattle.num_laws.specs.Sum.{sum};
 ghost use Rattle.axis_graph.specs.Limits.{nodeRoom, netRoom, amountMost};
-ghost use Rattle.axis_graph.specs.Graph.{Fine, Shows};
+ghost use Rattle.axis_graph.specs.Graph.{GraphWithin, Shows};
 ghost use Rattle.axis_graph.specs.Solved.{weights, Refuted};
-ghost use Rattle.axis_amounts.specs.Amounts.{Within, Idle, Outweighs, SlotSums, Modest, NetSums, Even, FineSpan, FineSpans, Spanned, Flow};
+ghost use Rattle.axis_amounts.specs.Amounts.{Within, Idle, Outweighs, SlotSums, Modest, NetSums, Even, SpanWithin, SpansWithin, Spanned, Flow};
 
 // The most that a net weighs.
 const WEIGHT_MOST: u64 = 1000;
@@ -64,7 +64,7 @@ fn idle_slots(g: Graph, f: [u64; SLOT_ROOM]) -> bool
 
 // A net between two of n nodes.
 fn fine_span(p: Span, n: usize) -> bool
-    ensures { λ r. ⌜ Shows r (FineSpan n p) ⌝ }
+    ensures { λ r. ⌜ Shows r (SpanWithin n p) ⌝ }
 {
     if n <= p.lo {
         return false;
@@ -81,7 +81,7 @@ fn fine_span(p: Span, n: usize) -> bool
 // The first nets, between n nodes.
 fn fine_spans(nets: [Span; Axis::NETS], count: usize, n: usize) -> bool
     requires { ⌜ count ≤ netRoom ⌝ }
-    ensures { λ r. ⌜ Shows r (FineSpans n nets count) ⌝ }
+    ensures { λ r. ⌜ Shows r (SpansWithin n nets count) ⌝ }
 {
     let mut j: usize = 0;
     while j < count {
@@ -96,7 +96,7 @@ fn fine_spans(nets: [Span; Axis::NETS], count: usize, n: usize) -> bool
 
 // What the slots carry into each node, and out of it.
 fn slot_sums(g: Graph, f: [u64; SLOT_ROOM]) -> Sums
-    requires { ⌜ Fine g ⌝ }
+    requires { ⌜ GraphWithin g ⌝ }
     requires { ⌜ Within f amountMost ⌝ }
     ensures { λ r. ⌜ SlotSums g f (r .into) (r .out) ⌝ }
 {
@@ -158,7 +158,7 @@ fn is_even(b: Sums, n: usize) -> bool
 
 // Whether the pluses of the slots that carry 1 outweigh their minuses.
 fn outweighs(g: Graph, f: [u64; SLOT_ROOM]) -> bool
-    requires { ⌜ Fine g ⌝ }
+    requires { ⌜ GraphWithin g ⌝ }
     requires { ⌜ Within f 1 ⌝ }
     ensures { λ r. ⌜ Shows r (Outweighs g f) ⌝ }
 {
@@ -181,7 +181,7 @@ fn outweighs(g: Graph, f: [u64; SLOT_ROOM]) -> bool
 
 // Whether the amounts of a graph within the limits are a closed chain that no values keep.
 fn refutes(g: Graph, f: [u64; SLOT_ROOM]) -> bool
-    requires { ⌜ Fine g ⌝ }
+    requires { ⌜ GraphWithin g ⌝ }
     ensures { λ r. ⌜ Shows r (Refuted g f) ⌝ }
 {
     if !within(f, 1) {
@@ -225,9 +225,9 @@ fn total(nets: [Span; Axis::NETS], count: usize) -> u64
 
 // Whether the amounts of a graph within the limits carry the weights of its nets from lo to hi.
 fn carries(g: Graph, nets: [Span; Axis::NETS], count: usize, f: [u64; SLOT_ROOM]) -> bool
-    requires { ⌜ Fine g ⌝ }
+    requires { ⌜ GraphWithin g ⌝ }
     requires { ⌜ count ≤ netRoom ⌝ }
-    requires { ⌜ FineSpans (g .n) nets count ⌝ }
+    requires { ⌜ SpansWithin (g .n) nets count ⌝ }
     ensures { λ r. ⌜ Shows r (Flow g nets count f) ⌝ }
 {
     if !within(f, total(nets, count)) {

@@ -10,7 +10,7 @@ use Rattle.num_laws.proofs.Terms.{sum-most}
 use Rattle.flow_laws.specs.Flow.{atNode, Balance}
 use Rattle.flow_laws.proofs.Duality.{no-values}
 use Rattle.axis_bounds.specs.declared.Slot.{Slot}
-use Rattle.axis_bounds.specs.Axis.{Axis, noSlot, Keeps, lengthOn, Fine}
+use Rattle.axis_bounds.specs.Axis.{Axis, noSlot, Keeps, lengthOn, WellFormed}
 use Rattle.axis_bounds.specs.Listed.{listed, slotAt, tails, heads, pluses, minuses, amount, nodeCount, weightOf}
 use Rattle.axis_bounds.specs.Answer.{supply, demand, OnSlots, LeastOn, SolvedOn, UnsolvedOn}
 use Rattle.axis_bounds.specs.Graph.{graphSlots, macroSlots, upper, lower, GraphSolved, GraphRefuted, Coordinates}
@@ -21,7 +21,7 @@ use Rattle.axis_bounds.proofs.Fronts.{listed-front, macros-front, weigh
 use Rattle.axis_bounds.proofs.Idle.{past-end, past-listed}
 use Rattle.axis_bounds.proofs.Oversize.{oversize-refuted}
 
-module _ (a : Axis) (fine : Fine a) where
+module _ (a : Axis) (fine : WellFormed a) where
   -- the weights of all nets
   pub weights-most : sum (weightOf a) (length (a .nets)) ≤ 32000
   weights-most = let p = sum-most (weightOf a) 1000 (length (a .nets)) (λ j l. fine .net j l .high) in let q = fine .nets in omega arith

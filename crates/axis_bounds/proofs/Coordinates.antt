@@ -9,7 +9,7 @@ use Rattle.num_laws.specs.Spread.{spread}
 use Rattle.num_laws.proofs.Sums.{sum-le, sum-add}
 use Rattle.num_laws.proofs.Spreads.{spread-between}
 use Rattle.flow_laws.specs.Flow.{weigh}
-use Rattle.axis_bounds.specs.Axis.{Axis, valueAt, Keeps, places, lengthOn, Fine}
+use Rattle.axis_bounds.specs.Axis.{Axis, valueAt, Keeps, places, lengthOn, WellFormed}
 use Rattle.axis_bounds.specs.Listed.{amount, hiNode, loNode, weightOf}
 use Rattle.axis_bounds.specs.Graph.{graphSlots, Holds, upper, lower, Coordinates}
 use Rattle.axis_bounds.proofs.Sorts.{pinsOn, OfMacros, OfPins, graph-macros, graph-pins}
@@ -21,7 +21,7 @@ pub shifted : (n : ℕ) (x z : List ℕ) → Coordinates n x z → (k : ℕ) →
 shifted n x z c zero l = omega arith
 shifted n x z c (suc i) l = c .at i l
 
-module _ (a : Axis) (fine : Fine a) (x z : List ℕ) (c : Coordinates (length (a .sizes)) x z) where
+module _ (a : Axis) (fine : WellFormed a) (x z : List ℕ) (c : Coordinates (length (a .sizes)) x z) where
   kept-macros : OfMacros a (KeptBy x) → Keeps a z
   kept-macros m =
       record {

@@ -5,7 +5,7 @@ use mathlib.Core.List.{List, [], _∷_, _++_}
 use native.Mathlib.Omega.{arith}
 use lib.ListN.{length, length-append}
 use Rattle.axis_bounds.specs.declared.AxisPin.{AxisPin}
-use Rattle.axis_bounds.specs.Axis.{Axis, NetOn, pinCount, Fine}
+use Rattle.axis_bounds.specs.Axis.{Axis, NetOn, pinCount, WellFormed}
 use Rattle.axis_bounds.specs.Listed.{dieSlots, pinSlots, netSlots, listed, nodeCount}
 use Rattle.axis_bounds.specs.Graph.{endSlots, graphSlots, macroSlots}
 
@@ -60,7 +60,7 @@ module _ (a : Axis) where
   pub length-graph-all : length (graphSlots a) ≡ 2 * length (a .sizes) + length (a .pairs) + 2 * pinCount (a .nets) + 2 * length (a .nets)
   length-graph-all = let p = length-graph in let q = length-listed in omega arith
 
-  module _ (fine : Fine a) where
+  module _ (fine : WellFormed a) where
     pub few-macro-slots : length (macroSlots a) ≤ 136
     few-macro-slots = let p = length-macros in let q = fine .macs in let r = fine .pairs in omega arith
 

@@ -8,7 +8,7 @@ use lib.ListN.{length, List·getD-eq-default}
 use Rattle.flow_laws.specs.Flow.{weigh, Tight}
 use Rattle.flow_laws.proofs.Duality.{exchange, tight-at-least, idle-in, idle-out}
 use Rattle.axis_bounds.specs.declared.Slot.{Slot}
-use Rattle.axis_bounds.specs.Axis.{Axis, noSlot, Fine}
+use Rattle.axis_bounds.specs.Axis.{Axis, noSlot, WellFormed}
 use Rattle.axis_bounds.specs.Listed.{listed, slotAt, tails, heads, pluses, minuses, amount, hiNode, loNode, nodeCount, weightOf}
 use Rattle.axis_bounds.specs.Answer.{supply, demand}
 use Rattle.axis_bounds.specs.Graph.{far, graphSlots, upper, lower, GraphSolved}
@@ -32,7 +32,7 @@ module _ (a : Axis) where
   unfolding lower
   lower-is x = exchange (loNode (length (a .sizes))) (weightOf a) (amount x) (length (a .nets)) (nodeCount a) (record { lt = λ s l. omega arith })
 
-  module _ (fine : Fine a) (j : ℕ) (l : j < length (a .nets)) where
+  module _ (fine : WellFormed a) (j : ℕ) (l : j < length (a .nets)) where
     -- more leaves at hi than enters there, and more enters at lo than leaves there
     hi-demand : supply a (hiNode (length (a .sizes)) j) < demand a (hiNode (length (a .sizes)) j)
     hi-demand =
@@ -81,7 +81,7 @@ module _ (a : Axis) where
           })
           (record { high = λ i q e t. absurd (omega arith); low = λ i q e t. absurd (omega arith) })
 
-module _ (a : Axis) (fine : Fine a) (x f : List ℕ) (g : GraphSolved a x f) where
+module _ (a : Axis) (fine : WellFormed a) (x f : List ℕ) (g : GraphSolved a x f) where
   -- every slot that carries is tight
   pub solved-tight : Tight (tails (graphSlots a)) (heads (graphSlots a)) (pluses (graphSlots a)) (minuses (graphSlots a)) (amount f) (amount x) (length (graphSlots a))
   solved-tight =

@@ -5,14 +5,14 @@ use native.Mathlib.Omega.{arith}
 use lib.ListN.{length}
 use Rattle.flow_laws.specs.Flow.{Ends}
 use Rattle.axis_bounds.specs.declared.Slot.{Slot}
-use Rattle.axis_bounds.specs.Axis.{Axis, Fine}
+use Rattle.axis_bounds.specs.Axis.{Axis, WellFormed}
 use Rattle.axis_bounds.specs.Listed.{listed, tails, heads, amount, hiNode, loNode, nodeCount}
 use Rattle.axis_bounds.specs.Graph.{graphSlots, macroSlots, Holds}
 use Rattle.axis_bounds.proofs.Members.{Each}
 use Rattle.axis_bounds.proofs.Sorts.{OfMacros, OfPins, OfEnds, macros-each, each-macros, listed-each, graph-each, graph-macros, graph-pins, graph-ends, by-node}
 
 -- a slot between nodes below n, of small numbers
-pub record FineSlot (n : ℕ) (e : Slot) : Type 0 where
+pub record WellFormedSlot (n : ℕ) (e : Slot) : Type 0 where
   pub tail : e .tail < n
   pub head : e .head < n
   pub plus : e .plus ≤ 32768
@@ -36,11 +36,11 @@ record Close (x : List ℕ) (k : ℕ) : Type 0 where
 close-near : (n : ℕ) (x : List ℕ) → ((k : ℕ) → k < n → Close x k) → (j k : ℕ) → j < n → k < n → amount x j ≤ amount x k + 250000
 close-near n x h j k l m = let a = h j l .above in let b = h k m .below in omega arith
 
-module _ (a : Axis) (fine : Fine a) where
+module _ (a : Axis) (fine : WellFormed a) where
   abbrev count : ℕ
   count = length (a .sizes)
 
-  fine-macros : (n : ℕ) → count < n → OfMacros a (FineSlot n)
+  fine-macros : (n : ℕ) → count < n → OfMacros a (WellFormedSlot n)
   fine-macros n l =
       record {
         rise = λ i q. record { tail = omega arith; head = omega arith; plus = omega arith; minus = omega arith };
@@ -48,14 +48,14 @@ module _ (a : Axis) (fine : Fine a) where
         pair = λ j q. let p = fine .pair j q in let t = p .tail in let h = p .head in let u = p .plus in let m = p .minus in record { tail = omega arith; head = omega arith; plus = omega arith; minus = omega arith };
       }
 
-  fine-pins : OfPins a (FineSlot (nodeCount a))
+  fine-pins : OfPins a (WellFormedSlot (nodeCount a))
   fine-pins =
       record {
         high = λ j l i q. let p = fine .net j l .pin i q in let n = p .node in let u = p .up in let b = fine .base in record { tail = omega arith; head = omega arith; plus = omega arith; minus = omega arith };
         low = λ j l i q. let p = fine .net j l .pin i q in let n = p .node in let u = p .up in let b = fine .base in record { tail = omega arith; head = omega arith; plus = omega arith; minus = omega arith };
       }
 
-  fine-ends : OfEnds a (FineSlot (nodeCount a))
+  fine-ends : OfEnds a (WellFormedSlot (nodeCount a))
   fine-ends =
       record {
         high = λ j l. record { tail = omega arith; head = omega arith; plus = omega arith; minus = omega arith };
@@ -63,13 +63,13 @@ module _ (a : Axis) (fine : Fine a) where
       }
 
   -- each slot of the graph, of the list and of the macros
-  pub graph-fine : Each (FineSlot (nodeCount a)) (graphSlots a)
+  pub graph-fine : Each (WellFormedSlot (nodeCount a)) (graphSlots a)
   graph-fine = graph-each a _ (fine-macros (nodeCount a) (omega arith)) fine-pins fine-ends
 
-  pub listed-fine : Each (FineSlot (nodeCount a)) (listed a)
+  pub listed-fine : Each (WellFormedSlot (nodeCount a)) (listed a)
   listed-fine = listed-each a _ (fine-macros (nodeCount a) (omega arith)) fine-pins
 
-  pub macro-fine : Each (FineSlot (suc (length (a .sizes)))) (macroSlots a)
+  pub macro-fine : Each (WellFormedSlot (suc (length (a .sizes)))) (macroSlots a)
   macro-fine = macros-each a _ (fine-macros (suc count) (omega arith))
 
   pub graph-tails : Ends (tails (graphSlots a)) (length (graphSlots a)) (nodeCount a)

@@ -7,7 +7,7 @@ use lib.ListN.{length, getD, length-map}
 use Rattle.num_laws.specs.Spread.{most, fewest}
 use Rattle.num_laws.proofs.Spreads.{each-le-most, fewest-le-each, most-le, le-fewest}
 use Rattle.axis_bounds.specs.declared.AxisPin.{AxisPin}
-use Rattle.axis_bounds.specs.Axis.{Axis, noPin, Fine}
+use Rattle.axis_bounds.specs.Axis.{Axis, noPin, WellFormed}
 use Rattle.axis_bounds.specs.Listed.{amount}
 use Rattle.axis_bounds.specs.Graph.{far, macroSlots, Holds}
 use Rattle.axis_bounds.proofs.Sorts.{pinsOn, pinOn, OfMacros, each-macros}
@@ -27,7 +27,7 @@ pub record Spans (base : ℕ) (x : List ℕ) (ps : List AxisPin) (hi lo : ℕ) :
   pub high : hi ≤ amount x 0 + far
   pub low : amount x 0 ≤ lo + far
 
-module _ (a : Axis) (fine : Fine a) (x : List ℕ) (holds : Holds (macroSlots a) x) where
+module _ (a : Axis) (fine : WellFormed a) (x : List ℕ) (holds : Holds (macroSlots a) x) where
   macros : OfMacros a (KeptBy x)
   macros = each-macros a _ (holds-each _ _ holds)
 

@@ -8,7 +8,7 @@ use lib.Seq.{getD-append-add}
 use Rattle.num_laws.proofs.Sums.{sum-eq, sum-add}
 use Rattle.num_laws.proofs.Spreads.{AtMost, top, bottom, top-bottom, each-le-top, bottom-le-each, top-le}
 use Rattle.flow_laws.specs.Flow.{weigh}
-use Rattle.axis_bounds.specs.Axis.{Axis, NetOn, bareNet, valueAt, Keeps, places, lengthOn, Fine}
+use Rattle.axis_bounds.specs.Axis.{Axis, NetOn, bareNet, valueAt, Keeps, places, lengthOn, WellFormed}
 use Rattle.axis_bounds.specs.Listed.{amount, hiNode, loNode, weightOf}
 use Rattle.axis_bounds.specs.Graph.{graphSlots, macroSlots, Holds, upper, lower}
 use Rattle.axis_bounds.proofs.Sorts.{pinsOn, OfMacros, OfPins, OfEnds, macros-each, graph-each}
@@ -91,7 +91,7 @@ module _ (a : Axis) (y : List ℕ) (long : length y ≡ length (a .sizes)) where
       each j e f = let g = top-bottom (places y (pinsOn a j)) in rw (e, f, g) (omega arith)
 
 -- what the coordinates keep, the values of macros and pairs keep
-pub value-macros : (a : Axis) → Fine a → (y : List ℕ) → Keeps a y → (x : List ℕ) → ((k : ℕ) → k ≤ length (a .sizes) → amount x k ≡ a .base + valueAt y k) → OfMacros a (KeptBy x)
+pub value-macros : (a : Axis) → WellFormed a → (y : List ℕ) → Keeps a y → (x : List ℕ) → ((k : ℕ) → k ≤ length (a .sizes) → amount x k ≡ a .base + valueAt y k) → OfMacros a (KeptBy x)
 value-macros a fine y kp x at =
     record {
       rise = λ i l. let b = at 0 (omega arith) in let c = at (suc i) l in record { le = omega arith };
@@ -99,7 +99,7 @@ value-macros a fine y kp x at =
       pair = λ j l. let p = fine .pair j l in let b = at _ (p .tail) in let c = at _ (p .head) in let s = kp .pair j l .le in record { le = omega arith };
     }
 
-module _ (a : Axis) (fine : Fine a) (y : List ℕ) (kp : Keeps a y) where
+module _ (a : Axis) (fine : WellFormed a) (y : List ℕ) (kp : Keeps a y) where
   -- values for the slots of macros and pairs
   pub macro-values : Holds (macroSlots a) (macroValues a y)
   macro-values = each-holds _ _ (macros-each a _ (value-macros a fine y kp (macroValues a y) (macro-value a y (kp .long))))

@@ -8,7 +8,7 @@ use lib.ListN.{length}
 use Rattle.flow_laws.specs.Flow.{weigh, Balance}
 use Rattle.flow_laws.proofs.Duality.{weak}
 use Rattle.axis_bounds.specs.declared.Slot.{Slot}
-use Rattle.axis_bounds.specs.Axis.{Axis, Keeps, lengthOn, Fine}
+use Rattle.axis_bounds.specs.Axis.{Axis, Keeps, lengthOn, WellFormed}
 use Rattle.axis_bounds.specs.Listed.{listed, tails, heads, pluses, minuses, amount, nodeCount}
 use Rattle.axis_bounds.specs.Answer.{supply, demand}
 use Rattle.axis_bounds.specs.Graph.{Holds}
@@ -18,7 +18,7 @@ use Rattle.axis_bounds.proofs.Limits.{KeptBy, holds-each, each-holds, l
 use Rattle.axis_bounds.proofs.Values.{graphValues, values-length, graph-values}
 use Rattle.axis_bounds.proofs.Idle.{upper-is, lower-is}
 
-module _ (a : Axis) (fine : Fine a) (y : List ℕ) (kp : Keeps a y) (f : ℕ → ℕ) where
+module _ (a : Axis) (fine : WellFormed a) (y : List ℕ) (kp : Keeps a y) (f : ℕ → ℕ) where
   abbrev hs : List Slot
   hs = listed a
 

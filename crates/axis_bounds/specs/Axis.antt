@@ -72,21 +72,21 @@ lengthOn a z = netsLength z (a .nets)
 
 -- ---- the limits that the solver demands
 
-pub record FinePair (n : ℕ) (s : Slot) : Type 0 where
+pub record WellFormedPair (n : ℕ) (s : Slot) : Type 0 where
   pub tail : s .tail ≤ n
   pub head : s .head ≤ n
   pub plus : s .plus ≤ 16384
   pub minus : s .minus ≤ 16384
 
-pub record FinePin (n : ℕ) (p : AxisPin) : Type 0 where
+pub record WellFormedPin (n : ℕ) (p : AxisPin) : Type 0 where
   pub node : p .node ≤ n
   pub up : p .up ≤ 16384
 
-pub record FineNet (n : ℕ) (t : NetOn) : Type 0 where
+pub record WellFormedNet (n : ℕ) (t : NetOn) : Type 0 where
   pub low : 1 ≤ t .weight
   pub high : t .weight ≤ 1000
   pub some : 0 < length (t .pins)
-  pub pin : (i : ℕ) → i < length (t .pins) → FinePin n (getD (t .pins) i noPin)
+  pub pin : (i : ℕ) → i < length (t .pins) → WellFormedPin n (getD (t .pins) i noPin)
 
 unfoldable pub pinCount : List NetOn → ℕ
 pinCount [] = 0
@@ -95,7 +95,7 @@ pinCount (t ∷ ts) = length (t .pins) + pinCount ts
 abbrev pub bareNet : NetOn
 bareNet = record { weight = 0; pins = [] }
 
-pub record Fine (a : Axis) : Type 0 where
+pub record WellFormed (a : Axis) : Type 0 where
   pub macs : length (a .sizes) ≤ 8
   pub pairs : length (a .pairs) ≤ 120
   pub nets : length (a .nets) ≤ 32
@@ -103,5 +103,5 @@ pub record Fine (a : Axis) : Type 0 where
   pub side : a .side ≤ 8192
   pub base : a .base ≤ 16384
   pub size : (i : ℕ) → i < length (a .sizes) → getD (a .sizes) i 0 ≤ 8192
-  pub pair : (j : ℕ) → j < length (a .pairs) → FinePair (length (a .sizes)) (getD (a .pairs) j noSlot)
-  pub net : (j : ℕ) → j < length (a .nets) → FineNet (length (a .sizes)) (getD (a .nets) j bareNet)
+  pub pair : (j : ℕ) → j < length (a .pairs) → WellFormedPair (length (a .sizes)) (getD (a .pairs) j noSlot)
+  pub net : (j : ℕ) → j < length (a .nets) → WellFormedNet (length (a .sizes)) (getD (a .nets) j bareNet)

@@ -3,7 +3,7 @@ use Prim.Native.Nat.{ℕ, zero, suc, _+_, _≤_}
 use mathlib.Core.List.{List, [], _∷_}
 use Rattle.axis_bounds.specs.declared.AxisNet.{AxisNet}
 use Rattle.axis_bounds.specs.declared.Axis.{Axis as HeldAxis}
-use Rattle.axis_bounds.specs.Axis.{axisOf, Fine}
+use Rattle.axis_bounds.specs.Axis.{axisOf, WellFormed}
 
 -- the pins of the first j nets
 unfoldable pub pinsBefore : ℕ → List AxisNet → ℕ
@@ -16,4 +16,4 @@ pub record Held (a : HeldAxis) : Type 0 where
   pub pairs : a .p ≤ 120
   pub nets : a .t ≤ 32
   pub pins : pinsBefore (a .t) (a .nets) ≤ 128
-  pub fine : Fine (axisOf a)
+  pub fine : WellFormed (axisOf a)

@@ -9,52 +9,52 @@ use Rattle.axis_bounds.specs.declared.Slot.{Slot}
 use Rattle.axis_bounds.specs.Listed.{slotAt}
 use Rattle.axis_graph.specs.declared.Graph.{Graph}
 use Rattle.axis_graph.specs.Limits.{nodeRoom, slotRoom, sideMost}
-use Rattle.axis_graph.specs.Graph.{Decides, FineEnds, Fine}
+use Rattle.axis_graph.specs.Graph.{Decides, EndsWithin, GraphWithin}
 use Rattle.axis_graph.proofs.Answers.{says-yes, says-no, held-by, failed-by}
 
 -- ---- one slot
 
 module _ (n : ℕ) (s : Slot) where
-  pub ends-tail : n ≤ s .tail → Decides false (FineEnds n s)
+  pub ends-tail : n ≤ s .tail → Decides false (EndsWithin n s)
   ends-tail l = says-no (λ p. let q = p .tail in omega arith)
 
-  pub ends-head : n ≤ s .head → Decides false (FineEnds n s)
+  pub ends-head : n ≤ s .head → Decides false (EndsWithin n s)
   ends-head l = says-no (λ p. let q = p .head in omega arith)
 
-  pub ends-plus : sideMost < s .plus → Decides false (FineEnds n s)
+  pub ends-plus : sideMost < s .plus → Decides false (EndsWithin n s)
   ends-plus l = says-no (λ p. let q = p .plus in omega arith)
 
-  pub ends-minus : sideMost < s .minus → Decides false (FineEnds n s)
+  pub ends-minus : sideMost < s .minus → Decides false (EndsWithin n s)
   ends-minus l = says-no (λ p. let q = p .minus in omega arith)
 
-  pub ends-yes : s .tail < n → s .head < n → s .plus ≤ sideMost → s .minus ≤ sideMost → Decides true (FineEnds n s)
+  pub ends-yes : s .tail < n → s .head < n → s .plus ≤ sideMost → s .minus ≤ sideMost → Decides true (EndsWithin n s)
   ends-yes a b c d = says-yes (record { tail = a; head = b; plus = c; minus = d })
 
 -- ---- the slots below i
 
-pub record FineTo (n : ℕ) (ss : List Slot) (i : ℕ) : Type 0 where
-  pub at : (s : ℕ) → s < i → FineEnds n (slotAt ss s)
+pub record SlotsWithinTo (n : ℕ) (ss : List Slot) (i : ℕ) : Type 0 where
+  pub at : (s : ℕ) → s < i → EndsWithin n (slotAt ss s)
 
 module _ (n : ℕ) (ss : List Slot) where
-  pub fine-none : FineTo n ss 0
+  pub fine-none : SlotsWithinTo n ss 0
   fine-none = record { at = λ s l. absurd (omega arith) }
 
-  pub fine-more : (i : ℕ) → FineTo n ss i → (b : Bool) → Decides b (FineEnds n (slotAt ss i)) → not b ≡ false → FineTo n ss (i + 1)
-  fine-more i h b d e = record { at = below-more (λ s. FineEnds n (slotAt ss s)) i (h .at) (held-by b d e) }
+  pub fine-more : (i : ℕ) → SlotsWithinTo n ss i → (b : Bool) → Decides b (EndsWithin n (slotAt ss i)) → not b ≡ false → SlotsWithinTo n ss (i + 1)
+  fine-more i h b d e = record { at = below-more (λ s. EndsWithin n (slotAt ss s)) i (h .at) (held-by b d e) }
 
 -- ---- the graph
 
 module _ (g : Graph) where
-  pub many-nodes : nodeRoom < g .n → Decides false (Fine g)
+  pub many-nodes : nodeRoom < g .n → Decides false (GraphWithin g)
   many-nodes l = says-no (λ f. let q = f .nodes in omega arith)
 
-  pub many-slots : slotRoom < g .m → Decides false (Fine g)
+  pub many-slots : slotRoom < g .m → Decides false (GraphWithin g)
   many-slots l = says-no (λ f. let q = f .slots in omega arith)
 
-  pub not-fine : (i : ℕ) → i < g .m → (b : Bool) → Decides b (FineEnds (g .n) (slotAt (g .slots) i)) → not b ≡ true → Decides false (Fine g)
+  pub not-fine : (i : ℕ) → i < g .m → (b : Bool) → Decides b (EndsWithin (g .n) (slotAt (g .slots) i)) → not b ≡ true → Decides false (GraphWithin g)
   not-fine i l b d e = says-no (λ f. failed-by b d e (record { tail = f .tail .lt i l; head = f .head .lt i l; plus = f .fine i l .plus; minus = f .fine i l .minus }))
 
-  pub all-fine : (i : ℕ) → FineTo (g .n) (g .slots) i → g .m ≤ i → g .n ≤ nodeRoom → g .m ≤ slotRoom → Decides true (Fine g)
+  pub all-fine : (i : ℕ) → SlotsWithinTo (g .n) (g .slots) i → g .m ≤ i → g .n ≤ nodeRoom → g .m ≤ slotRoom → Decides true (GraphWithin g)
   all-fine i h l few less =
       says-yes (record {
         nodes = few;
@@ -65,5 +65,5 @@ module _ (g : Graph) where
       })
 
 -- a graph that passed the test
-pub fine-by : (g : Graph) (b : Bool) → Decides b (Fine g) → not b ≡ false → Fine g
+pub fine-by : (g : Graph) (b : Bool) → Decides b (GraphWithin g) → not b ≡ false → GraphWithin g
 fine-by g b d e = held-by b d e

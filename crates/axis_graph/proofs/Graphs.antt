@@ -8,17 +8,17 @@ use native.Mathlib.Omega.{arith}
 use lib.ListN.{length, drop, replicate, length-replicate, List·getD-append}
 use lib.Seq.{sets-eq, length-sets, getD-drop}
 use Rattle.axis_bounds.specs.declared.Slot.{Slot}
-use Rattle.axis_bounds.specs.Axis.{Axis, noSlot, Fine as FineAxis}
+use Rattle.axis_bounds.specs.Axis.{Axis, noSlot, WellFormed as FineAxis}
 use Rattle.axis_bounds.specs.Listed.{dieSlots, slotAt, tails, heads, pluses, minuses, hiNode, loNode, nodeCount}
 use Rattle.axis_bounds.specs.Graph.{graphSlots, macroSlots, Holds as HoldsList}
 use Rattle.axis_bounds.proofs.Counts.{length-die, length-macros, few-macro-slots, few-slots, few-nodes}
 use Rattle.axis_bounds.proofs.Members.{Each, Stands, slot-right}
 use Rattle.axis_bounds.proofs.Sorts.{OfMacros, each-macros, graph-macros, graph-pins}
-use Rattle.axis_bounds.proofs.Limits.{FineSlot as FineOn, graph-fine, macro-fine, near, macro-near}
+use Rattle.axis_bounds.proofs.Limits.{WellFormedSlot as FineOn, graph-fine, macro-fine, near, macro-near}
 use Rattle.axis_bounds.proofs.Idle.{past-end}
 use Rattle.axis_graph.specs.declared.Graph.{Graph}
 use Rattle.axis_graph.specs.Limits.{nodeRoom, slotRoom}
-use Rattle.axis_graph.specs.Graph.{at, Fine, Holds, Near, Leads, Net}
+use Rattle.axis_graph.specs.Graph.{at, GraphWithin, Holds, CloseValues, Leads, Net}
 use Rattle.axis_graph.specs.Build.{slotsFrom, dieGraph, macroGraph, wholeGraph}
 use Rattle.axis_graph.proofs.Ways.{leads-slot, leads-on}
 
@@ -70,7 +70,7 @@ module _ (ss : List Slot) (few : length ss ≤ slotRoom) where
         by (yes l) = each .at s l
         by (no o) = subst (FineOn n) (sym (past-end ss s (omega arith))) (record { tail = some; head = some; plus = omega arith; minus = omega arith })
 
-    pub fine-array : Fine (record { n = n; m = m; slots = slotsFrom ss })
+    pub fine-array : GraphWithin (record { n = n; m = m; slots = slotsFrom ss })
     fine-array =
         record {
           nodes = few-n;
@@ -137,13 +137,13 @@ module _ (b : Axis) (fine : FineAxis b) where
 
   -- ---- within the limits
 
-  pub die-fine : Fine (dieGraph b)
+  pub die-fine : GraphWithin (dieGraph b)
   die-fine = fine-array dies few-dies (length (macroSlots b)) (suc (length (b .sizes))) few-macros (let e = fine .macs in omega arith) (omega arith) (subst (Each (FineOn (suc (length (b .sizes))))) bare-is (macro-fine (bare b) fine-bare))
 
-  pub macros-fine : Fine (macroGraph b)
+  pub macros-fine : GraphWithin (macroGraph b)
   macros-fine = fine-array (macroSlots b) few-macros (length (macroSlots b)) (suc (length (b .sizes))) few-macros (let e = fine .macs in omega arith) (omega arith) (macro-fine b fine)
 
-  pub whole-fine : Fine (wholeGraph b)
+  pub whole-fine : GraphWithin (wholeGraph b)
   whole-fine = fine-array (graphSlots b) (few-slots b fine) (length (graphSlots b)) (nodeCount b) (few-slots b fine) (let e = few-nodes b fine in omega arith) (omega arith) (graph-fine b fine)
 
   -- ---- values that lie near each other
@@ -151,10 +151,10 @@ module _ (b : Axis) (fine : FineAxis b) where
   die-list : (y : List ℕ) → Holds (slotsFrom dies) (length (macroSlots b)) y → HoldsList (macroSlots (bare b)) y
   die-list y h = subst (λ (ss : List Slot). HoldsList ss y) (sym bare-is) (list-holds dies few-dies (length (macroSlots b)) short-dies y h)
 
-  pub die-near : Near (slotsFrom dies) (length (macroSlots b)) (suc (length (b .sizes)))
+  pub die-near : CloseValues (slotsFrom dies) (length (macroSlots b)) (suc (length (b .sizes)))
   die-near = record { near = λ y h. macro-near (bare b) fine-bare y (die-list y h) }
 
-  pub whole-near : Near (slotsFrom (graphSlots b)) (length (graphSlots b)) (nodeCount b)
+  pub whole-near : CloseValues (slotsFrom (graphSlots b)) (length (graphSlots b)) (nodeCount b)
   whole-near = record { near = λ y h. near b fine y (list-holds (graphSlots b) (few-slots b fine) (length (graphSlots b)) (omega arith) y h) }
 
   -- ---- ways

@@ -9,10 +9,10 @@ use Rattle.flow_laws.proofs.Duality.{exchange, weak, strong, tight-at-least}
 use Rattle.axis_graph.specs.declared.Graph.{Graph}
 use Rattle.axis_graph.specs.declared.Span.{Span}
 use Rattle.axis_bounds.specs.Listed.{tails, heads, pluses, minuses}
-use Rattle.axis_graph.specs.Graph.{at, Fine, Holds, Tights}
+use Rattle.axis_graph.specs.Graph.{at, GraphWithin, Holds, Tights}
 use Rattle.axis_graph.specs.Solved.{los, his, weights, NetEnds, upper, lower}
 
-module _ (g : Graph) (nets : List Span) (c : ℕ) (fine : Fine g) (ns : NetEnds g nets c) where
+module _ (g : Graph) (nets : List Span) (c : ℕ) (fine : GraphWithin g) (ns : NetEnds g nets c) where
   lo-ends : Ends (los nets) c (g .n)
   lo-ends = record { lt = λ j l. ns .lo j l }
 

@@ -5,7 +5,7 @@ use Prim.Native.Nat.{ℕ, suc, _<_}
 use lib.ListN.{length}
 use Rattle.flow_laws.specs.Flow.{weigh, Balance}
 use Rattle.axis_bounds.specs.declared.Slot.{Slot}
-use Rattle.axis_bounds.specs.Axis.{Axis, Fine as FineAxis}
+use Rattle.axis_bounds.specs.Axis.{Axis, WellFormed as FineAxis}
 use Rattle.axis_bounds.specs.Graph.{macroSlots, GraphRefuted}
 use Rattle.axis_graph.specs.Graph.{at}
 use Rattle.axis_graph.specs.Solved.{Refuted}

@@ -7,9 +7,9 @@ use mir.Val.{Fits}
 use Rattle.axis_graph.specs.declared.Graph.{Graph}
 use Rattle.axis_graph.specs.Limits.{nodeRoom}
 use Rattle.axis_bounds.specs.Listed.{tails, heads, pluses, minuses}
-use Rattle.axis_graph.specs.Graph.{at, Fine, Small}
+use Rattle.axis_graph.specs.Graph.{at, GraphWithin, ValuesWithin}
 
-module _ (g : Graph) (i : ℕ) (fine : Fine g) (l : i < g .m) where
+module _ (g : Graph) (i : ℕ) (fine : GraphWithin g) (l : i < g .m) where
   pub tail-node : tails (g .slots) i < nodeRoom
   tail-node = fine .fine i l .tail
 
@@ -22,8 +22,8 @@ module _ (g : Graph) (i : ℕ) (fine : Fine g) (l : i < g .m) where
   pub head-fits : Fits w64 (heads (g .slots) i * 8)
   head-fits = let a = head-node in omega arith
 
-  pub fits-need : (x : List ℕ) → Small x → Fits w64 (at x (tails (g .slots) i) + pluses (g .slots) i)
+  pub fits-need : (x : List ℕ) → ValuesWithin x → Fits w64 (at x (tails (g .slots) i) + pluses (g .slots) i)
   fits-need x b = let p = b .most (tails (g .slots) i) in let q = fine .fine i l .plus in omega arith
 
-  pub fits-have : (x : List ℕ) → Small x → Fits w64 (at x (heads (g .slots) i) + minuses (g .slots) i)
+  pub fits-have : (x : List ℕ) → ValuesWithin x → Fits w64 (at x (heads (g .slots) i) + minuses (g .slots) i)
   fits-have x b = let p = b .most (heads (g .slots) i) in let q = fine .fine i l .minus in omega arith

@@ -9,7 +9,7 @@ use Rattle.num_laws.specs.Sum.{sum, when}
 use Rattle.num_laws.proofs.Sums.{sum-eq}
 use Rattle.flow_laws.specs.Flow.{atNode, weigh, Balance}
 use Rattle.axis_bounds.specs.declared.Slot.{Slot}
-use Rattle.axis_bounds.specs.Axis.{Axis, Fine as FineAxis}
+use Rattle.axis_bounds.specs.Axis.{Axis, WellFormed as FineAxis}
 use Rattle.axis_bounds.specs.Listed.{slotAt, tails, heads, pluses, minuses, hiNode, loNode, nodeCount, weightOf}
 use Rattle.axis_bounds.specs.Answer.{supply, demand}
 use Rattle.axis_bounds.specs.Graph.{graphSlots, Holds as HoldsList, upper as upperOn, lower as lowerOn, GraphSolved}

@@ -27,29 +27,29 @@ pub record Shows (b : Bool) (P : Type 0) : Type 0 where
 -- ---- limits
 
 -- a slot within the limits
-pub record FineSlot (s : Slot) : Type 0 where
+pub record SlotWithin (s : Slot) : Type 0 where
   pub tail : s .tail < nodeRoom
   pub head : s .head < nodeRoom
   pub plus : s .plus ≤ sideMost
   pub minus : s .minus ≤ sideMost
 
 -- a slot within the limits whose ends are among n nodes
-pub record FineEnds (n : ℕ) (s : Slot) : Type 0 where
+pub record EndsWithin (n : ℕ) (s : Slot) : Type 0 where
   pub tail : s .tail < n
   pub head : s .head < n
   pub plus : s .plus ≤ sideMost
   pub minus : s .minus ≤ sideMost
 
 -- a graph within the limits: the ends of its slots are its nodes
-pub record Fine (g : Graph) : Type 0 where
+pub record GraphWithin (g : Graph) : Type 0 where
   pub nodes : g .n ≤ nodeRoom
   pub slots : g .m ≤ slotRoom
   pub tail : Ends (tails (g .slots)) (g .m) (g .n)
   pub head : Ends (heads (g .slots)) (g .m) (g .n)
-  pub fine : (s : ℕ) → s < g .m → FineSlot (slotAt (g .slots) s)
+  pub fine : (s : ℕ) → s < g .m → SlotWithin (slotAt (g .slots) s)
 
 -- values within the limits
-pub record Small (x : List ℕ) : Type 0 where
+pub record ValuesWithin (x : List ℕ) : Type 0 where
   pub most : (k : ℕ) → at x k ≤ valueMost
 
 -- ---- bounds
@@ -75,7 +75,7 @@ abbrev pub Tights : List Slot → ℕ → List ℕ → List ℕ → Type 0
 Tights ss m f x = Tight (tails ss) (heads ss) (pluses ss) (minuses ss) (at f) (at x) m
 
 -- values that keep all bounds lie near each other
-pub record Near (ss : List Slot) (m n : ℕ) : Type 0 where
+pub record CloseValues (ss : List Slot) (m n : ℕ) : Type 0 where
   pub near : (y : List ℕ) → Holds ss m y → (j k : ℕ) → j < n → k < n → at y j ≤ at y k + farthest
 
 -- ---- slots that leave a set: a node is in the set where its rank is not 0

@@ -3,14 +3,14 @@ use crate::Graph;
 use crate::NODE_ROOM;
 use crate::SLOT_ROOM;
 use axis_bounds::Slot;
-ghost use Rattle.axis_graph.specs.Graph.{Decides, FineEnds, Fine};
+ghost use Rattle.axis_graph.specs.Graph.{Decides, EndsWithin, GraphWithin};
 
 // The most that a side of a bound adds to a value.
 const SIDE_MOST: u64 = 32768;
 
 // A slot between two of n nodes.
 fn fine_slot(s: Slot, n: usize) -> bool
-    ensures { λ r. ⌜ Decides r (FineEnds n s) ⌝ }
+    ensures { λ r. ⌜ Decides r (EndsWithin n s) ⌝ }
 {
     if n <= s.tail {
         return false;
@@ -29,7 +29,7 @@ fn fine_slot(s: Slot, n: usize) -> bool
 
 // Whether the graph is within the limits.
 pub fn is_fine(g: Graph) -> bool
-    ensures { λ r. ⌜ Decides r (Fine g) ⌝ }
+    ensures { λ r. ⌜ Decides r (GraphWithin g) ⌝ }
 {
     let n = g.n;
     let m = g.m;

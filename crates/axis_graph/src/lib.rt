@@ -15,7 +15,7 @@ pub const SLOT_ROOM: usize = 456;
 // The numbers of a proposed tree: the parent slot of each node, and from NODES on its rank.
 pub const NODES: usize = 128;
 
-pub const WAYS: usize = 256;
+pub const PARENTS: usize = 256;
 
 // The first n nodes and the first m slots are in use.
 pub struct Graph {

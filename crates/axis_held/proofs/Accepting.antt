@@ -12,7 +12,7 @@ use Rattle.axis_bounds.specs.declared.Slot.{Slot}
 use Rattle.axis_bounds.specs.declared.AxisPin.{AxisPin}
 use Rattle.axis_bounds.specs.declared.AxisNet.{AxisNet}
 use Rattle.axis_bounds.specs.declared.Axis.{Axis as HeldAxis}
-use Rattle.axis_bounds.specs.Axis.{noSlot, noPin, noNet, FinePair, FinePin}
+use Rattle.axis_bounds.specs.Axis.{noSlot, noPin, noNet, WellFormedPair, WellFormedPin}
 use Rattle.axis_bounds.specs.Held.{pinsBefore}
 use Rattle.axis_graph.specs.Graph.{Decides}
 use Rattle.axis_held.specs.Accept.{PairsTo, PinsTo, NetCounts, NetTo, NetsTo, FrameTo}
@@ -22,29 +22,29 @@ use Rattle.axis_held.proofs.NetPins.{pins-next}
 -- ---- one pair, one pin, the counts of a net, the counts of the axis
 
 module _ (n : ℕ) (s : Slot) where
-  pub pair-tail : n < s .tail → Decides false (FinePair n s)
+  pub pair-tail : n < s .tail → Decides false (WellFormedPair n s)
   pair-tail l = says-no (λ p. let q = p .tail in omega arith)
 
-  pub pair-head : n < s .head → Decides false (FinePair n s)
+  pub pair-head : n < s .head → Decides false (WellFormedPair n s)
   pair-head l = says-no (λ p. let q = p .head in omega arith)
 
-  pub pair-plus : 16384 < s .plus → Decides false (FinePair n s)
+  pub pair-plus : 16384 < s .plus → Decides false (WellFormedPair n s)
   pair-plus l = says-no (λ p. let q = p .plus in omega arith)
 
-  pub pair-minus : 16384 < s .minus → Decides false (FinePair n s)
+  pub pair-minus : 16384 < s .minus → Decides false (WellFormedPair n s)
   pair-minus l = says-no (λ p. let q = p .minus in omega arith)
 
-  pub pair-yes : s .tail ≤ n → s .head ≤ n → s .plus ≤ 16384 → s .minus ≤ 16384 → Decides true (FinePair n s)
+  pub pair-yes : s .tail ≤ n → s .head ≤ n → s .plus ≤ 16384 → s .minus ≤ 16384 → Decides true (WellFormedPair n s)
   pair-yes a b c d = says-yes (record { tail = a; head = b; plus = c; minus = d })
 
 module _ (n : ℕ) (q : AxisPin) where
-  pub pin-node : n < q .node → Decides false (FinePin n q)
+  pub pin-node : n < q .node → Decides false (WellFormedPin n q)
   pin-node l = says-no (λ p. let r = p .node in omega arith)
 
-  pub pin-up : 16384 < q .up → Decides false (FinePin n q)
+  pub pin-up : 16384 < q .up → Decides false (WellFormedPin n q)
   pin-up l = says-no (λ p. let r = p .up in omega arith)
 
-  pub pin-yes : q .node ≤ n → q .up ≤ 16384 → Decides true (FinePin n q)
+  pub pin-yes : q .node ≤ n → q .up ≤ 16384 → Decides true (WellFormedPin n q)
   pin-yes a b = says-yes (record { node = a; up = b })
 
 module _ (t : AxisNet) (from : ℕ) where
@@ -88,11 +88,11 @@ module _ (n : ℕ) (ss : List Slot) where
   pub pairs-none : PairsTo n ss 0
   pairs-none = record { at = λ i l. absurd (omega arith) }
 
-  module _ (j : ℕ) (b : Bool) (d : Decides b (FinePair n (getD ss j noSlot))) where
+  module _ (j : ℕ) (b : Bool) (d : Decides b (WellFormedPair n (getD ss j noSlot))) where
     pub pairs-more : PairsTo n ss j → not b ≡ false → PairsTo n ss (j + 1)
     pairs-more h e = record { at = λ k l. by k l (ℕ-discrete k j) }
       where
-        by : (k : ℕ) → k < j + 1 → Dec (k ≡ j) → FinePair n (getD ss k noSlot)
+        by : (k : ℕ) → k < j + 1 → Dec (k ≡ j) → WellFormedPair n (getD ss k noSlot)
         by k l (yes q) = rw q (held-by b d e)
         by k l (no o) = h .at k (omega arith)
 
@@ -108,11 +108,11 @@ module _ (n : ℕ) (ps : List AxisPin) (from : ℕ) where
   pub pins-none : PinsTo n ps from from
   pins-none = record { at = λ i l m. absurd (omega arith) }
 
-  module _ (i : ℕ) (b : Bool) (d : Decides b (FinePin n (getD ps i noPin))) where
+  module _ (i : ℕ) (b : Bool) (d : Decides b (WellFormedPin n (getD ps i noPin))) where
     pub pins-more : PinsTo n ps from i → not b ≡ false → PinsTo n ps from (i + 1)
     pins-more h e = record { at = λ k l m. by k l m (ℕ-discrete k i) }
       where
-        by : (k : ℕ) → from ≤ k → k < i + 1 → Dec (k ≡ i) → FinePin n (getD ps k noPin)
+        by : (k : ℕ) → from ≤ k → k < i + 1 → Dec (k ≡ i) → WellFormedPin n (getD ps k noPin)
         by k l m (yes q) = rw q (held-by b d e)
         by k l m (no o) = h .at k l (omega arith)
 

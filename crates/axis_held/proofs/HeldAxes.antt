@@ -10,7 +10,7 @@ use Rattle.axis_bounds.specs.declared.Slot.{Slot}
 use Rattle.axis_bounds.specs.declared.AxisPin.{AxisPin}
 use Rattle.axis_bounds.specs.declared.AxisNet.{AxisNet}
 use Rattle.axis_bounds.specs.declared.Axis.{Axis as HeldAxis}
-use Rattle.axis_bounds.specs.Axis.{noSlot, noPin, noNet, bareNet, netsOf, axisOf, pinCount, FinePair, FinePin, FineNet, Fine}
+use Rattle.axis_bounds.specs.Axis.{noSlot, noPin, noNet, bareNet, netsOf, axisOf, pinCount, WellFormedPair, WellFormedPin, WellFormedNet, WellFormed}
 use Rattle.axis_bounds.specs.Held.{pinsBefore, Held}
 use Rattle.axis_graph.specs.Graph.{Decides}
 use Rattle.axis_graph.specs.Above.{NoneAbove, FirstAbove}
@@ -70,7 +70,7 @@ module _ (a : HeldAxis) (sh : Shaped a) where
     few-pins zero l = omega arith
     few-pins (suc t) l = let c = h .at t l .counts in let x = c .some in let y = c .fit in let z = pins-next t (a .nets) in omega arith
 
-    fine-net : (j : ℕ) → j < a .t → FineNet (a .n) (getD (netsOf (take (a .t) (a .nets)) (a .pins)) j bareNet)
+    fine-net : (j : ℕ) → j < a .t → WellFormedNet (a .n) (getD (netsOf (take (a .t) (a .nets)) (a .pins)) j bareNet)
     fine-net j l =
         let c = h .at j l .counts in
         let x = c .some in
@@ -81,7 +81,7 @@ module _ (a : HeldAxis) (sh : Shaped a) where
           low = rw (weight-held (a .nets) (a .pins) (a .t) (let o = f .nets in omega arith) j l) (c .low);
           high = rw (weight-held (a .nets) (a .pins) (a .t) (let o = f .nets in omega arith) j l) (c .high);
           some = omega arith;
-          pin = λ i m. subst (FinePin (a .n)) (sym (pin-held (a .nets) (a .pins) (a .t) (let o = f .nets in omega arith) j l (omega arith) i (omega arith))) (h .at j l .pins .at (pinsBefore j (a .nets) + i) (omega arith) (omega arith));
+          pin = λ i m. subst (WellFormedPin (a .n)) (sym (pin-held (a .nets) (a .pins) (a .t) (let o = f .nets in omega arith) j l (omega arith) i (omega arith))) (h .at j l .pins .at (pinsBefore j (a .nets) + i) (omega arith) (omega arith));
         }
 
     list-pins : pinCount (axisOf a .nets) ≤ 128
@@ -99,15 +99,15 @@ module _ (a : HeldAxis) (sh : Shaped a) where
     unfolding axisOf
     list-size i l = rw (getD-take (a .n) (a .sizes) i 0 l) (s .le i l)
 
-    list-pair : (j : ℕ) → j < a .p → FinePair (a .n) (getD (axisOf a .pairs) j noSlot)
+    list-pair : (j : ℕ) → j < a .p → WellFormedPair (a .n) (getD (axisOf a .pairs) j noSlot)
     unfolding axisOf
     list-pair j l = rw (getD-take (a .p) (a .pairs) j noSlot l) (p .at j l)
 
-    list-net : (j : ℕ) → j < a .t → FineNet (a .n) (getD (axisOf a .nets) j bareNet)
+    list-net : (j : ℕ) → j < a .t → WellFormedNet (a .n) (getD (axisOf a .nets) j bareNet)
     unfolding axisOf
     list-net j l = fine-net j l
 
-    fine-of : Fine (axisOf a)
+    fine-of : WellFormed (axisOf a)
     fine-of =
         let e = length-sizes (f .macs) in
         let d = length-pairs (f .pairs) in
@@ -120,8 +120,8 @@ module _ (a : HeldAxis) (sh : Shaped a) where
           side = list-side;
           base = list-base;
           size = λ i l. list-size i (omega arith);
-          pair = λ j l. subst (λ (n : ℕ). FinePair n (getD (axisOf a .pairs) j noSlot)) (sym e) (list-pair j (omega arith));
-          net = λ j l. subst (λ (n : ℕ). FineNet n (getD (axisOf a .nets) j bareNet)) (sym e) (list-net j (omega arith));
+          pair = λ j l. subst (λ (n : ℕ). WellFormedPair n (getD (axisOf a .pairs) j noSlot)) (sym e) (list-pair j (omega arith));
+          net = λ j l. subst (λ (n : ℕ). WellFormedNet n (getD (axisOf a .nets) j bareNet)) (sym e) (list-net j (omega arith));
         }
 
     held-of : Held a
@@ -145,29 +145,29 @@ module _ (a : HeldAxis) (sh : Shaped a) where
     unfolding axisOf
     held-size i l = let e = length-sizes (h .macs) in rw (← getD-take (a .n) (a .sizes) i 0 l) (h .fine .size i (omega arith))
 
-    pub held-pair : (j : ℕ) → j < a .p → FinePair (a .n) (getD (a .pairs) j noSlot)
+    pub held-pair : (j : ℕ) → j < a .p → WellFormedPair (a .n) (getD (a .pairs) j noSlot)
     unfolding axisOf
     held-pair j l =
         let e = length-pairs (h .pairs) in
-        subst (λ (n : ℕ). FinePair n (getD (a .pairs) j noSlot)) (length-sizes (h .macs))
-        (subst (FinePair (length (axisOf a .sizes))) (getD-take (a .p) (a .pairs) j noSlot l) (h .fine .pair j (omega arith)))
+        subst (λ (n : ℕ). WellFormedPair n (getD (a .pairs) j noSlot)) (length-sizes (h .macs))
+        (subst (WellFormedPair (length (axisOf a .sizes))) (getD-take (a .p) (a .pairs) j noSlot l) (h .fine .pair j (omega arith)))
 
-    held-net : (j : ℕ) → j < a .t → FineNet (a .n) (getD (netsOf (take (a .t) (a .nets)) (a .pins)) j bareNet)
+    held-net : (j : ℕ) → j < a .t → WellFormedNet (a .n) (getD (netsOf (take (a .t) (a .nets)) (a .pins)) j bareNet)
     unfolding axisOf
-    held-net j l = let e = length-of-nets (h .nets) in subst (λ (n : ℕ). FineNet n (getD (netsOf (take (a .t) (a .nets)) (a .pins)) j bareNet)) (length-sizes (h .macs)) (h .fine .net j (omega arith))
+    held-net j l = let e = length-of-nets (h .nets) in subst (λ (n : ℕ). WellFormedNet n (getD (netsOf (take (a .t) (a .nets)) (a .pins)) j bareNet)) (length-sizes (h .macs)) (h .fine .net j (omega arith))
 
     -- a pin of net j, by its place among all pins
     pub held-pin : (j : ℕ) → j < a .t → PinsTo (a .n) (a .pins) (pinsBefore j (a .nets)) (pinsBefore (suc j) (a .nets))
     held-pin j l = record { at = λ i m o. by i m o }
       where
-        by : (i : ℕ) → pinsBefore j (a .nets) ≤ i → i < pinsBefore (suc j) (a .nets) → FinePin (a .n) (getD (a .pins) i noPin)
+        by : (i : ℕ) → pinsBefore j (a .nets) ≤ i → i < pinsBefore (suc j) (a .nets) → WellFormedPin (a .n) (getD (a .pins) i noPin)
         by i m o =
             let b = h .nets in
             let r = h .pins in
             let z = pins-next j (a .nets) in
             let k = count-held (a .nets) (a .pins) (a .t) (omega arith) j l (omega arith) in
             let e = pin-held (a .nets) (a .pins) (a .t) (omega arith) j l (omega arith) (i - pinsBefore j (a .nets)) (omega arith) in
-            subst (λ (u : ℕ). FinePin (a .n) (getD (a .pins) u noPin)) (omega arith) (subst (FinePin (a .n)) e (held-net j l .pin (i - pinsBefore j (a .nets)) (omega arith)))
+            subst (λ (u : ℕ). WellFormedPin (a .n) (getD (a .pins) u noPin)) (omega arith) (subst (WellFormedPin (a .n)) e (held-net j l .pin (i - pinsBefore j (a .nets)) (omega arith)))
 
     pub held-weight : (j : ℕ) → j < a .t → getD (axisOf a .nets) j bareNet .weight ≡ getD (a .nets) j noNet .weight
     unfolding axisOf

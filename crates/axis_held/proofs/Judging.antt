@@ -16,10 +16,10 @@ use Rattle.axis_bounds.proofs.Answers.{solved-on, unsolved-on}
 use Rattle.axis_graph.specs.declared.Graph.{Graph}
 use Rattle.axis_graph.specs.declared.Span.{Span}
 use Rattle.axis_graph.specs.Limits.{slotRoom}
-use Rattle.axis_graph.specs.Graph.{at, Fine, Decides}
+use Rattle.axis_graph.specs.Graph.{at, GraphWithin, Decides}
 use Rattle.axis_graph.specs.Solved.{Nets, Solved, Refuted}
 use Rattle.axis_graph.specs.Build.{macroGraph, wholeGraph, SpansTo}
-use Rattle.axis_held.specs.Graphs.{Placed}
+use Rattle.axis_held.specs.Graphs.{Offsets}
 use Rattle.axis_graph.specs.Service.{SolvedOk, MalformedOk, UnsolvableOk}
 use Rattle.axis_held.proofs.HeldAxes.{Shaped, held-weight}
 use Rattle.axis_graph.proofs.Graphs.{whole-fine}
@@ -49,8 +49,8 @@ module _ (a : HeldAxis) (sh : Shaped a) (h : Held a) where
   -- ---- what the solver gets, and its answer
 
   module _ (g : Graph) (eg : g ≡ wholeGraph (axisOf a)) where
-    pub nets-fine : Fine g
-    nets-fine = subst Fine (sym eg) (whole-fine b (h .fine))
+    pub nets-fine : GraphWithin g
+    nets-fine = subst GraphWithin (sym eg) (whole-fine b (h .fine))
 
     pub nets-some : 0 < g .n
     nets-some = subst (λ (u : Graph). 0 < u .n) (sym eg) (omega arith)
@@ -77,7 +77,7 @@ module _ (a : HeldAxis) (sh : Shaped a) (h : Held a) where
         onwards : (i : ℕ) → i < a .n → at v 0 ≤ at v (suc i)
         onwards i l = mac-from b (h .fine) v (graph-macros b (KeptBy v) (holds-each (graphSlots b) v (solved-holds b (h .fine) r spans-of v f whole-solved))) (suc i) (let e = n-is a sh h in omega arith)
 
-        pub nets-solved : (z : List ℕ) → Placed v z (a .n) → SolvedOk a z f
+        pub nets-solved : (z : List ℕ) → Offsets v z (a .n) → SolvedOk a z f
         nets-solved z p =
             record {
               held = h;

@@ -8,24 +8,24 @@ use lib.ListN.{length, getD, set, length-set, replicate}
 use lib.Seq.{getD-set-same, getD-set-other}
 use Rattle.axis_graph.specs.Graph.{at}
 use Rattle.axis_graph.proofs.Zeros.{zero-at}
-use Rattle.axis_held.specs.Graphs.{Placed}
+use Rattle.axis_held.specs.Graphs.{Offsets}
 
 -- the first i of n macros have their coordinates
-pub record PlacedTo (x : List ℕ) (n : ℕ) (r : List ℕ) (i : ℕ) : Type 0 where
+pub record OffsetsTo (x : List ℕ) (n : ℕ) (r : List ℕ) (i : ℕ) : Type 0 where
   pub long : length r ≡ 8
   pub at : (k : ℕ) → k < i → k < n → getD r k 0 ≡ at x (suc k) - at x 0
   pub rest : (k : ℕ) → i ≤ k → getD r k 0 ≡ 0
   pub past : (k : ℕ) → n ≤ k → getD r k 0 ≡ 0
 
 module _ (x : List ℕ) (n : ℕ) where
-  pub placed-none : PlacedTo x n (replicate 8 0) 0
+  pub placed-none : OffsetsTo x n (replicate 8 0) 0
   placed-none = record { long = refl; at = λ k l. absurd (omega arith); rest = λ k l. zero-at 8 k; past = λ k l. zero-at 8 k }
 
-  module _ (r : List ℕ) (i : ℕ) (p : PlacedTo x n r i) where
-    pub placed-skip : n ≤ i → PlacedTo x n r (i + 1)
+  module _ (r : List ℕ) (i : ℕ) (p : OffsetsTo x n r i) where
+    pub placed-skip : n ≤ i → OffsetsTo x n r (i + 1)
     placed-skip l = record { long = p .long; at = λ k m o. p .at k (omega arith) o; rest = λ k m. p .rest k (omega arith); past = p .past }
 
-    pub placed-more : i < n → i < 8 → (v : ℕ) → v ≡ at x (i + 1) - at x 0 → PlacedTo x n (set r i v) (i + 1)
+    pub placed-more : i < n → i < 8 → (v : ℕ) → v ≡ at x (i + 1) - at x 0 → OffsetsTo x n (set r i v) (i + 1)
     placed-more l b v e =
         record {
           long = length-set r i v ∙ p .long;
@@ -38,5 +38,5 @@ module _ (x : List ℕ) (n : ℕ) where
         here k m o (yes q) = rw (q, getD-set-same r i v 0 (let u = p .long in omega arith)) (e ∙ ap (λ (j : ℕ). at x j - at x 0) (let z : i + 1 ≡ suc i = omega arith in z))
         here k m o (no q) = getD-set-other r i k v 0 q ∙ p .at k (omega arith) o
 
-    pub placed-all : 8 ≤ i → Placed x r n
+    pub placed-all : 8 ≤ i → Offsets x r n
     placed-all l = record { long = p .long; at = λ k m o. p .at k (omega arith) m; rest = p .past }

@@ -6,16 +6,16 @@ use Rattle.axis_bounds.specs.declared.Slot.{Slot}
 use Rattle.axis_bounds.specs.declared.AxisPin.{AxisPin}
 use Rattle.axis_bounds.specs.declared.AxisNet.{AxisNet}
 use Rattle.axis_bounds.specs.declared.Axis.{Axis}
-use Rattle.axis_bounds.specs.Axis.{noSlot, noPin, noNet, FinePair, FinePin}
+use Rattle.axis_bounds.specs.Axis.{noSlot, noPin, noNet, WellFormedPair, WellFormedPin}
 use Rattle.axis_bounds.specs.Held.{pinsBefore}
 
 -- the first k pairs, of n macros
 pub record PairsTo (n : ℕ) (ss : List Slot) (k : ℕ) : Type 0 where
-  pub at : (j : ℕ) → j < k → FinePair n (getD ss j noSlot)
+  pub at : (j : ℕ) → j < k → WellFormedPair n (getD ss j noSlot)
 
 -- the pins between two places
 pub record PinsTo (n : ℕ) (ps : List AxisPin) (from to : ℕ) : Type 0 where
-  pub at : (i : ℕ) → from ≤ i → i < to → FinePin n (getD ps i noPin)
+  pub at : (i : ℕ) → from ≤ i → i < to → WellFormedPin n (getD ps i noPin)
 
 -- a net's weight, and the number of its pins: one at least, and no more than fit after the first `from`
 pub record NetCounts (t : AxisNet) (from : ℕ) : Type 0 where

@@ -28,7 +28,7 @@ pub record SpansOfAxis (a : HeldAxis) (r : List Span) : Type 0 where
   pub beyond : (Held a → ⊥) → r ≡ replicate netRoom noSpan
 
 -- how far the first n macros lie from node 0; 0 where they lie before it, and past the last
-pub record Placed (x r : List ℕ) (n : ℕ) : Type 0 where
+pub record Offsets (x r : List ℕ) (n : ℕ) : Type 0 where
   pub long : length r ≡ 8
   pub at : (k : ℕ) → k < n → k < 8 → getD r k 0 ≡ at x (suc k) - at x 0
   pub rest : (k : ℕ) → n ≤ k → getD r k 0 ≡ 0

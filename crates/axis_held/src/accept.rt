@@ -1,11 +1,11 @@
 // Whether an axis is within the limits of the solver.
-use axis_graph::above::first_above;
 use axis_bounds::Axis;
 use axis_bounds::AxisNet;
 use axis_bounds::AxisPin;
 use axis_bounds::Slot;
+use axis_graph::above::first_above;
 ghost use Prim.Native.Nat.{_≤_};
-ghost use Rattle.axis_bounds.specs.Axis.{FinePair, FinePin};
+ghost use Rattle.axis_bounds.specs.Axis.{WellFormedPair, WellFormedPin};
 ghost use Rattle.axis_bounds.specs.Held.{Held};
 ghost use Rattle.axis_graph.specs.Graph.{Decides};
 ghost use Rattle.axis_held.specs.Accept.{PairsTo, PinsTo, NetCounts, NetsTo, FrameTo};
@@ -18,7 +18,7 @@ const WEIGHT_MOST: u64 = 1000;
 
 // A pair's slot between nodes of n macros.
 fn pair_fine(s: Slot, n: usize) -> bool
-    ensures { λ r. ⌜ Decides r (FinePair n s) ⌝ }
+    ensures { λ r. ⌜ Decides r (WellFormedPair n s) ⌝ }
 {
     if n < s.tail {
         return false;
@@ -53,7 +53,7 @@ fn pairs_fine(pairs: [Slot; Axis::PAIRS], p: usize, n: usize) -> bool
 
 // A pin of one of n macros, or a pad.
 fn pin_fine(q: AxisPin, n: usize) -> bool
-    ensures { λ r. ⌜ Decides r (FinePin n q) ⌝ }
+    ensures { λ r. ⌜ Decides r (WellFormedPin n q) ⌝ }
 {
     if n < q.node {
         return false;

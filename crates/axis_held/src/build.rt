@@ -1,10 +1,10 @@
 // The slots and the nets of an axis, written into the arrays of a graph.
-use axis_graph::SLOT_ROOM;
-use axis_graph::Span;
 use axis_bounds::Axis;
 use axis_bounds::AxisNet;
 use axis_bounds::AxisPin;
 use axis_bounds::Slot;
+use axis_graph::SLOT_ROOM;
+use axis_graph::Span;
 ghost use mathlib.Core.Path.{_≡_};
 ghost use Prim.Native.Nat.{_+_, _*_, _≤_};
 ghost use lib.ListN.{take};

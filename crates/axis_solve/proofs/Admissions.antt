@@ -22,10 +22,10 @@ use Rattle.axis_solve.specs.declared.growth.Growth.{Growth}
 use Rattle.axis_graph.specs.Limits.{slotRoom, lowMost}
 use Rattle.axis_bounds.specs.Axis.{noSlot}
 use Rattle.axis_bounds.specs.Listed.{slotAt, tails, heads, pluses, minuses}
-use Rattle.axis_graph.specs.Graph.{at, Decides, Fine, Small, HoldsAt, Leads, Net}
+use Rattle.axis_graph.specs.Graph.{at, Decides, GraphWithin, ValuesWithin, HoldsAt, Leads, Net}
 use Rattle.axis_solve.specs.Growth.{seedOf, Growing, Spread, Shifted}
 use Rattle.axis_solve.specs.Push.{Pushable, Pushed}
-use Rattle.axis_solve.specs.Admit.{withSlot, Free, Fresh, Approached}
+use Rattle.axis_solve.specs.Admit.{withSlot, Feasible, Fresh, Approached}
 use Rattle.axis_graph.specs.Solved.{Refuted}
 use Rattle.axis_graph.proofs.Zeros.{none, none-at, zero-node}
 use Rattle.axis_solve.proofs.Zeros.{zero-sound}
@@ -37,7 +37,7 @@ pick : (x : List ℕ) (n i : ℕ) → i < n → weigh (at x) (λ k. when (eqb i 
 unfolding weigh
 pick x n i l = let a = sum-pick (at x) i 1 n l in omega arith
 
-module _ (g : Graph) (x : List ℕ) (s : Slot) (fine : Fine g) (free : Free g x) (net : Net g (s .head) (s .tail)) (v : Growth) (ve : v ≡ seedOf x (s .head) 1) where
+module _ (g : Graph) (x : List ℕ) (s : Slot) (fine : GraphWithin g) (free : Feasible g x) (net : Net g (s .head) (s .tail)) (v : Growth) (ve : v ≡ seedOf x (s .head) 1) where
   pub admit-growing : Growing g none v
   admit-growing = seed-growing g none x (s .head) 1 fine (zero-sound g x free) (s .tail) net (omega arith) v ve
 
@@ -45,7 +45,7 @@ module _ (g : Graph) (x : List ℕ) (s : Slot) (fine : Fine g) (free : Free g x)
   admit-leads = rw ve (net .chain)
 
 module _ (g : Graph) (f : List ℕ) (st : ℕ) (s : Slot) (w : Growth) (a : Approached g f st s w) where
-  pub admit-small : Small (w .x)
+  pub admit-small : ValuesWithin (w .x)
   admit-small = a .growing .small
 
   pub admit-spread : Spread (w .x) (g .n)
@@ -61,14 +61,14 @@ module _ (g : Graph) (st : ℕ) (s : Slot) (w : Growth) (a : Approached g none s
   admit-pushable =
       record { tight = a .growing .tight; tree = a .growing .tree; goal-in = joined; much = a .growing .tree .some _ joined; few = λ k. let z = none-at k in omega arith; little = omega arith }
 
-module _ (g : Graph) (x : List ℕ) (j : ℕ) (s : Slot) (fine : Fine g) (free : Free g x) (fr : Fresh g j) (net : Net g (s .head) (s .tail)) (v : Growth) (ve : v ≡ seedOf x (s .head) 1) (w : Growth) (ap′ : Approached g none (v .start) s w) where
+module _ (g : Graph) (x : List ℕ) (j : ℕ) (s : Slot) (fine : GraphWithin g) (free : Feasible g x) (fr : Fresh g j) (net : Net g (s .head) (s .tail)) (v : Growth) (ve : v ≡ seedOf x (s .head) 1) (w : Growth) (ap′ : Approached g none (v .start) s w) where
   gr : Growing g none w
   gr = ap′ .growing
 
   from : w .start ≡ s .head
   from = ap′ .from ∙ ap (λ (u : Growth). u .start) ve
 
-  pub admit-fits : (b : Bool) → Decides b (HoldsAt s (w .x)) → b ≡ true → (y : List ℕ) → Shifted (at (w .x) 0) (w .x) y (g .n) → Free (withSlot g j s) y
+  pub admit-fits : (b : Bool) → Decides b (HoldsAt s (w .x)) → b ≡ true → (y : List ℕ) → Shifted (at (w .x) 0) (w .x) y (g .n) → Feasible (withSlot g j s) y
   admit-fits b d e y sh =
       record {
         holds = holds-with g j s fr y (record { le = λ k l. let a = sh .moved _ (fine .tail .lt k l) in let c = sh .moved _ (fine .head .lt k l) in let q = gr .holds .le k l in omega arith }) (record { le = let a = sh .moved _ (net .hi-in) in let c = sh .moved _ (net .lo-in) in let q = d .holds e .le in omega arith });

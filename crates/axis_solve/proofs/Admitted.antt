@@ -6,7 +6,7 @@ use native.Mathlib.Decide.{decLt}
 use native.Mathlib.Omega.{arith}
 use lib.ListN.{length, getD, replicate, getD-replicate, length-replicate, List·getD-append, List·getD-eq-default}
 use Rattle.axis_bounds.specs.declared.Slot.{Slot}
-use Rattle.axis_bounds.specs.Axis.{Axis, noSlot, Fine as FineAxis}
+use Rattle.axis_bounds.specs.Axis.{Axis, noSlot, WellFormed as FineAxis}
 use Rattle.axis_bounds.specs.Listed.{slotAt, tails, heads}
 use Rattle.axis_bounds.specs.Graph.{macroSlots, Holds as HoldsList}
 use Rattle.axis_bounds.proofs.Counts.{length-die, length-macros}
@@ -14,8 +14,8 @@ use Rattle.axis_bounds.proofs.Sorts.{OfMacros, macros-each}
 use Rattle.axis_bounds.proofs.Limits.{KeptBy, each-holds, macro-fine}
 use Rattle.axis_bounds.proofs.Idle.{past-end}
 use Rattle.axis_graph.specs.Limits.{nodeRoom, farthest, lowMost}
-use Rattle.axis_graph.specs.Graph.{at, FineSlot, Net}
-use Rattle.axis_solve.specs.Admit.{Free, Wanted}
+use Rattle.axis_graph.specs.Graph.{at, SlotWithin, Net}
+use Rattle.axis_solve.specs.Admit.{Feasible, Wanted}
 use Rattle.axis_graph.specs.Build.{slotsFrom, dieGraph}
 use Rattle.axis_graph.proofs.Graphs.{length-from, slots-at, array-holds, bare, dies, bare-is, macros-are, few-macros, few-dies, die-near, die-net}
 
@@ -35,7 +35,7 @@ even-low k = by (decLt k nodeRoom)
 
 module _ (b : Axis) (fine : FineAxis b) where
   -- no macro is larger than the die: values at one place keep the macros' slots
-  pub even-free : ((i : ℕ) → i < length (b .sizes) → getD (b .sizes) i 0 ≤ b .side) → Free (dieGraph b) even
+  pub even-free : ((i : ℕ) → i < length (b .sizes) → getD (b .sizes) i 0 ≤ b .side) → Feasible (dieGraph b) even
   even-free fits =
       record {
         holds = array-holds (dies b fine) (few-dies b fine) (length (macroSlots b)) even (subst (λ (ss : List Slot). HoldsList ss even) (bare-is b fine) (each-holds (macroSlots (bare b)) even (macros-each (bare b) (KeptBy even) kept)));
@@ -64,11 +64,11 @@ module _ (b : Axis) (fine : FineAxis b) where
             let e = length-macros b in
             let d = length-die (b .side) 1 (b .sizes) in
             slots-at (dies b fine) (few-dies b fine) k ∙ past-end (dies b fine) k (omega arith) ∙ sym (slots-at (macroSlots b) (few-macros b fine) k ∙ past-end (macroSlots b) k (omega arith));
-        fine = λ k p q. subst FineSlot (sym (slots-at (macroSlots b) (few-macros b fine) k)) (fine-pair k (let e = length-macros b in omega arith));
+        fine = λ k p q. subst SlotWithin (sym (slots-at (macroSlots b) (few-macros b fine) k)) (fine-pair k (let e = length-macros b in omega arith));
         net = λ k p q. subst (λ (u : Slot). Net (dieGraph b) (u .head) (u .tail)) (sym (slots-at (macroSlots b) (few-macros b fine) k)) (net-pair k (let e = length-macros b in omega arith));
       }
     where
-      fine-pair : (k : ℕ) → k < length (macroSlots b) → FineSlot (slotAt (macroSlots b) k)
+      fine-pair : (k : ℕ) → k < length (macroSlots b) → SlotWithin (slotAt (macroSlots b) k)
       fine-pair k l =
           let f = macro-fine b fine .at k l in
           let t = f .tail in

@@ -17,8 +17,8 @@ use Rattle.axis_graph.specs.declared.Graph.{Graph}
 use Rattle.axis_graph.specs.Limits.{slotRoom}
 use Rattle.axis_bounds.specs.Axis.{noSlot}
 use Rattle.axis_bounds.specs.Listed.{slotAt, tails, heads}
-use Rattle.axis_graph.specs.Graph.{at, FineSlot, Fine, Net}
-use Rattle.axis_solve.specs.Admit.{withSlot, target, Free, Fresh, AdmitOk, Wanted}
+use Rattle.axis_graph.specs.Graph.{at, SlotWithin, GraphWithin, Net}
+use Rattle.axis_solve.specs.Admit.{withSlot, target, Feasible, Fresh, AdmitOk, Wanted}
 use Rattle.axis_graph.specs.Solved.{Refuted}
 use Rattle.axis_solve.proofs.Extensions.{new-slot, old-slot, net-with, fine-with}
 
@@ -26,7 +26,7 @@ module _ (g : Graph) (full : List Slot) (j to : ℕ) (w : Wanted g full j to) (l
   pub wanted-fresh : to ≤ slotRoom → Fresh g j
   wanted-fresh b = record { here = let a = w .end in omega arith; room = omega arith; long = w .long; none = w .fresh j (omega arith) l }
 
-  pub wanted-fine : FineSlot (slotAt full j)
+  pub wanted-fine : SlotWithin (slotAt full j)
   wanted-fine = w .fine j (omega arith) l
 
   pub wanted-net : Net g (heads full j) (tails full j)
@@ -91,27 +91,27 @@ module _ (g : Graph) (full : List Slot) (j to : ℕ) (w : Wanted g full j to) (l
 
 pub record Admitting (g : Graph) (full : List Slot) (to : ℕ) (h : Graph) (y : List ℕ) (j : ℕ) : Type 0 where
   pub within : j ≤ to
-  pub fine : Fine h
-  pub free : Free h y
+  pub fine : GraphWithin h
+  pub free : Feasible h y
   pub wanted : Wanted h full j to
   pub same : target h full ≡ target g full
 
 module _ (g : Graph) (full : List Slot) (to : ℕ) where
-  pub admitting-starts : (x : List ℕ) (j : ℕ) → Fine g → Free g x → j ≤ to → Wanted g full j to → Admitting g full to g x j
+  pub admitting-starts : (x : List ℕ) (j : ℕ) → GraphWithin g → Feasible g x → j ≤ to → Wanted g full j to → Admitting g full to g x j
   admitting-starts x j f r l w = record { within = l; fine = f; free = r; wanted = w; same = refl }
 
   module _ (h : Graph) (y : List ℕ) (j : ℕ) (i : Admitting g full to h y j) where
-    pub admitting-fine : Fine h
+    pub admitting-fine : GraphWithin h
     admitting-fine = i .fine
 
-    pub admitting-free : Free h y
+    pub admitting-free : Feasible h y
     admitting-free = i .free
 
     module _ (l : j < to) (room : to ≤ slotRoom) where
       pub admitting-fresh : Fresh h j
       admitting-fresh = wanted-fresh h full j to (i .wanted) l room
 
-      pub admitting-slot : FineSlot (slotAt full j)
+      pub admitting-slot : SlotWithin (slotAt full j)
       admitting-slot = wanted-fine h full j to (i .wanted) l
 
       pub admitting-net : Net h (heads full j) (tails full j)
@@ -131,8 +131,8 @@ module _ (g : Graph) (full : List Slot) (to : ℕ) where
         pub admitting-refuted : b ≡ false → Refuted (target g full) f′
         admitting-refuted e = subst (λ (t : Graph). Refuted t f′) (i .same) (refuted-full h full j to (i .wanted) l admitting-fresh f′ (subst (λ (t : Bool). AdmitOk (withSlot h j (slotAt full j)) t x′ f′) e ok))
 
-    pub admitting-all : to ≤ j → Free (target g full) y
-    admitting-all b = subst (λ (t : Graph). Free t y) (i .same) (subst (λ (ss : List Slot). Free (record { n = h .n; m = h .m; slots = ss }) y) whole (i .free))
+    pub admitting-all : to ≤ j → Feasible (target g full) y
+    admitting-all b = subst (λ (t : Graph). Feasible t y) (i .same) (subst (λ (ss : List Slot). Feasible (record { n = h .n; m = h .m; slots = ss }) y) whole (i .free))
       where
         whole : h .slots ≡ full
         whole = ext-getD noSlot (h .slots) full (i .wanted .long ∙ sym (i .wanted .long-full)) (λ k l. by k (decLt k j))

@@ -14,15 +14,15 @@ use Rattle.axis_graph.specs.declared.Span.{Span}
 use Rattle.axis_graph.specs.Limits.{slotRoom}
 use Rattle.axis_bounds.specs.Listed.{tails, heads}
 use Rattle.axis_graph.specs.Graph.{Net}
-use Rattle.axis_solve.specs.Drain.{Sound, Spare, Drained}
-use Rattle.axis_solve.specs.Admit.{Free}
+use Rattle.axis_solve.specs.Augment.{Sound, Spare, Augmented}
+use Rattle.axis_solve.specs.Admit.{Feasible}
 use Rattle.axis_graph.specs.Solved.{los, his, weights, Nets}
 use Rattle.axis_solve.specs.Flows.{Flows}
 use Rattle.axis_graph.proofs.Zeros.{none-at, zero-node}
 use Rattle.axis_solve.proofs.Zeros.{zero-sound}
 
 module _ (g : Graph) (nets : List Span) where
-  pub flows-none : (x : List ℕ) → Free g x → Flows g nets 0 x (replicate slotRoom 0)
+  pub flows-none : (x : List ℕ) → Feasible g x → Flows g nets 0 x (replicate slotRoom 0)
   unfolding atNode sum
   flows-none x r =
       record { sound = zero-sound g x r; most = λ s. let a = none-at s in omega arith; idle = λ s e. none-at s; balance = record { eq = λ k l. let a = zero-node (heads (g .slots)) (g .m) k in let b = zero-node (tails (g .slots)) (g .m) k in omega arith } }
@@ -39,7 +39,7 @@ module _ (g : Graph) (nets : List Span) where
       unfolding sum
       flows-spare = record { most = λ s. let a = i .most s in let b = sum-grows (weights nets) (suc j) c l in let t = ns .total in omega arith }
 
-    pub flows-more : (x′ f′ : List ℕ) → Drained g f (los nets j) (his nets j) (weights nets j) x′ f′ → Flows g nets (j + 1) x′ f′
+    pub flows-more : (x′ f′ : List ℕ) → Augmented g f (los nets j) (his nets j) (weights nets j) x′ f′ → Flows g nets (j + 1) x′ f′
     unfolding sum atNode
     flows-more x′ f′ d =
         rw add-one (record {

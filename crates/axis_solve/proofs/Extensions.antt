@@ -16,7 +16,7 @@ use Rattle.axis_graph.specs.declared.Graph.{Graph}
 use Rattle.axis_graph.specs.Limits.{slotRoom}
 use Rattle.axis_bounds.specs.Axis.{noSlot}
 use Rattle.axis_bounds.specs.Listed.{slotAt, tails, heads, pluses, minuses}
-use Rattle.axis_graph.specs.Graph.{at, FineSlot, Fine, HoldsAt, Holds, Near, Leaving, Closed, Net}
+use Rattle.axis_graph.specs.Graph.{at, SlotWithin, GraphWithin, HoldsAt, Holds, CloseValues, Leaving, Closed, Net}
 use Rattle.axis_solve.specs.Admit.{withSlot, Fresh}
 
 -- slot j, which asked nothing, becomes s
@@ -41,7 +41,7 @@ module _ (g : Graph) (j : ℕ) (s : Slot) (fr : Fresh g j) where
       by k l (yes e) = (subst (λ (t : Slot). HoldsAt t x) (sym (ap (slotAt (g .slots)) e ∙ fr .none)) (record { le = omega arith })) .le
       by k l (no n) = (subst (λ (t : Slot). HoldsAt t x) (old-slot k n) (record { le = h .le k l })) .le
 
-  pub near-with : Near (g .slots) (g .m) (g .n) → Near (set (g .slots) j s) (g .m) (g .n)
+  pub near-with : CloseValues (g .slots) (g .m) (g .n) → CloseValues (set (g .slots) j s) (g .m) (g .n)
   near-with r = record { near = λ y h. r .near y (holds-without y h) }
 
   -- a sum over the slots, the amount at j now 1
@@ -82,12 +82,12 @@ module _ (g : Graph) (j : ℕ) (s : Slot) (fr : Fresh g j) where
       by (yes e) = subst P (sym (ap (slotAt (set (g .slots) j s)) e ∙ new-slot)) new
       by (no n) = subst P (sym (old-slot k n)) old
 
-  pub fine-with : Fine g → FineSlot s → Net g (s .head) (s .tail) → Fine (withSlot g j s)
+  pub fine-with : GraphWithin g → SlotWithin s → Net g (s .head) (s .tail) → GraphWithin (withSlot g j s)
   fine-with f fs n =
       record {
         nodes = f .nodes;
         slots = f .slots;
         tail = record { lt = λ k l. each-slot (λ (u : Slot). u .tail < g .n) (n .hi-in) k (f .tail .lt k l) };
         head = record { lt = λ k l. each-slot (λ (u : Slot). u .head < g .n) (n .lo-in) k (f .head .lt k l) };
-        fine = λ k l. each-slot FineSlot fs k (f .fine k l);
+        fine = λ k l. each-slot SlotWithin fs k (f .fine k l);
       }

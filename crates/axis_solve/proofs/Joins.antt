@@ -20,7 +20,7 @@ use Rattle.axis_graph.specs.declared.Graph.{Graph}
 use Rattle.axis_solve.specs.declared.growth.Growth.{Growth}
 use Rattle.axis_graph.specs.Limits.{nodeRoom, noSlack, valueMost}
 use Rattle.axis_bounds.specs.Listed.{slotAt, tails, heads, pluses, minuses}
-use Rattle.axis_graph.specs.Graph.{at, Fine, Small, TightAt, slackAt, Holds, Tights}
+use Rattle.axis_graph.specs.Graph.{at, GraphWithin, ValuesWithin, TightAt, slackAt, Holds, Tights}
 use Rattle.axis_solve.specs.Growth.{joinOf, Least, Raised, From, Forward, Backward, Link, Tree, outside, Growing, StepOk}
 
 -- ---- a new node v, outside so far
@@ -40,7 +40,7 @@ module _ (rank : List ℕ) (v c : ℕ) (l : v < length rank) (o : at rank v ≡ 
       let r : when (eqb (at (set rank v c) v) 0) 1 ≡ 0 = rw (getD-set-same rank v c 0 l, ne-eqb c 0 (λ e. omega arith)) in
       omega arith
 
-module _ (g : Graph) (f : List ℕ) (w : Growth) (fine : Fine g) (gr : Growing g f w) (best d : ℕ) (lst : Least (g .slots) (g .m) f (w .x) (w .rank) (g .m) best d) where
+module _ (g : Graph) (f : List ℕ) (w : Growth) (fine : GraphWithin g) (gr : Growing g f w) (best d : ℕ) (lst : Least (g .slots) (g .m) f (w .x) (w .rank) (g .m) best d) where
   abbrev ss : List Slot
   ss = g .slots
 
@@ -190,7 +190,7 @@ module _ (g : Graph) (f : List ℕ) (w : Growth) (fine : Fine g) (gr : Growing g
             link k h n (yes e) = rw (e, getD-set-same (w .parent) v best 0 (omega (arith, v-fine))) (record { slot = bm; tight = tight; way = new })
             link k h n (no d) = rw (getD-set-other (w .parent) v k best 0 d) (link-old k (at (w .parent) k) (was k d h) (gr .tree .link k (was k d h) n))
 
-        small-up : Small y
+        small-up : ValuesWithin y
         small-up = record { most = λ k. by k (ℕ-discrete (at (w .rank) k) 0) }
           where
             by : (k : ℕ) → Dec (at (w .rank) k ≡ 0) → at y k ≤ valueMost

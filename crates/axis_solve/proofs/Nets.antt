@@ -17,9 +17,9 @@ use Rattle.axis_bounds.proofs.Sorts.{pinsOn, pinOn, OfMacros, OfEnds, each-macr
 use Rattle.axis_bounds.proofs.Limits.{KeptBy, each-holds, macro-tails, macro-heads, mac-from, mac-to}
 use Rattle.axis_graph.specs.declared.Graph.{Graph}
 use Rattle.axis_graph.specs.Limits.{farthest, lowMost}
-use Rattle.axis_graph.specs.Graph.{at, Small}
+use Rattle.axis_graph.specs.Graph.{at, ValuesWithin}
 use Rattle.axis_solve.specs.Growth.{Spread, Shifted}
-use Rattle.axis_solve.specs.Admit.{Free}
+use Rattle.axis_solve.specs.Admit.{Feasible}
 use Rattle.axis_graph.specs.Build.{macroGraph, wholeGraph}
 use Rattle.axis_solve.specs.Start.{NetsIn, Around, Resting, Started}
 use Rattle.axis_held.proofs.NetPins.{pins-next, count-held, pin-held}
@@ -45,8 +45,8 @@ module _ (a : HeldAxis) (sh : Shaped a) (h : Held a) where
 
   -- ---- values that keep the slots of macros and pairs, moved together
 
-  module _ (x : List ℕ) (free : Free (macroGraph (axisOf a)) x) where
-    pub nets-small : Small x
+  module _ (x : List ℕ) (free : Feasible (macroGraph (axisOf a)) x) where
+    pub nets-small : ValuesWithin x
     nets-small = record { most = λ k. let q = free .low k in omega arith }
 
     pub nets-spread : Spread x (a .n + 1)
@@ -146,7 +146,7 @@ module _ (a : HeldAxis) (sh : Shaped a) (h : Held a) where
               low = λ j l. record { le = let u = around j l .bottom in omega arith };
             }
 
-        z-free : Free (wholeGraph b) z
+        z-free : Feasible (wholeGraph b) z
         z-free =
             record {
               holds = array-holds (graphSlots b) (few-slots b (h .fine)) (length (graphSlots b)) z (each-holds (graphSlots b) z (graph-each b (KeptBy z) z-macros (record { high = high; low = low }) z-ends));
@@ -154,5 +154,5 @@ module _ (a : HeldAxis) (sh : Shaped a) (h : Held a) where
               near = whole-near b (h .fine);
             }
 
-        pub nets-free : (g : Graph) → g ≡ wholeGraph (axisOf a) → Free g z
-        nets-free g e = subst (λ (u : Graph). Free u z) (sym e) z-free
+        pub nets-free : (g : Graph) → g ≡ wholeGraph (axisOf a) → Feasible g z
+        nets-free g e = subst (λ (u : Graph). Feasible u z) (sym e) z-free

@@ -10,7 +10,7 @@ use Rattle.axis_bounds.specs.Axis.{axisOf}
 use Rattle.axis_bounds.specs.Held.{Held}
 use Rattle.axis_graph.specs.declared.Graph.{Graph}
 use Rattle.axis_graph.specs.Limits.{nodeRoom, farthest}
-use Rattle.axis_graph.specs.Graph.{Fine}
+use Rattle.axis_graph.specs.Graph.{GraphWithin}
 use Rattle.axis_graph.specs.Above.{NoneAbove}
 use Rattle.axis_graph.specs.Build.{dieGraph, macroGraph}
 use Rattle.axis_graph.specs.Service.{UnsolvableOk}
@@ -19,19 +19,19 @@ use Rattle.axis_held.specs.Graphs.{GraphOf}
 use Rattle.axis_held.proofs.HeldAxes.{Shaped}
 use Rattle.axis_held.proofs.HeldGraphs.{n-is, p-is, size-is, side-is}
 use Rattle.axis_held.proofs.Judging.{refused}
-use Rattle.axis_solve.specs.Admit.{target, Free, AdmitOk, Wanted}
+use Rattle.axis_solve.specs.Admit.{target, Feasible, AdmitOk, Wanted}
 use Rattle.axis_solve.proofs.Admitted.{even, even-free, pairs-wanted}
 
 module _ (a : HeldAxis) (sh : Shaped a) (h : Held a) (g : Graph) (of : GraphOf a (dieGraph (axisOf a)) g) where
   die : dieGraph (axisOf a) ≡ g
   die = sym (of .held h)
 
-  pub pairs-fine : Fine g
-  pairs-fine = subst Fine die (die-fine (axisOf a) (h .fine))
+  pub pairs-fine : GraphWithin g
+  pairs-fine = subst GraphWithin die (die-fine (axisOf a) (h .fine))
 
-  pub pairs-free : NoneAbove (a .side) (a .sizes) (a .n) → Free g (replicate nodeRoom farthest)
+  pub pairs-free : NoneAbove (a .side) (a .sizes) (a .n) → Feasible g (replicate nodeRoom farthest)
   pairs-free f =
-      subst (λ (u : Graph). Free u even) die
+      subst (λ (u : Graph). Feasible u even) die
       (even-free (axisOf a) (h .fine) (λ i l. let e = n-is a sh h in let d = side-is a sh h in let q = size-is a sh h i (omega arith) in let r = f .le i (omega arith) in omega arith))
 
   module _ (full : Graph) (all : GraphOf a (macroGraph (axisOf a)) full) where
@@ -48,8 +48,8 @@ module _ (a : HeldAxis) (sh : Shaped a) (h : Held a) (g : Graph) (of : GraphOf a
     reached = ap (λ (u : Graph). target u (full .slots)) (sym die) ∙ ap (λ (u : Graph). target (dieGraph (axisOf a)) (u .slots)) (sym macros)
 
     module _ (b : Bool) (x f : List ℕ) (ok : AdmitOk (target g (full .slots)) b x f) where
-      pub admitted-free : b ≡ true → Free (macroGraph (axisOf a)) x
-      admitted-free e = subst (λ (u : Graph). Free u x) reached (subst (λ (c : Bool). AdmitOk (target g (full .slots)) c x f) e ok)
+      pub admitted-free : b ≡ true → Feasible (macroGraph (axisOf a)) x
+      admitted-free e = subst (λ (u : Graph). Feasible u x) reached (subst (λ (c : Bool). AdmitOk (target g (full .slots)) c x f) e ok)
 
       pub admitted-none : b ≡ false → UnsolvableOk a (replicate 8 0) f
       admitted-none e = refused a sh h (target g (full .slots)) reached f (subst (λ (c : Bool). AdmitOk (target g (full .slots)) c x f) e ok)

@@ -21,7 +21,7 @@ use Rattle.axis_graph.specs.declared.Graph.{Graph}
 use Rattle.axis_solve.specs.declared.growth.Growth.{Growth}
 use Rattle.axis_graph.specs.Limits.{nodeRoom, slotRoom}
 use Rattle.axis_bounds.specs.Listed.{tails, heads, pluses, minuses}
-use Rattle.axis_graph.specs.Graph.{at, Fine}
+use Rattle.axis_graph.specs.Graph.{at, GraphWithin}
 use Rattle.axis_solve.specs.Growth.{From, Forward, Backward, Link}
 use Rattle.axis_solve.specs.Push.{Pushable, Walked, Pushed}
 
@@ -44,7 +44,7 @@ node-less end h m p q k l b c =
     let t : when (eqb (end p) k) (at h p - q + q) ≡ when (eqb (end p) k) (at h p) = ap (when (eqb (end p) k)) (omega arith) in
     omega arith
 
-module _ (g : Graph) (f : List ℕ) (w : Growth) (goal q : ℕ) (fine : Fine g) (ok : Pushable g f w goal q) where
+module _ (g : Graph) (f : List ℕ) (w : Growth) (goal q : ℕ) (fine : GraphWithin g) (ok : Pushable g f w goal q) where
   abbrev ss : List Slot
   ss = g .slots
 

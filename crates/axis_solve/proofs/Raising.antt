@@ -11,12 +11,12 @@ use mir.Val.{Fits}
 use borrow.Author.Count.{below-none, below-more}
 use Rattle.axis_graph.specs.declared.Graph.{Graph}
 use Rattle.axis_graph.specs.Limits.{nodeRoom, farthest, noSlack}
-use Rattle.axis_graph.specs.Graph.{at, Fine, Small}
+use Rattle.axis_graph.specs.Graph.{at, GraphWithin, ValuesWithin}
 use Rattle.axis_solve.specs.Growth.{Raised, Spread, Shifted}
 
 -- ---- raised
 
-pub small-fits : (x : List ℕ) (k d : ℕ) → Small x → d < noSlack → Fits w64 (at x k + d)
+pub small-fits : (x : List ℕ) (k d : ℕ) → ValuesWithin x → d < noSlack → Fits w64 (at x k + d)
 small-fits x k d b h = let p = b .most k in omega arith
 
 module _ (rank : List ℕ) (d : ℕ) (x : List ℕ) where
@@ -46,7 +46,7 @@ module _ (rank : List ℕ) (d : ℕ) (x : List ℕ) where
 
 -- ---- moved together
 
-module _ (x : List ℕ) (n : ℕ) (sm : Small x) (sp : Spread x n) (k : ℕ) where
+module _ (x : List ℕ) (n : ℕ) (sm : ValuesWithin x) (sp : Spread x n) (k : ℕ) where
   pub rebase-fits : Fits w64 (at x k + farthest)
   rebase-fits = let a = sm .most k in omega arith
 
@@ -71,5 +71,5 @@ shifted-more x y n i s sp h l =
 pub shifted-all : (x y : List ℕ) (n i : ℕ) → Shifted (at x 0) x y i → n ≤ i → i ≤ n → Shifted (at x 0) x y n
 shifted-all x y n i s h k = record { long = s .long; moved = λ j l. s .moved j (omega arith); rest = λ j l. s .rest j (omega arith) }
 
-pub fine-nodes : (g : Graph) → Fine g → g .n ≤ nodeRoom
+pub fine-nodes : (g : Graph) → GraphWithin g → g .n ≤ nodeRoom
 fine-nodes g f = f .nodes

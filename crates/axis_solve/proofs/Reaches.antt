@@ -9,9 +9,9 @@ use Rattle.axis_bounds.specs.declared.Slot.{Slot}
 use Rattle.axis_graph.specs.declared.Graph.{Graph}
 use Rattle.axis_solve.specs.declared.growth.Growth.{Growth}
 use Rattle.axis_graph.specs.Limits.{nodeRoom}
-use Rattle.axis_graph.specs.Graph.{at, Decides, Small, HoldsAt, Leads}
+use Rattle.axis_graph.specs.Graph.{at, Decides, ValuesWithin, HoldsAt, Leads}
 use Rattle.axis_solve.specs.Growth.{outside, Growing, StepOk}
-use Rattle.axis_solve.specs.Drain.{ReachOk}
+use Rattle.axis_solve.specs.Augment.{ReachOk}
 use Rattle.axis_solve.specs.Admit.{Approached}
 use Rattle.axis_solve.specs.Flows.{Settled}
 
@@ -28,7 +28,7 @@ module _ (g : Graph) (f : List ℕ) where
     pub reaching-growing : Growing g f w
     reaching-growing = i .growing
 
-    pub reaching-small : Small (w .x)
+    pub reaching-small : ValuesWithin (w .x)
     reaching-small = i .growing .small
 
     -- the goal joined

@@ -12,9 +12,9 @@ use Rattle.num_laws.proofs.Sums.{when-le}
 use Rattle.axis_graph.specs.declared.Graph.{Graph}
 use Rattle.axis_solve.specs.declared.growth.Growth.{Growth}
 use Rattle.axis_graph.specs.Limits.{nodeRoom}
-use Rattle.axis_graph.specs.Graph.{at, Fine, Leads, Net}
+use Rattle.axis_graph.specs.Graph.{at, GraphWithin, Leads, Net}
 use Rattle.axis_solve.specs.Growth.{seedOf, outside, Growing}
-use Rattle.axis_solve.specs.Drain.{Sound}
+use Rattle.axis_solve.specs.Augment.{Sound}
 use Rattle.axis_graph.proofs.Zeros.{zero-at}
 use Rattle.axis_solve.proofs.Joins.{outside-less}
 
@@ -28,7 +28,7 @@ unfolding outside sum
 outside-most rank zero = omega arith
 outside-most rank (suc n) = let a = outside-most rank n in let b = when-le (eqb (at rank n) 0) 1 in omega arith
 
-module _ (g : Graph) (f x : List ℕ) (start r : ℕ) (fine : Fine g) (ok : Sound g f x) (b : start < g .n) (some : 0 < r) where
+module _ (g : Graph) (f x : List ℕ) (start r : ℕ) (fine : GraphWithin g) (ok : Sound g f x) (b : start < g .n) (some : 0 < r) where
   start-fine : start < nodeRoom
   start-fine = let a = fine .nodes in omega arith
 
@@ -66,7 +66,7 @@ module _ (g : Graph) (f x : List ℕ) (start r : ℕ) (fine : Fine g) (ok : Soun
       most k (yes e) = rw (e, getD-set-same zeros start 1 0 start-fine) (omega arith)
       most k (no n) = rw (getD-set-other zeros start k 1 0 n, zero-at nodeRoom k) (omega arith)
 
-module _ (g : Graph) (f x : List ℕ) (start r : ℕ) (fine : Fine g) (ok : Sound g f x) (goal : ℕ) (net : Net g start goal) (some : 0 < r) (w : Growth) (e : w ≡ seedOf x start r) where
+module _ (g : Graph) (f x : List ℕ) (start r : ℕ) (fine : GraphWithin g) (ok : Sound g f x) (goal : ℕ) (net : Net g start goal) (some : 0 < r) (w : Growth) (e : w ≡ seedOf x start r) where
   pub seed-growing : Growing g f w
   seed-growing = rw e (seeded-at g f x start r fine ok (net .lo-in) some)
 

@@ -7,7 +7,7 @@ use native.Mathlib.Omega.{arith}
 use Rattle.axis_graph.specs.declared.Graph.{Graph}
 use Rattle.axis_solve.specs.declared.growth.Growth.{Growth}
 use Rattle.axis_graph.specs.declared.Span.{Span}
-use Rattle.axis_graph.specs.Graph.{at, Fine}
+use Rattle.axis_graph.specs.Graph.{at, GraphWithin}
 use Rattle.axis_solve.specs.Growth.{seedOf, Growing}
 use Rattle.axis_graph.specs.Solved.{Nets, Solved, NetEnds}
 use Rattle.axis_solve.specs.Flows.{Flows, Settled}
@@ -15,7 +15,7 @@ use Rattle.axis_solve.proofs.Smallest.{above}
 use Rattle.axis_solve.proofs.Seeds.{seeded-at}
 use Rattle.axis_graph.proofs.Optimum.{weak-at, strong-at, tight-at}
 
-module _ (g : Graph) (nets : List Span) (c : ℕ) (fine : Fine g) (ns : Nets g nets c) where
+module _ (g : Graph) (nets : List Span) (c : ℕ) (fine : GraphWithin g) (ns : Nets g nets c) where
   ends : NetEnds g nets c
   ends = record { lo = λ j l. ns .net j l .lo-in; hi = λ j l. ns .net j l .hi-in }
 

@@ -11,17 +11,17 @@ use borrow.Author.Count.{below-more}
 use Rattle.axis_bounds.specs.declared.Slot.{Slot}
 use Rattle.axis_graph.specs.Limits.{noSlack}
 use Rattle.axis_bounds.specs.Listed.{slotAt, tails, heads, pluses, minuses}
-use Rattle.axis_graph.specs.Graph.{at, Decides, FineSlot, Small, HoldsAt, slackAt, Holds, Leaving, LeavesBy}
+use Rattle.axis_graph.specs.Graph.{at, Decides, SlotWithin, ValuesWithin, HoldsAt, slackAt, Holds, Leaving, LeavesBy}
 use Rattle.axis_graph.proofs.Answers.{says-yes, says-no}
 use Rattle.axis_solve.specs.Growth.{Least}
 
 -- ---- whether a bound holds
 
 module _ (s : Slot) (x : List ℕ) where
-  pub keeps-fits-need : FineSlot s → Small x → Fits w64 (at x (s .tail) + s .plus)
+  pub keeps-fits-need : SlotWithin s → ValuesWithin x → Fits w64 (at x (s .tail) + s .plus)
   keeps-fits-need f b = let p = b .most (s .tail) in let q = f .plus in omega arith
 
-  pub keeps-fits-have : FineSlot s → Small x → Fits w64 (at x (s .head) + s .minus)
+  pub keeps-fits-have : SlotWithin s → ValuesWithin x → Fits w64 (at x (s .head) + s .minus)
   keeps-fits-have f b = let p = b .most (s .head) in let q = f .minus in omega arith
 
   pub keeps-yes : at x (s .tail) + s .plus ≤ at x (s .head) + s .minus → Decides true (HoldsAt s x)

@@ -10,15 +10,15 @@ use Rattle.axis_graph.specs.declared.Graph.{Graph}
 use Rattle.axis_solve.specs.declared.growth.Growth.{Growth}
 use Rattle.axis_graph.specs.Limits.{nodeRoom, slotRoom, noSlack}
 use Rattle.axis_bounds.specs.Listed.{slotAt, tails, heads}
-use Rattle.axis_graph.specs.Graph.{at, FineSlot, Fine, TightAt, slackAt, Leaves}
+use Rattle.axis_graph.specs.Graph.{at, SlotWithin, GraphWithin, TightAt, slackAt, Leaves}
 use Rattle.axis_solve.specs.Growth.{joinOf, Least, Raised, Growing, Ready, StepOk}
 use Rattle.axis_solve.proofs.Joins.{outside-less, tight-up, room-v, from-new, joined}
 
-module _ (g : Graph) (f : List ℕ) (w : Growth) (fine : Fine g) (gr : Growing g f w) (p d : ℕ) (lst : Least (g .slots) (g .m) f (w .x) (w .rank) (g .m) p d) (lt : d < noSlack) where
+module _ (g : Graph) (f : List ℕ) (w : Growth) (fine : GraphWithin g) (gr : Growing g f w) (p d : ℕ) (lst : Least (g .slots) (g .m) f (w .x) (w .rank) (g .m) p d) (lt : d < noSlack) where
   pub least-room : p < slotRoom
   least-room = let q = lst .found lt .0 in let r = fine .slots in omega arith
 
-  pub least-fine : FineSlot (slotAt (g .slots) p)
+  pub least-fine : SlotWithin (slotAt (g .slots) p)
   least-fine = fine .fine p (lst .found lt .0)
 
   pub ready : (y : List ℕ) → Raised (w .rank) d (w .x) y nodeRoom → Ready g f w y p

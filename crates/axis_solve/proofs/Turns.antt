@@ -12,14 +12,14 @@ use Rattle.axis_graph.specs.declared.Graph.{Graph}
 use Rattle.axis_solve.specs.declared.growth.Growth.{Growth}
 use Rattle.axis_graph.specs.Limits.{farthest, lowMost}
 use Rattle.axis_bounds.specs.Listed.{tails, heads}
-use Rattle.axis_graph.specs.Graph.{at, Fine, Small}
+use Rattle.axis_graph.specs.Graph.{at, GraphWithin, ValuesWithin}
 use Rattle.axis_solve.specs.Growth.{seedOf, Spread, Shifted}
 use Rattle.axis_solve.specs.Push.{Pushable, Pushed}
-use Rattle.axis_solve.specs.Drain.{ReachOk, Sound, Spare, Carried, TurnOk, Drained}
+use Rattle.axis_solve.specs.Augment.{ReachOk, Sound, Spare, Carried, TurnOk, Augmented}
 
 -- ---- one turn
 
-module _ (g : Graph) (f : List ℕ) (lo hi r : ℕ) (fine : Fine g) (sp : Spare f r) (some : 0 < r) (x : List ℕ) (v : Growth) (ve : v ≡ seedOf x lo r) (w : Growth) (reached : ReachOk g f (v .start) hi w) where
+module _ (g : Graph) (f : List ℕ) (lo hi r : ℕ) (fine : GraphWithin g) (sp : Spare f r) (some : 0 < r) (x : List ℕ) (v : Growth) (ve : v ≡ seedOf x lo r) (w : Growth) (reached : ReachOk g f (v .start) hi w) where
   ok : ReachOk g f lo hi w
   ok = subst (λ (k : ℕ). ReachOk g f k hi w) (ap (λ (u : Growth). u .start) ve) reached
 
@@ -67,7 +67,7 @@ module _ (g : Graph) (f : List ℕ) (lo hi r : ℕ) (fine : Fine g) (sp : Spare 
             by (yes e) = let a = s .rest k (omega arith) in let b = ok .growing .low .low k e in omega arith
             by (no o) = let a = ok .growing .tree .nodes k (omega arith) in absurd (omega arith)
 
-  pub turn-small : Small (w .x)
+  pub turn-small : ValuesWithin (w .x)
   turn-small = ok .growing .small
 
   pub turn-spread : Spread (w .x) (g .n)
@@ -76,14 +76,14 @@ module _ (g : Graph) (f : List ℕ) (lo hi r : ℕ) (fine : Fine g) (sp : Spare 
 -- ---- all turns
 
 -- r of the weight is left
-pub record Draining (g : Graph) (f : List ℕ) (lo hi weight : ℕ) (y h : List ℕ) (r : ℕ) : Type 0 where
+pub record Augmenting (g : Graph) (f : List ℕ) (lo hi weight : ℕ) (y h : List ℕ) (r : ℕ) : Type 0 where
   pub left : r ≤ weight
   pub sound : Sound g h y
   pub carried : Carried g f lo hi (weight - r) h
 
 module _ (g : Graph) (f : List ℕ) (lo hi weight : ℕ) where
-  pub drain-starts : (x : List ℕ) → Sound g f x → Draining g f lo hi weight x f weight
-  drain-starts x s = record { left = omega arith; sound = s; carried = record { most = λ k. omega arith; idle = λ k e. refl; balance = λ sup dem b. record { eq = λ k l. let a = b .eq k l in let c = none lo k in let d = none hi k in omega arith } } }
+  pub augment-starts : (x : List ℕ) → Sound g f x → Augmenting g f lo hi weight x f weight
+  augment-starts x s = record { left = omega arith; sound = s; carried = record { most = λ k. omega arith; idle = λ k e. refl; balance = λ sup dem b. record { eq = λ k l. let a = b .eq k l in let c = none lo k in let d = none hi k in omega arith } } }
     where
       none : (i k : ℕ) → when (eqb i k) (weight - weight) ≡ 0
       none i k = by (eqb i k)
@@ -92,22 +92,22 @@ module _ (g : Graph) (f : List ℕ) (lo hi weight : ℕ) where
           by true = omega arith
           by false = refl
 
-  module _ (y h : List ℕ) (r : ℕ) (i : Draining g f lo hi weight y h r) where
-    pub drain-sound : Sound g h y
-    drain-sound = i .sound
+  module _ (y h : List ℕ) (r : ℕ) (i : Augmenting g f lo hi weight y h r) where
+    pub augment-sound : Sound g h y
+    augment-sound = i .sound
 
-    pub drain-spare : Spare f weight → Spare h r
-    drain-spare s = record { most = λ k. let a = i .carried .most k in let b = i .left in let c = s .most k in omega arith }
+    pub augment-spare : Spare f weight → Spare h r
+    augment-spare s = record { most = λ k. let a = i .carried .most k in let b = i .left in let c = s .most k in omega arith }
 
     module _ (y′ h′ : List ℕ) (q : ℕ) (t : TurnOk g h lo hi r y′ h′ q) where
-      pub drain-sub : q ≤ r
-      drain-sub = t .most
+      pub augment-sub : q ≤ r
+      augment-sub = t .most
 
-      pub drain-less : r - q < r
-      drain-less = let a = t .some in let b = t .most in omega arith
+      pub augment-less : r - q < r
+      augment-less = let a = t .some in let b = t .most in omega arith
 
-      pub drain-more : Draining g f lo hi weight y′ h′ (r - q)
-      drain-more =
+      pub augment-more : Augmenting g f lo hi weight y′ h′ (r - q)
+      augment-more =
           record {
             left = let a = i .left in omega arith;
             sound = t .sound;
@@ -125,5 +125,5 @@ module _ (g : Graph) (f : List ℕ) (lo hi weight : ℕ) where
               by true = let c = i .left in let d = t .most in omega arith
               by false = refl
 
-    pub drain-ends : r ≤ 0 → Drained g f lo hi weight y h
-    drain-ends z = record { sound = i .sound; carried = subst (λ (u : ℕ). Carried g f lo hi u h) (omega arith) (i .carried) }
+    pub augment-ends : r ≤ 0 → Augmented g f lo hi weight y h
+    augment-ends z = record { sound = i .sound; carried = subst (λ (u : ℕ). Carried g f lo hi u h) (omega arith) (i .carried) }

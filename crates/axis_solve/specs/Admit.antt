@@ -12,7 +12,7 @@ use Rattle.axis_graph.specs.Limits.{slotRoom, lowMost}
 use Rattle.axis_bounds.specs.Axis.{noSlot}
 use Rattle.axis_bounds.specs.Listed.{slotAt, tails, heads}
 use Rattle.axis_graph.specs.Solved.{Refuted}
-use Rattle.axis_graph.specs.Graph.{at, FineSlot, Holds, HoldsAt, Near, Net}
+use Rattle.axis_graph.specs.Graph.{at, SlotWithin, Holds, HoldsAt, CloseValues, Net}
 use Rattle.axis_solve.specs.Growth.{Growing}
 
 -- slot j of the graph is s
@@ -24,10 +24,10 @@ abbrev pub target : Graph → List Slot → Graph
 target g full = record { n = g .n; m = g .m; slots = full }
 
 -- values that keep all bounds
-pub record Free (g : Graph) (x : List ℕ) : Type 0 where
+pub record Feasible (g : Graph) (x : List ℕ) : Type 0 where
   pub holds : Holds (g .slots) (g .m) x
   pub low : (k : ℕ) → at x k ≤ lowMost
-  pub near : Near (g .slots) (g .m) (g .n)
+  pub near : CloseValues (g .slots) (g .m) (g .n)
 
 -- slot j asks nothing yet
 pub record Fresh (g : Graph) (j : ℕ) : Type 0 where
@@ -44,7 +44,7 @@ pub record Approached (g : Graph) (f : List ℕ) (start : ℕ) (s : Slot) (w : G
 
 -- values that keep the bounds, or the circulation that refutes them
 abbrev pub AdmitOk : Graph → Bool → List ℕ → List ℕ → Type 0
-AdmitOk g true x f = Free g x
+AdmitOk g true x f = Feasible g x
 AdmitOk g false x f = Refuted g f
 
 -- the graph has the slots of `full` but those from j up to `to`, which ask nothing yet; each of these has a way from its head
@@ -56,5 +56,5 @@ pub record Wanted (g : Graph) (full : List Slot) (j to : ℕ) : Type 0 where
   pub fresh : (k : ℕ) → j ≤ k → k < to → slotAt (g .slots) k ≡ noSlot
   pub below : (k : ℕ) → k < j → slotAt (g .slots) k ≡ slotAt full k
   pub past : (k : ℕ) → to ≤ k → slotAt (g .slots) k ≡ slotAt full k
-  pub fine : (k : ℕ) → j ≤ k → k < to → FineSlot (slotAt full k)
+  pub fine : (k : ℕ) → j ≤ k → k < to → SlotWithin (slotAt full k)
   pub net : (k : ℕ) → j ≤ k → k < to → Net g (heads full k) (tails full k)

@@ -11,7 +11,7 @@ use Rattle.axis_graph.specs.Graph.{at, Closed}
 use Rattle.axis_graph.specs.Solved.{los, his, weights}
 use Rattle.axis_solve.specs.declared.growth.Growth.{Growth}
 use Rattle.axis_solve.specs.Growth.{Growing}
-use Rattle.axis_solve.specs.Drain.{Sound}
+use Rattle.axis_solve.specs.Augment.{Sound}
 
 -- the weights of the first j nets flow from their lower to their upper nodes
 pub record Flows (g : Graph) (nets : List Span) (j : ℕ) (x f : List ℕ) : Type 0 where

@@ -12,7 +12,7 @@ use Rattle.axis_solve.specs.declared.growth.Growth.{Growth}
 use Rattle.axis_graph.specs.Limits.{nodeRoom, farthest, lowMost, noSlack}
 use Rattle.axis_bounds.specs.Axis.{noSlot}
 use Rattle.axis_bounds.specs.Listed.{slotAt, tails, heads}
-use Rattle.axis_graph.specs.Graph.{at, Fine, Small, TightAt, slackAt, Holds, Tights, Near, LeavesBy, Closed}
+use Rattle.axis_graph.specs.Graph.{at, GraphWithin, ValuesWithin, TightAt, slackAt, Holds, Tights, CloseValues, LeavesBy, Closed}
 
 -- the set of one node
 abbrev pub seedOf : List ℕ → ℕ → ℕ → Growth
@@ -89,16 +89,16 @@ pub record Growing (g : Graph) (f : List ℕ) (w : Growth) : Type 0 where
   pub holds : Holds (g .slots) (g .m) (w .x)
   pub tight : Tights (g .slots) (g .m) f (w .x)
   pub tree : Tree (g .slots) (g .m) (g .n) f (w .x) (w .rank) (w .parent) (w .room) (w .count) (w .start)
-  pub small : Small (w .x)
+  pub small : ValuesWithin (w .x)
   pub low : Low (w .x) (w .rank)
-  pub near : Near (g .slots) (g .m) (g .n)
+  pub near : CloseValues (g .slots) (g .m) (g .n)
   pub few : w .count + outside (w .rank) (g .n) ≤ nodeRoom
 
 -- ---- a step
 
 -- slot p is the one of least slack that leaves, and y the values raised by its slack
 pub record Ready (g : Graph) (f : List ℕ) (w : Growth) (y : List ℕ) (p : ℕ) : Type 0 where
-  pub fine : Fine g
+  pub fine : GraphWithin g
   pub growing : Growing g f w
   pub by : ℕ
   pub least : Least (g .slots) (g .m) f (w .x) (w .rank) (g .m) p by

@@ -1,6 +1,6 @@
 pub mod Growth
 pub mod Push
-pub mod Drain
+pub mod Augment
 pub mod Admit
 pub mod Flows
 pub mod Start

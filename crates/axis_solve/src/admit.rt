@@ -5,15 +5,15 @@ use crate::growth::rebase;
 use crate::growth::seed;
 use crate::keeps::keeps;
 use crate::push::push;
+use axis_bounds::Slot;
 use axis_graph::Graph;
 use axis_graph::NODE_ROOM;
 use axis_graph::SLOT_ROOM;
-use axis_bounds::Slot;
 ghost use Prim.Native.Nat.{_≤_};
 ghost use Rattle.axis_graph.specs.Limits.{slotRoom};
-ghost use Rattle.axis_graph.specs.Graph.{FineSlot, Fine, Leads, Net};
+ghost use Rattle.axis_graph.specs.Graph.{SlotWithin, GraphWithin, Leads, Net};
 ghost use Rattle.axis_solve.specs.Growth.{Growing};
-ghost use Rattle.axis_solve.specs.Admit.{withSlot, target, Free, Fresh, Approached, Wanted, AdmitOk};
+ghost use Rattle.axis_solve.specs.Admit.{withSlot, target, Feasible, Fresh, Approached, Wanted, AdmitOk};
 
 // fits: values x that keep all bounds; otherwise amounts f that refute them.
 pub struct Admitted {
@@ -24,9 +24,9 @@ pub struct Admitted {
 
 // Grows until the bound of s holds, or its tail joins.
 fn approach(g: Graph, f: [u64; SLOT_ROOM], w: Growth, s: Slot) -> Growth
-    requires { ⌜ Fine g ⌝ }
+    requires { ⌜ GraphWithin g ⌝ }
     requires { ⌜ Growing g f w ⌝ }
-    requires { ⌜ FineSlot s ⌝ }
+    requires { ⌜ SlotWithin s ⌝ }
     requires { ⌜ Leads g (w .start) (s .tail) ⌝ }
     ensures { λ r. ⌜ Approached g f (w .start) s r ⌝ }
 {
@@ -49,10 +49,10 @@ fn approach(g: Graph, f: [u64; SLOT_ROOM], w: Growth, s: Slot) -> Growth
 
 // One bound more, at the unused slot j.
 fn admit_slot(g: Graph, x: [u64; NODE_ROOM], j: usize, s: Slot) -> Admitted
-    requires { ⌜ Fine g ⌝ }
-    requires { ⌜ Free g x ⌝ }
+    requires { ⌜ GraphWithin g ⌝ }
+    requires { ⌜ Feasible g x ⌝ }
     requires { ⌜ Fresh g j ⌝ }
-    requires { ⌜ FineSlot s ⌝ }
+    requires { ⌜ SlotWithin s ⌝ }
     requires { ⌜ Net g (s .head) (s .tail) ⌝ }
     ensures { λ r. ⌜ AdmitOk (withSlot g j s) (r .fits) (r .x) (r .f) ⌝ }
 {
@@ -85,8 +85,8 @@ pub(crate) fn admit_all(
     from: usize,
     to: usize,
 ) -> Admitted
-    requires { ⌜ Fine g ⌝ }
-    requires { ⌜ Free g x ⌝ }
+    requires { ⌜ GraphWithin g ⌝ }
+    requires { ⌜ Feasible g x ⌝ }
     requires { ⌜ from ≤ to ⌝ }
     requires { ⌜ to ≤ slotRoom ⌝ }
     requires { ⌜ Wanted g full from to ⌝ }

@@ -8,7 +8,7 @@ ghost use Prim.Native.Nat.{_<_, _≤_};
 ghost use lib.ListN.{getD};
 ghost use Rattle.axis_graph.specs.Limits.{noSlack, nodeRoom, slotRoom};
 ghost use Rattle.axis_bounds.specs.Listed.{slotAt};
-ghost use Rattle.axis_graph.specs.Graph.{FineSlot, Fine, Small, Holds, Leaving, Decides};
+ghost use Rattle.axis_graph.specs.Graph.{SlotWithin, GraphWithin, ValuesWithin, Holds, Leaving, Decides};
 ghost use Rattle.axis_solve.specs.Growth.{seedOf, joinOf, Least, Raised, Spread, Shifted, Growing, Ready, StepOk};
 
 // The most that two values under all bounds differ.
@@ -85,8 +85,8 @@ fn least_leaving(
     x: [u64; NODE_ROOM],
     rank: [usize; NODE_ROOM],
 ) -> Leave
-    requires { ⌜ Fine g ⌝ }
-    requires { ⌜ Small x ⌝ }
+    requires { ⌜ GraphWithin g ⌝ }
+    requires { ⌜ ValuesWithin x ⌝ }
     requires { ⌜ Holds (g .slots) (g .m) x ⌝ }
     ensures { λ r. ⌜ Least (g .slots) (g .m) f x rank (g .m) (r .slot) (r .by) ⌝ }
 {
@@ -118,7 +118,7 @@ fn least_leaving(
 
 // The values of the set raised by d.
 fn raise(x: [u64; NODE_ROOM], rank: [usize; NODE_ROOM], d: u64) -> [u64; NODE_ROOM]
-    requires { ⌜ Small x ⌝ }
+    requires { ⌜ ValuesWithin x ⌝ }
     requires { ⌜ d < noSlack ⌝ }
     ensures { λ r. ⌜ Raised rank d x r nodeRoom ⌝ }
 {
@@ -152,7 +152,7 @@ fn join(w: Growth, y: [u64; NODE_ROOM], v: usize, p: usize, q: u64) -> Growth
 // The node at the outer end of slot p joins.
 fn attach(g: Graph, f: [u64; SLOT_ROOM], w: Growth, y: [u64; NODE_ROOM], p: usize) -> Step
     requires { ⌜ p < slotRoom ⌝ }
-    requires { ⌜ FineSlot (slotAt (g .slots) p) ⌝ }
+    requires { ⌜ SlotWithin (slotAt (g .slots) p) ⌝ }
     requires { ⌜ Ready g f w y p ⌝ }
     ensures { λ r. ⌜ StepOk g f w (r .joined) (r .state) ⌝ }
 {
@@ -185,7 +185,7 @@ fn attach(g: Graph, f: [u64; SLOT_ROOM], w: Growth, y: [u64; NODE_ROOM], p: usiz
 
 // One step of the growth.
 pub(crate) fn grow_step(g: Graph, f: [u64; SLOT_ROOM], w: Growth) -> Step
-    requires { ⌜ Fine g ⌝ }
+    requires { ⌜ GraphWithin g ⌝ }
     requires { ⌜ Growing g f w ⌝ }
     ensures { λ r. ⌜ StepOk g f w (r .joined) (r .state) ⌝ }
 {
@@ -207,7 +207,7 @@ pub(crate) fn grow_step(g: Graph, f: [u64; SLOT_ROOM], w: Growth) -> Step
 // The values moved together, so that node 0 has FARTHEST.
 pub(crate) fn rebase(x: [u64; NODE_ROOM], n: usize) -> [u64; NODE_ROOM]
     requires { ⌜ n ≤ nodeRoom ⌝ }
-    requires { ⌜ Small x ⌝ }
+    requires { ⌜ ValuesWithin x ⌝ }
     requires { ⌜ Spread x n ⌝ }
     ensures { λ y. ⌜ Shifted (getD x 0 0) x y n ⌝ }
 {

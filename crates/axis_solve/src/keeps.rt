@@ -1,12 +1,12 @@
 // The bound of one slot.
-use axis_graph::NODE_ROOM;
 use axis_bounds::Slot;
-ghost use Rattle.axis_graph.specs.Graph.{FineSlot, Small, HoldsAt, Decides};
+use axis_graph::NODE_ROOM;
+ghost use Rattle.axis_graph.specs.Graph.{SlotWithin, ValuesWithin, HoldsAt, Decides};
 
 // Whether the values x keep the bound of s.
 pub(crate) fn keeps(s: Slot, x: [u64; NODE_ROOM]) -> bool
-    requires { ⌜ FineSlot s ⌝ }
-    requires { ⌜ Small x ⌝ }
+    requires { ⌜ SlotWithin s ⌝ }
+    requires { ⌜ ValuesWithin x ⌝ }
     ensures { λ r. ⌜ Decides r (HoldsAt s x) ⌝ }
 {
     let tail = s.tail;

@@ -1,10 +1,10 @@
 // The solver of an axis that is sure to find the answer.
 //
-// `admit` adds bounds to a graph, or shows that no values keep them all; `drain` sends a net's weight from its lower to its upper node
+// `admit` adds bounds to a graph, or shows that no values keep them all; `augment` sends a net's weight from its lower to its upper node
 // along slots that are tight; `solve` does so for every net and makes the values the smallest. All of them grow a set of nodes along
 // tight slots (`growth`) and push amounts along it (`push`). `start` gives the values that the whole graph starts from.
 mod admit;
-mod drain;
+mod augment;
 mod growth;
 mod keeps;
 mod push;
@@ -16,6 +16,7 @@ use crate::growth::FARTHEST;
 use crate::growth::rebase;
 use crate::solve::solve_axis;
 use crate::start::start_values;
+use axis_bounds::Axis;
 use axis_graph::NODE_ROOM;
 use axis_graph::SLOT_ROOM;
 use axis_graph::Solution;
@@ -27,19 +28,18 @@ use axis_held::graphs::die_graph;
 use axis_held::graphs::macro_graph;
 use axis_held::graphs::net_spans;
 use axis_held::graphs::whole_graph;
-use axis_bounds::Axis;
 ghost use Prim.Native.Nat.{_<_};
 ghost use Rattle.axis_bounds.specs.Axis.{axisOf};
 ghost use Rattle.axis_bounds.specs.Held.{Held};
 ghost use Rattle.axis_graph.specs.Above.{NoneAbove, FirstAbove};
 ghost use Rattle.axis_graph.specs.Build.{macroGraph};
 ghost use Rattle.axis_graph.specs.Service.{SolutionOk};
-ghost use Rattle.axis_solve.specs.Admit.{Free};
+ghost use Rattle.axis_solve.specs.Admit.{Feasible};
 
 // The nets, from values that keep the slots of macros and pairs.
-fn drain_nets(a: Axis, x: [u64; NODE_ROOM]) -> Solution
+fn augment_nets(a: Axis, x: [u64; NODE_ROOM]) -> Solution
     requires { ⌜ Held a ⌝ }
-    requires { ⌜ Free (macroGraph (axisOf a)) x ⌝ }
+    requires { ⌜ Feasible (macroGraph (axisOf a)) x ⌝ }
     ensures { λ r. ⌜ SolutionOk a (r .verdict) (r .at) (r .amounts) ⌝ }
 {
     let nets = a.nets;
@@ -76,7 +76,7 @@ fn add_pairs(a: Axis) -> Solution
     let f = s.f;
     let fits = s.fits;
     if fits {
-        return drain_nets(a, x);
+        return augment_nets(a, x);
     }
     Solution {
         verdict: Verdict::Unsolvable,

@@ -2,7 +2,7 @@
 use crate::growth::Growth;
 use axis_graph::Graph;
 use axis_graph::SLOT_ROOM;
-ghost use Rattle.axis_graph.specs.Graph.{Fine};
+ghost use Rattle.axis_graph.specs.Graph.{GraphWithin};
 ghost use Rattle.axis_solve.specs.Push.{Pushable, Pushed};
 
 // q more from the start of the growth to the goal: along the parents a slot walked forwards gains q, one walked backwards
@@ -14,7 +14,7 @@ pub(crate) fn push(
     goal: usize,
     q: u64,
 ) -> [u64; SLOT_ROOM]
-    requires { ⌜ Fine g ⌝ }
+    requires { ⌜ GraphWithin g ⌝ }
     requires { ⌜ Pushable g f w goal q ⌝ }
     ensures { λ r. ⌜ Pushed g f w goal q r ⌝ }
 {

@@ -1,26 +1,26 @@
 // Every net's flow, then the smallest of the least values.
-use crate::drain::Flowed;
-use crate::drain::drain;
+use crate::augment::Flowed;
+use crate::augment::augment;
 use crate::growth::Growth;
 use crate::growth::grow_step;
 use crate::growth::seed;
+use axis_bounds::Axis;
 use axis_graph::Graph;
 use axis_graph::NODE_ROOM;
 use axis_graph::SLOT_ROOM;
 use axis_graph::Span;
-use axis_bounds::Axis;
 ghost use Prim.Native.Nat.{_<_, _≤_};
 ghost use Rattle.axis_graph.specs.Limits.{netRoom};
-ghost use Rattle.axis_graph.specs.Graph.{Fine};
+ghost use Rattle.axis_graph.specs.Graph.{GraphWithin};
 ghost use Rattle.axis_solve.specs.Growth.{Growing};
-ghost use Rattle.axis_solve.specs.Admit.{Free};
+ghost use Rattle.axis_solve.specs.Admit.{Feasible};
 ghost use Rattle.axis_graph.specs.Solved.{Nets, Solved};
 ghost use Rattle.axis_solve.specs.Flows.{Settled, Flows};
 
 // Every net's weight, from amounts of 0.
-fn drain_all(g: Graph, x: [u64; NODE_ROOM], nets: [Span; Axis::NETS], count: usize) -> Flowed
-    requires { ⌜ Fine g ⌝ }
-    requires { ⌜ Free g x ⌝ }
+fn augment_all(g: Graph, x: [u64; NODE_ROOM], nets: [Span; Axis::NETS], count: usize) -> Flowed
+    requires { ⌜ GraphWithin g ⌝ }
+    requires { ⌜ Feasible g x ⌝ }
     requires { ⌜ count ≤ netRoom ⌝ }
     requires { ⌜ Nets g nets count ⌝ }
     ensures { λ r. ⌜ Flows g nets count (r .x) (r .f) ⌝ }
@@ -30,7 +30,7 @@ fn drain_all(g: Graph, x: [u64; NODE_ROOM], nets: [Span; Axis::NETS], count: usi
     let mut j: usize = 0;
     while j < count {
         let p = nets[j];
-        let t = drain(g, f, y, p.lo, p.hi, p.weight);
+        let t = augment(g, f, y, p.lo, p.hi, p.weight);
         f = t.f;
         y = t.x;
         j += 1;
@@ -40,7 +40,7 @@ fn drain_all(g: Graph, x: [u64; NODE_ROOM], nets: [Span; Axis::NETS], count: usi
 
 // Grows until no slot leaves.
 fn settle(g: Graph, f: [u64; SLOT_ROOM], w: Growth) -> Growth
-    requires { ⌜ Fine g ⌝ }
+    requires { ⌜ GraphWithin g ⌝ }
     requires { ⌜ Growing g f w ⌝ }
     ensures { λ r. ⌜ Settled g f (w .start) r ⌝ }
 {
@@ -62,14 +62,14 @@ pub(crate) fn solve_axis(
     nets: [Span; Axis::NETS],
     count: usize,
 ) -> Flowed
-    requires { ⌜ Fine g ⌝ }
+    requires { ⌜ GraphWithin g ⌝ }
     requires { ⌜ 0 < g .n ⌝ }
-    requires { ⌜ Free g x ⌝ }
+    requires { ⌜ Feasible g x ⌝ }
     requires { ⌜ count ≤ netRoom ⌝ }
     requires { ⌜ Nets g nets count ⌝ }
     ensures { λ r. ⌜ Solved g nets count (r .x) (r .f) ⌝ }
 {
-    let t = drain_all(g, x, nets, count);
+    let t = augment_all(g, x, nets, count);
     let f = t.f;
     let y = t.x;
     let w = settle(g, f, seed(y, 0, 1));

@@ -1,10 +1,10 @@
 // The values that the whole graph starts from.
-use crate::drain::lesser;
+use crate::augment::lesser;
 use crate::growth::FARTHEST;
-use axis_graph::NODE_ROOM;
 use axis_bounds::Axis;
 use axis_bounds::AxisNet;
 use axis_bounds::AxisPin;
+use axis_graph::NODE_ROOM;
 ghost use mathlib.Core.Path.{_≡_};
 ghost use Prim.Native.Nat.{_+_, _≤_, max};
 ghost use Rattle.axis_bounds.specs.Held.{pinsBefore};

@@ -14,7 +14,7 @@ use Rattle.axis_graph.proofs.Answers.{held-by, shows-yes, shown-by}
 use Rattle.axis_bounds.specs.Listed.{slotAt, tails, heads, pluses, minuses}
 use Rattle.axis_graph.specs.declared.Graph.{Graph}
 use Rattle.axis_graph.specs.Limits.{nodeRoom, lowMost}
-use Rattle.axis_graph.specs.Graph.{at, Fine, Small, Holds, Tights, Shows, Decides}
+use Rattle.axis_graph.specs.Graph.{at, GraphWithin, ValuesWithin, Holds, Tights, Shows, Decides}
 use Rattle.axis_graph.specs.Above.{FirstAbove}
 use Rattle.axis_values.specs.Values.{Kept, Tied, Parent, Rooted, Rests}
 use Rattle.axis_graph.proofs.FirstAbove.{every-fits}
@@ -25,7 +25,7 @@ module _ (x : List ℕ) (i : ℕ) (f : FirstAbove lowMost x nodeRoom i) (l : nod
   low-all : (k : ℕ) → at x k ≤ lowMost
   low-all = every-fits lowMost x nodeRoom i f l long
 
-  pub low-small : Small x
+  pub low-small : ValuesWithin x
   low-small = record { most = λ k. let p = low-all k in omega arith }
 
   pub kept-by : (g : Graph) (r : Bool) → Shows r (Holds (g .slots) (g .m) x) → Shows r (Kept g x)
@@ -43,7 +43,7 @@ module _ (ss : List Slot) (x : List ℕ) where
   pub holds-all : (i m : ℕ) → Holds ss i x → m ≤ i → Shows true (Holds ss m x)
   holds-all i m h l = shows-yes (record { le = λ s k. h .le s (omega arith) })
 
-pub kept-small : (g : Graph) (x : List ℕ) (b : Bool) → Shows b (Kept g x) → not b ≡ false → Small x
+pub kept-small : (g : Graph) (x : List ℕ) (b : Bool) → Shows b (Kept g x) → not b ≡ false → ValuesWithin x
 kept-small g x b s e = record { most = λ k. let p = shown-by b s e .low k in omega arith }
 
 module _ (ss : List Slot) (f x : List ℕ) where
@@ -64,25 +64,25 @@ module _ (ss : List Slot) (f x : List ℕ) where
 
 module _ (s : Slot) (k a t h r : ℕ) where
   pub tied-forward : s .head ≡ k → t < r → Shows true (Tied s k a t h r)
-  tied-forward e l = shows-yes (record { way = inl (e, l) })
+  tied-forward e l = shows-yes (record { parents = inl (e, l) })
 
   pub tied-back : s .tail ≡ k → h < r → 0 < a → Shows true (Tied s k a t h r)
-  tied-back e l c = shows-yes (record { way = inr (e, l, c) })
+  tied-back e l c = shows-yes (record { parents = inr (e, l, c) })
 
-module _ (ss : List Slot) (m : ℕ) (f x way : List ℕ) where
-  pub rooted-none : Rooted ss m f x way 1
+module _ (ss : List Slot) (m : ℕ) (f x parents : List ℕ) where
+  pub rooted-none : Rooted ss m f x parents 1
   rooted-none = record { parent = λ k p l. absurd (omega arith) }
 
-  pub rooted-all : (i n : ℕ) → Rooted ss m f x way i → n ≤ i → Shows true (Rooted ss m f x way n)
+  pub rooted-all : (i n : ℕ) → Rooted ss m f x parents i → n ≤ i → Shows true (Rooted ss m f x parents n)
   rooted-all i n h l = shows-yes (record { parent = λ k p o. h .parent k p (omega arith) })
 
-  module _ (k : ℕ) (l : at way k < m) where
-    pub rooted-more : Rooted ss m f x way k → at x (heads ss (at way k)) + minuses ss (at way k) ≡ at x (tails ss (at way k)) + pluses ss (at way k) → (b : Bool) → Shows b (Tied (slotAt ss (at way k)) k (at f (at way k)) (at way (128 + tails ss (at way k))) (at way (128 + heads ss (at way k))) (at way (128 + k))) → not b ≡ false → Rooted ss m f x way (k + 1)
+  module _ (k : ℕ) (l : at parents k < m) where
+    pub rooted-more : Rooted ss m f x parents k → at x (heads ss (at parents k)) + minuses ss (at parents k) ≡ at x (tails ss (at parents k)) + pluses ss (at parents k) → (b : Bool) → Shows b (Tied (slotAt ss (at parents k)) k (at f (at parents k)) (at parents (128 + tails ss (at parents k))) (at parents (128 + heads ss (at parents k))) (at parents (128 + k))) → not b ≡ false → Rooted ss m f x parents (k + 1)
     rooted-more h e b t o =
-        record { parent = λ j p i. below-more (λ u. 0 < u → Parent ss m f x way u) k (λ u v q. h .parent u q v) (λ q. record { slot = l; tight = record { eq = sym e }; tied = shown-by b t o }) j i p }
+        record { parent = λ j p i. below-more (λ u. 0 < u → Parent ss m f x parents u) k (λ u v q. h .parent u q v) (λ q. record { slot = l; tight = record { eq = sym e }; tied = shown-by b t o }) j i p }
 
 -- the places of ranks
-module _ (g : Graph) (fine : Fine g) (p : ℕ) (l : p < g .m) where
+module _ (g : Graph) (fine : GraphWithin g) (p : ℕ) (l : p < g .m) where
   pub tail-rank-fits : Fits w64 (128 + tails (g .slots) p)
   tail-rank-fits = let a = fine .fine p l .tail in omega arith
 
@@ -103,5 +103,5 @@ module _ (g : Graph) (fine : Fine g) (p : ℕ) (l : p < g .m) where
 
 -- ---- all tests
 
-pub rests-by : (g : Graph) (f x way : List ℕ) (a : Bool) → Decides a (Fine g) → not a ≡ false → (b : Bool) → Shows b (Kept g x) → not b ≡ false → (d : Bool) → Shows d (Tights (g .slots) (g .m) f x) → not d ≡ false → (r : Bool) → Shows r (Rooted (g .slots) (g .m) f x way (g .n)) → Shows r (Rests g f x way)
-rests-by g f x way a fa ea b kb eb d td ed r tr = record { shown = λ o. record { fine = held-by a fa ea; kept = shown-by b kb eb; tight = shown-by d td ed; rooted = tr .shown o } }
+pub rests-by : (g : Graph) (f x parents : List ℕ) (a : Bool) → Decides a (GraphWithin g) → not a ≡ false → (b : Bool) → Shows b (Kept g x) → not b ≡ false → (d : Bool) → Shows d (Tights (g .slots) (g .m) f x) → not d ≡ false → (r : Bool) → Shows r (Rooted (g .slots) (g .m) f x parents (g .n)) → Shows r (Rests g f x parents)
+rests-by g f x parents a fa ea b kb eb d td ed r tr = record { shown = λ o. record { fine = held-by a fa ea; kept = shown-by b kb eb; tight = shown-by d td ed; rooted = tr .shown o } }

@@ -3,15 +3,15 @@
 // The values keep all bounds, every slot that carries is tight, and every node has a parent before it in some order from node 0: by a
 // tight slot forwards, or by one that carries backwards. Where the amounts are a flow too (axis_amounts), the values are the smallest of
 // the least.
+use axis_bounds::Slot;
 use axis_graph::Graph;
 use axis_graph::NODE_ROOM;
 use axis_graph::NODES;
+use axis_graph::PARENTS;
 use axis_graph::SLOT_ROOM;
-use axis_graph::WAYS;
 use axis_graph::above::first_above;
 use axis_graph::fine::is_fine;
-use axis_bounds::Slot;
-ghost use Rattle.axis_graph.specs.Graph.{Fine, Small, Holds, Tights, Shows};
+ghost use Rattle.axis_graph.specs.Graph.{GraphWithin, ValuesWithin, Holds, Tights, Shows};
 ghost use Rattle.axis_values.specs.Values.{Kept, Tied, Rooted, Rests};
 
 // The highest value of a proposal.
@@ -19,8 +19,8 @@ const HIGHEST: u64 = 500000;
 
 // Whether the values keep every bound.
 fn bounds_hold(g: Graph, x: [u64; NODE_ROOM]) -> bool
-    requires { ⌜ Fine g ⌝ }
-    requires { ⌜ Small x ⌝ }
+    requires { ⌜ GraphWithin g ⌝ }
+    requires { ⌜ ValuesWithin x ⌝ }
     ensures { λ r. ⌜ Shows r (Holds (g .slots) (g .m) x) ⌝ }
 {
     let slots = g.slots;
@@ -40,7 +40,7 @@ fn bounds_hold(g: Graph, x: [u64; NODE_ROOM]) -> bool
 
 // Whether the values are within the limit and keep every bound.
 fn keeps_all(g: Graph, x: [u64; NODE_ROOM]) -> bool
-    requires { ⌜ Fine g ⌝ }
+    requires { ⌜ GraphWithin g ⌝ }
     ensures { λ r. ⌜ Shows r (Kept g x) ⌝ }
 {
     if first_above(&x, HIGHEST, NODE_ROOM) < NODE_ROOM {
@@ -51,8 +51,8 @@ fn keeps_all(g: Graph, x: [u64; NODE_ROOM]) -> bool
 
 // Whether every slot that carries something is tight.
 fn tight_slots(g: Graph, f: [u64; SLOT_ROOM], x: [u64; NODE_ROOM]) -> bool
-    requires { ⌜ Fine g ⌝ }
-    requires { ⌜ Small x ⌝ }
+    requires { ⌜ GraphWithin g ⌝ }
+    requires { ⌜ ValuesWithin x ⌝ }
     ensures { λ r. ⌜ Shows r (Tights (g .slots) (g .m) f x) ⌝ }
 {
     let slots = g.slots;
@@ -93,17 +93,17 @@ fn is_tied(s: Slot, k: usize, a: u64, t: usize, h: usize, r: usize) -> bool
 }
 
 // Whether every node but 0 has a parent.
-fn is_rooted(g: Graph, f: [u64; SLOT_ROOM], x: [u64; NODE_ROOM], way: [usize; WAYS]) -> bool
-    requires { ⌜ Fine g ⌝ }
-    requires { ⌜ Small x ⌝ }
-    ensures { λ r. ⌜ Shows r (Rooted (g .slots) (g .m) f x way (g .n)) ⌝ }
+fn is_rooted(g: Graph, f: [u64; SLOT_ROOM], x: [u64; NODE_ROOM], parents: [usize; PARENTS]) -> bool
+    requires { ⌜ GraphWithin g ⌝ }
+    requires { ⌜ ValuesWithin x ⌝ }
+    ensures { λ r. ⌜ Shows r (Rooted (g .slots) (g .m) f x parents (g .n)) ⌝ }
 {
     let slots = g.slots;
     let m = g.m;
     let n = g.n;
     let mut k: usize = 1;
     while k < n {
-        let p = way[k];
+        let p = parents[k];
         if m <= p {
             return false;
         }
@@ -117,9 +117,9 @@ fn is_rooted(g: Graph, f: [u64; SLOT_ROOM], x: [u64; NODE_ROOM], way: [usize; WA
             s,
             k,
             f[p],
-            way[NODES + tail],
-            way[NODES + head],
-            way[NODES + k],
+            parents[NODES + tail],
+            parents[NODES + head],
+            parents[NODES + k],
         ) {
             return false;
         }
@@ -128,9 +128,14 @@ fn is_rooted(g: Graph, f: [u64; SLOT_ROOM], x: [u64; NODE_ROOM], way: [usize; WA
     true
 }
 
-// Whether the values keep all bounds, are tight where something is carried, and `way` has parents and ranks that lead to node 0.
-pub fn is_rest(g: Graph, f: [u64; SLOT_ROOM], x: [u64; NODE_ROOM], way: [usize; WAYS]) -> bool
-    ensures { λ r. ⌜ Shows r (Rests g f x way) ⌝ }
+// Whether the values keep all bounds, are tight where something is carried, and `parents` has parents and ranks that lead to node 0.
+pub fn is_rest(
+    g: Graph,
+    f: [u64; SLOT_ROOM],
+    x: [u64; NODE_ROOM],
+    parents: [usize; PARENTS],
+) -> bool
+    ensures { λ r. ⌜ Shows r (Rests g f x parents) ⌝ }
 {
     if !is_fine(g) {
         return false;
@@ -141,5 +146,5 @@ pub fn is_rest(g: Graph, f: [u64; SLOT_ROOM], x: [u64; NODE_ROOM], way: [usize; 
     if !tight_slots(g, f, x) {
         return false;
     }
-    is_rooted(g, f, x, way)
+    is_rooted(g, f, x, parents)
 }

@@ -18,7 +18,7 @@ use Rattle.model.proofs.FirstOf.{length-first, getD-first, first-within, first-
 use Rattle.model.proofs.Nets.{length-pins, length-nets}
 use Rattle.text_grammar.specs.Reading.{accepted}
 use Rattle.chip_text.specs.Text.{readChip, chipText}
-use Rattle.chip_text.specs.Valid.{ValidPin, ValidNet, Valid, noNet, pinsBefore, FineNet, FinePin, Fine}
+use Rattle.chip_text.specs.Valid.{ValidPin, ValidNet, Valid, noNet, pinsBefore, HeldValidNet, HeldValidPin, HeldValid}
 use Rattle.chip_text.proofs.Accepted.{accepted-valid}
 use Rattle.chip_text.proofs.HeldNets.{getD-pins, before-first, pins-within}
 use Rattle.chip_text.proofs.HeldMeaning.{fix-held, mac-held, weight-held, net-held}
@@ -30,24 +30,24 @@ place-fine v e = by (decLt v 4096)
     by (yes p) = omega arith
     by (no n) = let q = leb-true (v - 4096) 4096 (rw (le-ltb v 4096 (omega arith)) at e) in omega arith
 
-pin-fine : (n : ℕ) (p : HeldPin) → ValidPin n (pinOf p) → FinePin n p
+pin-fine : (n : ℕ) (p : HeldPin) → ValidPin n (pinOf p) → HeldValidPin n p
 pin-fine n p v = record { macro = v .macro; x = place-fine (p .xup) (v .x); y = place-fine (p .yup) (v .y) }
 
 -- the pins of a valid net
-net-pins-fine : (n : ℕ) (t : HeldNet) (ps : List HeldPin) → t .pins ≤ length ps → ValidNet n (record { weight = t .weight; pins = pinsOf (firstOf blankPin (t .pins) ps) }) → (i : ℕ) → i < t .pins → FinePin n (getD ps i blankPin)
+net-pins-fine : (n : ℕ) (t : HeldNet) (ps : List HeldPin) → t .pins ≤ length ps → ValidNet n (record { weight = t .weight; pins = pinsOf (firstOf blankPin (t .pins) ps) }) → (i : ℕ) → i < t .pins → HeldValidPin n (getD ps i blankPin)
 net-pins-fine n t ps h v i g =
     let l = length-first blankPin (t .pins) ps h in
     pin-fine n _ (rw (getD-pins (firstOf blankPin (t .pins) ps) i (omega arith), getD-first blankPin (t .pins) ps i g) at (v .pin i (rw length-pins (omega arith))))
 
 -- the pins of valid nets
-pins-fine : (n : ℕ) (ts : List HeldNet) (ps : List HeldPin) → pinsBefore (length ts) ts ≤ length ps → ((j : ℕ) → j < length (netsOf ts ps) → ValidNet n (getD (netsOf ts ps) j noNet)) → (i : ℕ) → i < pinsBefore (length ts) ts → FinePin n (getD ps i blankPin)
+pins-fine : (n : ℕ) (ts : List HeldNet) (ps : List HeldPin) → pinsBefore (length ts) ts ≤ length ps → ((j : ℕ) → j < length (netsOf ts ps) → ValidNet n (getD (netsOf ts ps) j noNet)) → (i : ℕ) → i < pinsBefore (length ts) ts → HeldValidPin n (getD ps i blankPin)
 unfolding netsOf pinsBefore
 pins-fine n [] ps h v i g = absurd (omega arith)
 pins-fine n (t ∷ ts) ps h v i g = by (decLt i (t .pins)) (pins-fine n ts (drop (t .pins) ps) (rw length-drop (omega arith)) (λ j k. v (suc j) (omega arith)))
   where
-    by : Dec (i < t .pins) → ((m : ℕ) → m < pinsBefore (length ts) ts → FinePin n (getD (drop (t .pins) ps) m blankPin)) → FinePin n (getD ps i blankPin)
+    by : Dec (i < t .pins) → ((m : ℕ) → m < pinsBefore (length ts) ts → HeldValidPin n (getD (drop (t .pins) ps) m blankPin)) → HeldValidPin n (getD ps i blankPin)
     by (yes p) ih = net-pins-fine n t ps (omega arith) (v 0 (omega arith)) i p
-    by (no q) ih = subst (λ (m : ℕ). FinePin n (getD ps m blankPin)) (omega arith) (rw getD-drop at (ih (i - t .pins) (omega arith)))
+    by (no q) ih = subst (λ (m : ℕ). HeldValidPin n (getD ps m blankPin)) (omega arith) (rw getD-drop at (ih (i - t .pins) (omega arith)))
 
 -- ---- a valid chip in arrays of full length
 
@@ -89,7 +89,7 @@ module _ (c : HeldChip) (f : length (c .fixes) ≡ 8) (m : length (c .macs) ≡ 
     unfolding chipOf
     net-valid j h = rw mac-count at (v .net j (rw (length-nets, net-count) h))
 
-    net-fine : (j : ℕ) → j < c .t → FineNet (getD (c .nets) j blankNet)
+    net-fine : (j : ℕ) → j < c .t → HeldValidNet (getD (c .nets) j blankNet)
     net-fine j h =
         let w = net-valid j h in
         record {
@@ -97,12 +97,12 @@ module _ (c : HeldChip) (f : length (c .fixes) ≡ 8) (m : length (c .macs) ≡ 
           some = first-some blankPin (getD (c .nets) j blankNet .pins) (drop (pinsBefore j (c .nets)) (c .pins)) (rw (net-held c j h, length-pins) at (w .some));
         }
 
-    pin-all-fine : (i : ℕ) → i < pinsBefore (c .t) (c .nets) → FinePin (c .n) (getD (c .pins) i blankPin)
+    pin-all-fine : (i : ℕ) → i < pinsBefore (c .t) (c .nets) → HeldValidPin (c .n) (getD (c .pins) i blankPin)
     unfolding chipOf
     pin-all-fine i h = pins-fine (c .n) (firstOf blankNet (c .t) (c .nets)) (c .pins) (rw pins-same pins-fit) (λ j g. net-valid j (rw (length-nets, net-count) at g)) i (rw pins-same h)
 
     -- a value that means a valid chip is fine
-    pub held-fine : Fine c
+    pub held-fine : HeldValid c
     unfolding chipOf
     held-fine = record {
       dieW = v .dieW;
@@ -118,5 +118,5 @@ module _ (c : HeldChip) (f : length (c .fixes) ≡ 8) (m : length (c .macs) ≡ 
     }
 
   -- a value whose text is accepted is fine
-  pub tested-fine : accepted (chipOf c) ≡ readChip (chipText (chipOf c)) → Fine c
+  pub tested-fine : accepted (chipOf c) ≡ readChip (chipText (chipOf c)) → HeldValid c
   tested-fine e = held-fine (accepted-valid (chipText (chipOf c)) (chipOf c) (sym e))

@@ -7,7 +7,7 @@ use Rattle.model.specs.declared.Chip.{Chip as HeldChip}
 use Rattle.model.specs.Meaning.{firstOf, blankFix, blankMac, blankNet, blankPin, pinsOf, chipOf}
 use Rattle.model.proofs.FirstOf.{first-take, length-first, getD-first}
 use Rattle.model.proofs.Nets.{length-nets}
-use Rattle.chip_text.specs.Valid.{noNet, pinsBefore, Fine}
+use Rattle.chip_text.specs.Valid.{noNet, pinsBefore, HeldValid}
 use Rattle.chip_text.proofs.HeldNets.{before-first, getD-weight, getD-net, pins-before-up, pins-before-more}
 
 module _ (c : HeldChip) where
@@ -29,7 +29,7 @@ module _ (c : HeldChip) where
   net-held j h = getD-net (firstOf blankNet (c .t) (c .nets)) (c .pins) j ∙ rw (getD-first blankNet (c .t) (c .nets) j h, before-first j (c .t) (c .nets) (omega arith))
 
   -- where the chip is fine and its arrays are whole
-  module _ (v : Fine c) where
+  module _ (v : HeldValid c) where
     pub fixes-held : length (c .fixes) ≡ 8 → length (chipOf c .fixes) ≡ c .k
     unfolding chipOf
     fixes-held l = let q = v .fixCount in length-first blankFix (c .k) (c .fixes) (omega arith)

@@ -17,7 +17,7 @@ use Rattle.model.proofs.Nets.{length-pins}
 use Rattle.text_grammar.specs.Writing.{testedAs}
 use Rattle.chip_text.specs.Kind.{pinCount}
 use Rattle.chip_text.specs.Text.{readChip, chipText}
-use Rattle.chip_text.specs.Valid.{pinsBefore, Fine}
+use Rattle.chip_text.specs.Valid.{pinsBefore, HeldValid}
 use Rattle.chip_text.specs.Passed.{Accepted, Passed}
 use Rattle.chip_text.proofs.Accepted.{accepted-valid}
 use Rattle.chip_text.proofs.HeldNets.{before-first}
@@ -48,7 +48,7 @@ whole c A B C D f g h k p q r s =
     record { fixes = sym (length-map (c .fixes) f) ∙ p; macs = sym (length-map (c .macs) g) ∙ q; nets = sym (length-map (c .nets) h) ∙ r; pins = sym (length-map (c .pins) k) ∙ s }
 
 module _ (c : HeldChip) (w : Whole c) where
-  pins-held : Fine c → pinCount (chipOf c .nets) ≡ pinsBefore (c .t) (c .nets)
+  pins-held : HeldValid c → pinCount (chipOf c .nets) ≡ pinsBefore (c .t) (c .nets)
   unfolding chipOf
   pins-held v =
       let F : List HeldNet = firstOf blankNet (c .t) (c .nets) in
@@ -62,7 +62,7 @@ module _ (c : HeldChip) (w : Whole c) where
 
   pub passed-by : Accepted c → Passed c
   passed-by e =
-      let v : Fine c = tested-fine c (w .fixes) (w .macs) (w .nets) (w .pins) e in
+      let v : HeldValid c = tested-fine c (w .fixes) (w .macs) (w .nets) (w .pins) e in
       record {
         read = e;
         fine = v;

@@ -6,7 +6,7 @@ use Rattle.model.specs.Meaning.{chipOf}
 use Rattle.text_grammar.specs.Reading.{accepted}
 use Rattle.chip_text.specs.Kind.{pinCount}
 use Rattle.chip_text.specs.Text.{readChip, chipText}
-use Rattle.chip_text.specs.Valid.{pinsBefore, Valid, Fine}
+use Rattle.chip_text.specs.Valid.{pinsBefore, Valid, HeldValid}
 
 -- the text of the chip is accepted, as the chip that the value means
 abbrev pub Accepted : HeldChip → Type 0
@@ -15,7 +15,7 @@ Accepted c = accepted (chipOf c) ≡ readChip (chipText (chipOf c))
 -- the same, with what follows of an accepted chip
 pub record Passed (c : HeldChip) : Type 0 where
   pub read : Accepted c
-  pub fine : Fine c
+  pub fine : HeldValid c
   pub valid : Valid (chipOf c)
   pub fixes : length (chipOf c .fixes) ≡ c .k
   pub macs : length (chipOf c .macs) ≡ c .n

@@ -76,18 +76,18 @@ pinsBefore (suc j) [] = 0
 pinsBefore (suc j) (t ∷ ts) = t .pins + pinsBefore j ts
 
 -- a net held as a value
-pub record FineNet (t : HeldNet) : Type 0 where
+pub record HeldValidNet (t : HeldNet) : Type 0 where
   pub weight : In netWeight (t .weight)
   pub some : 0 < t .pins
 
 -- a pin held as a value, of a chip with n macros
-pub record FinePin (n : ℕ) (p : HeldPin) : Type 0 where
+pub record HeldValidPin (n : ℕ) (p : HeldPin) : Type 0 where
   pub macro : p .m ≤ n
   pub x : p .xup ≤ pinUp + mostPlace
   pub y : p .yup ≤ pinUp + mostPlace
 
 -- a chip held as a value: its die, its counts, and each of its parts
-pub record Fine (c : HeldChip) : Type 0 where
+pub record HeldValid (c : HeldChip) : Type 0 where
   pub dieW : In dieSide (c .die .w)
   pub dieH : In dieSide (c .die .h)
   pub fixCount : c .k ≤ mostFixes
@@ -96,5 +96,5 @@ pub record Fine (c : HeldChip) : Type 0 where
   pub pins : pinsBefore (c .t) (c .nets) ≤ mostPins
   pub fix : (i : ℕ) → i < c .k → ValidFix (getD (c .fixes) i blankFix)
   pub mac : (i : ℕ) → i < c .n → ValidMac (getD (c .macs) i blankMac)
-  pub net : (j : ℕ) → j < c .t → FineNet (getD (c .nets) j blankNet)
-  pub pin : (i : ℕ) → i < pinsBefore (c .t) (c .nets) → FinePin (c .n) (getD (c .pins) i blankPin)
+  pub net : (j : ℕ) → j < c .t → HeldValidNet (getD (c .nets) j blankNet)
+  pub pin : (i : ℕ) → i < pinsBefore (c .t) (c .nets) → HeldValidPin (c .n) (getD (c .pins) i blankPin)

@@ -1,12 +1,12 @@
 // The words of chips in code: which word some bytes spell, which word may follow which, and how a line is spelled and laid out.
 use chip_text::ChipWord;
-use text_line::Layout;
-use text_line::Spelling;
 use model::Die;
 use model::Fix;
 use model::Mac;
 use model::Net;
 use model::Pin;
+use text_line::Layout;
+use text_line::Spelling;
 ghost use mathlib.Core.Path.{_≡_};
 ghost use mathlib.Core.List.{[], _∷_};
 ghost use Rattle.text_grammar.specs.Words.{isWord, isIn, wordIn};

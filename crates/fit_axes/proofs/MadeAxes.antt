@@ -14,7 +14,7 @@ use Rattle.model.specs.declared.Chip.{Chip as HeldChip}
 use Rattle.model.specs.Meaning.{firstOf, blankFix, blankMac, blankNet, blankPin, pinOf, pinsOf, chipOf}
 use Rattle.model.specs.Meaning as model
 use Rattle.model.proofs.FirstOf.{first-take, length-first}
-use Rattle.chip_text.specs.Valid.{Fine}
+use Rattle.chip_text.specs.Valid.{HeldValid}
 use Rattle.chip_text.specs.Valid as chip
 use Rattle.chip_text.proofs.HeldNets.{before-first}
 use Rattle.num_laws.proofs.Differences.{sub-up, add-sub}

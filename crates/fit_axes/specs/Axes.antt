@@ -8,7 +8,7 @@ use Rattle.model.specs.declared.Pin.{Pin}
 use Rattle.model.specs.declared.Chip.{Chip}
 use Rattle.model.specs.Meaning.{chipOf}
 use Rattle.model.specs.Limits.{mostMacs}
-use Rattle.chip_text.specs.Valid.{Fine, Valid}
+use Rattle.chip_text.specs.Valid.{HeldValid, Valid}
 use Rattle.chip_text.proofs.Passing.{Whole}
 use Rattle.axis_bounds.specs.declared.Slot.{Slot}
 use Rattle.axis_bounds.specs.declared.AxisNet.{AxisNet}
@@ -39,7 +39,7 @@ heldNet t = record { weight = t .weight; pins = t .pins }
 
 -- the chip that c holds is accepted, its arrays are as long as its type says, and s has one letter for each of its pairs
 pub record Taken (c : Chip) (s : List ℕ) : Type 0 where
-  pub fine : Fine c
+  pub fine : HeldValid c
   pub valid : Valid (chipOf c)
   pub whole : Whole c
   pub letters : length s ≡ letterCount (chipOf c)

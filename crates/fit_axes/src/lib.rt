@@ -2,17 +2,17 @@
 mod pairlist;
 
 use crate::pairlist::pair_slots;
-use axis_graph::Solution;
 use axis_bounds::Axis;
 use axis_bounds::AxisNet;
 use axis_bounds::AxisPin;
+use axis_graph::Solution;
+use fit_pair_slots::die_side;
+use fit_pair_slots::mac_side;
+use fit_slots::Direction;
 use model::Chip;
 use model::Mac;
 use model::Net;
 use model::Pin;
-use fit_pair_slots::die_side;
-use fit_pair_slots::mac_side;
-use fit_slots::Direction;
 ghost use mathlib.Core.Path.{_≡_};
 ghost use mathlib.Core.List.{map};
 ghost use Rattle.fit_slots.specs.Slots.{macSide};

@@ -1,11 +1,11 @@
 // The slot that a letter asks of a pair, in a direction.
 use axis_bounds::Slot;
-use model::Die;
-use model::Fix;
-use model::Mac;
 use fit_pairs::Cursor;
 use fit_slots::Asked;
 use fit_slots::Direction;
+use model::Die;
+use model::Fix;
+use model::Mac;
 ghost use mathlib.Core.Path.{_≡_};
 ghost use Prim.Native.Nat.{_<_};
 ghost use Rattle.fit_slots.specs.Slots.{dieSide, macSide, fixSide, fixCorner, asked};

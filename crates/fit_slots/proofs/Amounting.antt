@@ -19,11 +19,11 @@ use Rattle.fit_slots.specs.Amounts.{amountsWhere, into, outOf, inflow, o
 use Rattle.fit_slots.proofs.Matches.{Same, AllSame}
 
 -- one amount for each slot, 0 in the slots without a bound
-pub record Placed (ss : List Slot) (f : List ℕ) : Type 0 where
+pub record OnePerSlot (ss : List Slot) (f : List ℕ) : Type 0 where
   pub long : length f ≡ length ss
   pub idle : (i : ℕ) → getD ss i free ≡ free → getD f i 0 ≡ 0
 
-placed-rest : (s : Slot) (ss : List Slot) (x : ℕ) (f : List ℕ) → Placed (s ∷ ss) (x ∷ f) → Placed ss f
+placed-rest : (s : Slot) (ss : List Slot) (x : ℕ) (f : List ℕ) → OnePerSlot (s ∷ ss) (x ∷ f) → OnePerSlot ss f
 placed-rest s ss x f p = record { long = let q = p .long in omega arith; idle = λ i. p .idle (suc i) }
 
 -- a slot without a bound is one that asks nothing
@@ -37,7 +37,7 @@ same-free (bound u v a ∷ ss) (h ∷ hs) p zero e = cc
 same-free (s ∷ ss) (h ∷ hs) p (suc i) e = same-free ss hs (p .1) i e
 
 module _ (test : Slot → Bool) (end : HeldSlot → ℕ) (k : ℕ) (agree : (s : Slot) (h : HeldSlot) (x : ℕ) → Same s h → (s ≡ free → x ≡ 0) → when (test s) x ≡ when (eqb (end h) k) x) where
-  where-sum : (ss : List Slot) (hs : List HeldSlot) (f : List ℕ) → AllSame ss hs → Placed ss f → amountsWhere test ss f ≡ sum (λ i. when (eqb (end (getD hs i noSlot)) k) (getD f i 0)) (length hs)
+  where-sum : (ss : List Slot) (hs : List HeldSlot) (f : List ℕ) → AllSame ss hs → OnePerSlot ss f → amountsWhere test ss f ≡ sum (λ i. when (eqb (end (getD hs i noSlot)) k) (getD f i 0)) (length hs)
   unfolding AllSame amountsWhere sum
   where-sum [] [] f a p = refl
   where-sum [] (h ∷ hs) f a p = absurd a
@@ -58,11 +58,11 @@ out-agrees k free h x a z = rw (z refl) (sym (when-zero (eqb (h .tail) k)))
 out-agrees k (bound u v b) h x a z = rw (a .0)
 
 module _ (ss : List Slot) (hs : List HeldSlot) (a : AllSame ss hs) where
-  pub inflow-is : (f : List ℕ) (k : ℕ) → Placed ss f → inflow ss f k ≡ atNode (heads hs) (amount f) (length hs) k
+  pub inflow-is : (f : List ℕ) (k : ℕ) → OnePerSlot ss f → inflow ss f k ≡ atNode (heads hs) (amount f) (length hs) k
   unfolding atNode
   inflow-is f k p = where-sum (into k) (λ (h : HeldSlot). h .head) k (into-agrees k) ss hs f a p
 
-  pub outflow-is : (f : List ℕ) (k : ℕ) → Placed ss f → outflow ss f k ≡ atNode (tails hs) (amount f) (length hs) k
+  pub outflow-is : (f : List ℕ) (k : ℕ) → OnePerSlot ss f → outflow ss f k ≡ atNode (tails hs) (amount f) (length hs) k
   unfolding atNode
   outflow-is f k p = where-sum (outOf k) (λ (h : HeldSlot). h .tail) k (out-agrees k) ss hs f a p
 
@@ -77,7 +77,7 @@ worth-more (bound u v b) h ss x f P M a z e =
     ap (λ (t : ℤ). t *ℤ pos x +ℤ worth ss f) (sym (a .2)) ∙ ap (λ (t : ℤ). subℕ (h .plus) (h .minus) *ℤ pos x +ℤ t) e
     ∙ ap (λ (t : ℤ). t +ℤ subℕ P M) (times-sub (h .plus) (h .minus) x) ∙ add-sub (h .plus * x) (h .minus * x) P M
 
-pub worth-is : (ss : List Slot) (hs : List HeldSlot) (f : List ℕ) → AllSame ss hs → Placed ss f → worth ss f ≡ subℕ (weigh (pluses hs) (amount f) (length hs)) (weigh (minuses hs) (amount f) (length hs))
+pub worth-is : (ss : List Slot) (hs : List HeldSlot) (f : List ℕ) → AllSame ss hs → OnePerSlot ss f → worth ss f ≡ subℕ (weigh (pluses hs) (amount f) (length hs)) (weigh (minuses hs) (amount f) (length hs))
 unfolding AllSame worth weigh sum
 worth-is [] [] f a p = refl
 worth-is [] (h ∷ hs) f a p = absurd a

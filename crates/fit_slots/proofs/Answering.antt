@@ -19,7 +19,7 @@ use Rattle.fit_slots.specs.Slots.{Slot, slotsOn}
 use Rattle.fit_slots.specs.Amounts.{inflow, outflow, worth, Amounts, Balanced, Closed}
 use Rattle.fit_slots.specs.Axes.{axisFor}
 use Rattle.fit_slots.proofs.Matches.{AllSame, same-slots}
-use Rattle.fit_slots.proofs.Amounting.{Placed, same-free, inflow-is, outflow-is, worth-is}
+use Rattle.fit_slots.proofs.Amounting.{OnePerSlot, same-free, inflow-is, outflow-is, worth-is}
 use Rattle.fit_slots.proofs.Flowing.{Agrees, everywhere, no-supply, no-demand, supply-is, demand-is}
 
 module _ (d : Direction) (c : Chip) (ls : List Letter) (v : Valid c) (te : Ends (tails (listed (axisFor d c ls))) (length (listed (axisFor d c ls))) (nodeCount (axisFor d c ls))) (he : Ends (heads (listed (axisFor d c ls))) (length (listed (axisFor d c ls))) (nodeCount (axisFor d c ls))) (f g : List ℕ) (agree : Agrees (slotsOn d c ls) f g) where
@@ -39,7 +39,7 @@ module _ (d : Direction) (c : Chip) (ls : List Letter) (v : Valid c) (te : Ends 
   amounts-same = fun-ext (λ s. sym (agree .at s))
 
   module _ (on : OnSlots a f) where
-    placed : Placed ss g
+    placed : OnePerSlot ss g
     placed = record { long = agree .long; idle = λ i e. agree .at i ∙ on .idle i (same-free ss hs same i e) }
 
     amounts-on : (limit : ℕ) → ((s : ℕ) → amount f s ≤ limit) → Amounts ss g limit

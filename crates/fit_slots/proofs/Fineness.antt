@@ -18,7 +18,7 @@ use Rattle.chip_text.specs.Valid.{ValidFix, ValidMac, ValidPin, ValidNet, Valid
 use Rattle.chip_text.proofs.NetsRead.{every-at}
 use Rattle.placement.specs.Letters.{Letter}
 use Rattle.axis_bounds.specs.Axis as bounds
-use Rattle.axis_bounds.specs.Axis.{noSlot, FinePair, FinePin, FineNet, Fine, bareNet}
+use Rattle.axis_bounds.specs.Axis.{noSlot, WellFormedPair, WellFormedPin, WellFormedNet, WellFormed, bareNet}
 use Rattle.fit_slots.specs.declared.Direction.{Direction}
 use Rattle.fit_slots.specs.declared.Direction.the-variants.{Horizontal as horizontal, Vertical as vertical}
 use Rattle.fit_slots.specs.declared.Asked.{Asked}
@@ -91,7 +91,7 @@ fine-couples c v =
     (fine-macs (length (c .macs)) 1 (c .macs) (omega arith) (v .mac))
     (fine-fixes (length (c .macs)) 1 (c .macs) (c .fixes) (omega arith) (v .mac) (v .fix))
 
-fine-pair : (d : Direction) (n : ℕ) (k : Asked) (q : Couple) → FineCouple n q → FinePair n (heldSlot d k q)
+fine-pair : (d : Direction) (n : ℕ) (k : Asked) (q : Couple) → FineCouple n q → WellFormedPair n (heldSlot d k q)
 fine-pair d n before (twoMacs i a j b) (p, va, r, vb) = let s = mac-side d a va in record { tail = p; head = r; plus = omega arith; minus = omega arith }
 fine-pair d n after (twoMacs i a j b) (p, va, r, vb) = let s = mac-side d b vb in record { tail = r; head = p; plus = omega arith; minus = omega arith }
 fine-pair d n nothing (twoMacs i a j b) h = record { tail = omega arith; head = omega arith; plus = omega arith; minus = omega arith }
@@ -99,7 +99,7 @@ fine-pair d n before (macFix i a f) (p, va, vf) = let s = mac-side d a va in let
 fine-pair d n after (macFix i a f) (p, va, vf) = let t = fix-end d f vf in record { tail = omega arith; head = p; plus = omega arith; minus = omega arith }
 fine-pair d n nothing (macFix i a f) h = record { tail = omega arith; head = omega arith; plus = omega arith; minus = omega arith }
 
-fine-pairs : (d : Direction) (n : ℕ) (ls : List Letter) (qs : List Couple) → Every (FineCouple n) qs → Every (FinePair n) (heldSlots d ls qs)
+fine-pairs : (d : Direction) (n : ℕ) (ls : List Letter) (qs : List Couple) → Every (FineCouple n) qs → Every (WellFormedPair n) (heldSlots d ls qs)
 unfolding heldSlots
 fine-pairs d n [] qs h = tt
 fine-pairs d n (l ∷ ls) [] h = tt
@@ -107,7 +107,7 @@ fine-pairs d n (l ∷ ls) (q ∷ qs) h = (fine-pair d n (asked d l) q (h .0), fi
 
 -- ---- nets
 
-fine-net : (d : Direction) (n : ℕ) (t : Net) → ValidNet n t → FineNet n (axisNet d t)
+fine-net : (d : Direction) (n : ℕ) (t : Net) → ValidNet n t → WellFormedNet n (axisNet d t)
 fine-net d n t v =
     let e = length-map (t .pins) (axisPin d) in
     record {
@@ -117,12 +117,12 @@ fine-net d n t v =
       pin = λ i l. fine-pin-at (t .pins) (v .pin) i (omega arith);
     }
   where
-    fine-pin-at : (ps : List Pin) → ((i : ℕ) → i < length ps → ValidPin n (getD ps i noPin)) → (i : ℕ) → i < length ps → FinePin n (getD (map (axisPin d) ps) i bounds.noPin)
+    fine-pin-at : (ps : List Pin) → ((i : ℕ) → i < length ps → ValidPin n (getD ps i noPin)) → (i : ℕ) → i < length ps → WellFormedPin n (getD (map (axisPin d) ps) i bounds.noPin)
     fine-pin-at [] h i l = absurd (omega arith)
     fine-pin-at (p ∷ ps) h zero l = let r = pin-raised d n p (h 0 l) in record { node = h 0 l .macro; up = omega arith }
     fine-pin-at (p ∷ ps) h (suc i) l = fine-pin-at ps (λ j k. h (suc j) (omega arith)) i (omega arith)
 
-fine-nets : (d : Direction) (n : ℕ) (ts : List Net) → ((j : ℕ) → j < length ts → ValidNet n (getD ts j noNet)) → (j : ℕ) → j < length ts → FineNet n (getD (map (axisNet d) ts) j bareNet)
+fine-nets : (d : Direction) (n : ℕ) (ts : List Net) → ((j : ℕ) → j < length ts → ValidNet n (getD ts j noNet)) → (j : ℕ) → j < length ts → WellFormedNet n (getD (map (axisNet d) ts) j bareNet)
 fine-nets d n [] h j l = absurd (omega arith)
 fine-nets d n (t ∷ ts) h zero l = fine-net d n t (h 0 l)
 fine-nets d n (t ∷ ts) h (suc j) l = fine-nets d n ts (λ i k. h (suc i) (omega arith)) j (omega arith)
@@ -136,7 +136,7 @@ pub die-most : (d : Direction) (c : Chip) → Valid c → dieSide d (c .die) ≤
 die-most horizontal c v = v .dieW .high
 die-most vertical c v = v .dieH .high
 
-pub axis-fine : (d : Direction) (c : Chip) (ls : List Letter) → Valid c → length ls ≡ length (couples c) → Fine (axisFor d c ls)
+pub axis-fine : (d : Direction) (c : Chip) (ls : List Letter) → Valid c → length ls ≡ length (couples c) → WellFormed (axisFor d c ls)
 unfolding axisFor
 axis-fine d c ls v el =
     let em = length-map (c .macs) (macSide d) in
@@ -155,8 +155,8 @@ axis-fine d c ls v el =
       side = omega arith;
       base = omega arith;
       size = λ i l. let s = sizes-most d (c .macs) (v .mac) i (omega arith) in omega arith;
-      pair = subst (λ (n : ℕ). (j : ℕ) → j < length (heldSlots d ls (couples c)) → FinePair n (getD (heldSlots d ls (couples c)) j noSlot)) (sym em)
-          (every-at (FinePair (length (c .macs))) noSlot (heldSlots d ls (couples c)) (fine-pairs d (length (c .macs)) ls (couples c) (fine-couples c v)));
-      net = subst (λ (n : ℕ). (j : ℕ) → j < length (map (axisNet d) (c .nets)) → FineNet n (getD (map (axisNet d) (c .nets)) j bareNet)) (sym em)
+      pair = subst (λ (n : ℕ). (j : ℕ) → j < length (heldSlots d ls (couples c)) → WellFormedPair n (getD (heldSlots d ls (couples c)) j noSlot)) (sym em)
+          (every-at (WellFormedPair (length (c .macs))) noSlot (heldSlots d ls (couples c)) (fine-pairs d (length (c .macs)) ls (couples c) (fine-couples c v)));
+      net = subst (λ (n : ℕ). (j : ℕ) → j < length (map (axisNet d) (c .nets)) → WellFormedNet n (getD (map (axisNet d) (c .nets)) j bareNet)) (sym em)
           (λ j l. fine-nets d (length (c .macs)) (c .nets) (v .net) j (omega arith));
     }

@@ -26,7 +26,7 @@ use Rattle.placement.specs.Letters.{Letter, keepsLetters}
 use Rattle.placement.proofs.Spans.{below-zero, from-zero}
 use Rattle.flow_laws.specs.Flow.{weigh, Balance}
 use Rattle.axis_bounds.specs.declared.Slot.{Slot as HeldSlot}
-use Rattle.axis_bounds.specs.Axis.{Axis, Keeps, lengthOn, Fine}
+use Rattle.axis_bounds.specs.Axis.{Axis, Keeps, lengthOn, WellFormed}
 use Rattle.axis_bounds.specs.Listed.{listed, tails, heads, pluses, minuses, amount, nodeCount}
 use Rattle.axis_bounds.specs.Answer.{supply, demand}
 use Rattle.axis_bounds.proofs.Worths.{flow-most, closed-most}
@@ -36,7 +36,7 @@ use Rattle.fit_slots.specs.Slots.{Slot, slotsOn}
 use Rattle.fit_slots.specs.Amounts.{inflow, outflow, worth, Amounts, Balanced, Closed, amountsOn, wholeWorth, Flow, Chain}
 use Rattle.fit_slots.specs.Axes.{axisFor, cornersOn}
 use Rattle.fit_slots.proofs.Matches.{AllSame, same-slots}
-use Rattle.fit_slots.proofs.Amounting.{Placed, inflow-is, outflow-is, worth-is}
+use Rattle.fit_slots.proofs.Amounting.{OnePerSlot, inflow-is, outflow-is, worth-is}
 use Rattle.fit_slots.proofs.Flowing.{supply-is, demand-is}
 use Rattle.fit_slots.proofs.Fineness.{axis-fine}
 use Rattle.fit_slots.proofs.Keeping.{keeps-splits}
@@ -54,7 +54,7 @@ at-least p m l n h most = by (decLt p m)
 module _ (c : Chip) (ls : List Letter) (v : Valid c) where
   -- ---- one direction
 
-  module _ (d : Direction) (f : List ℕ) (placed : Placed (slotsOn d c ls) f) where
+  module _ (d : Direction) (f : List ℕ) (placed : OnePerSlot (slotsOn d c ls) f) where
     abbrev a : Axis
     a = axisFor d c ls
 
@@ -82,7 +82,7 @@ module _ (c : Chip) (ls : List Letter) (v : Valid c) where
     balance-on sup dem b = record { eq = λ n l. let e = b n in let i = inflow-is ss hs same f n placed in let o = outflow-is ss hs same f n placed in omega arith }
 
     module _ (ps : List Spot) (k : keepsLetters c ls ps ≡ true) where
-      fine : Fine a
+      fine : WellFormed a
       fine = axis-fine d c ls v (letters-counted c ls ps k)
 
       kept : Keeps a (cornersOn d ps)
@@ -99,7 +99,7 @@ module _ (c : Chip) (ls : List Letter) (v : Valid c) where
   -- ---- both
 
   module _ (f : List ℕ) (limit : ℕ) (amounts : (d : Direction) → Amounts (slotsOn d c ls) (amountsOn d c ls f) limit) where
-    abbrev on : (d : Direction) → Placed (slotsOn d c ls) (amountsOn d c ls f)
+    abbrev on : (d : Direction) → OnePerSlot (slotsOn d c ls) (amountsOn d c ls f)
     on d = record { long = amounts d .long; idle = amounts d .idle }
 
     abbrev gain : Direction → ℕ

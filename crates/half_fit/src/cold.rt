@@ -1,8 +1,13 @@
-// A fit from nothing: the smallest values that keep the bounds, then net by net its weight from its lo to its hi, by cheapest augmenting ways.
+// A fit from nothing: the smallest values that keep the bounds, then net by net its weight from its lo to its hi, by cheapest augmenting paths.
 use crate::ARCS;
 use crate::HELP;
 use crate::POOL;
 use crate::TAB;
+use crate::paths::NO_PARENT;
+use crate::paths::NOBODY;
+use crate::paths::lift;
+use crate::paths::reach;
+use crate::paths::settle;
 use crate::push::carry;
 use crate::push::narrowest;
 use crate::residual::set_carried;
@@ -38,11 +43,6 @@ use crate::tables::node_of;
 use crate::tables::nodes;
 use crate::tables::part;
 use crate::tables::weight_of;
-use crate::ways::NO_PARENT;
-use crate::ways::NOBODY;
-use crate::ways::lift;
-use crate::ways::reach;
-use crate::ways::settle;
 use std::num::wrapping_add_u32;
 use std::num::wrapping_sub_u32;
 
@@ -149,7 +149,7 @@ fn low(tab: &[u32; TAB], s: &[u32; POOL], o: usize, j: usize) -> u32 {
     low
 }
 
-// The ways from lo over entry e: its node by how far its least place is above lo.
+// The paths from lo over entry e: its node by how far its least place is above lo.
 fn begin_at(
     tab: &[u32; TAB],
     s: &[u32; POOL],
@@ -167,7 +167,7 @@ fn begin_at(
     }
 }
 
-// The ways from the lo of net j: of each node its distance, and the entry over which it is reached; no parents.
+// The paths from the lo of net j: of each node its distance, and the entry over which it is reached; no parents.
 fn begin(
     tab: &[u32; TAB],
     s: &[u32; POOL],
@@ -213,7 +213,7 @@ fn last(tab: &[u32; TAB], s: &[u32; POOL], o: usize, j: usize, hi: u32, d: &[u32
     b
 }
 
-// The first node of the way to node u.
+// The first node of the path to node u.
 fn first(par: &[u32; 16], u: usize) -> usize {
     let mut w = u;
     let mut turn: usize = 0;
@@ -228,7 +228,7 @@ fn first(par: &[u32; 16], u: usize) -> usize {
     w
 }
 
-// At most `left` from lo along the way to entry e and over it to hi; how much.
+// At most `left` from lo along the path to entry e and over it to hi; how much.
 fn push_way(
     tab: &[u32; TAB],
     help: &[u32; HELP],
@@ -252,7 +252,7 @@ fn push_way(
     q
 }
 
-// One push of net j: a cheapest way from its lo to its hi, a rise, at most `left` along the way; how much.
+// One push of net j: a cheapest path from its lo to its hi, a rise, at most `left` along the path; how much.
 fn one_push(
     tab: &[u32; TAB],
     help: &[u32; HELP],

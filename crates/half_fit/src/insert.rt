@@ -3,6 +3,9 @@ use crate::ARCS;
 use crate::HELP;
 use crate::POOL;
 use crate::TAB;
+use crate::paths::distances;
+use crate::paths::lift;
+use crate::paths::settle;
 use crate::push::carry;
 use crate::push::narrowest;
 use crate::residual::offer;
@@ -29,9 +32,6 @@ use crate::state::times;
 use crate::state::wide;
 use crate::tables::arc;
 use crate::tables::nodes;
-use crate::ways::distances;
-use crate::ways::lift;
-use crate::ways::settle;
 use std::num::wrapping_add_u32;
 use std::num::wrapping_add_u64;
 
@@ -72,7 +72,7 @@ fn rise(joined: bool, d: u32, lack: u32) -> u32 {
     lack
 }
 
-// The parents of the way from v to u into the state, and u as v's: a closed chain.
+// The parents of the path from v to u into the state, and u as v's: a closed chain.
 fn keep_way(s: &mut [u32; POOL], o: usize, par: &[u32; 16], u: usize, v: usize) {
     set_tie(s, o, v, narrow(u), 0);
     let mut w = u;
@@ -87,7 +87,7 @@ fn keep_way(s: &mut [u32; POOL], o: usize, par: &[u32; 16], u: usize, v: usize) 
     }
 }
 
-// One turn: a cheapest way from v to u, a rise, a push. The answer is insert's, or MORE.
+// One turn: a cheapest path from v to u, a rise, a push. The answer is insert's, or MORE.
 fn one_turn(
     tab: &[u32; TAB],
     help: &[u32; HELP],

@@ -5,12 +5,12 @@ mod cold;
 mod insert;
 mod lists;
 mod none;
+mod paths;
 mod push;
 mod residual;
 pub mod service;
 mod state;
 mod tables;
-mod ways;
 
 // The lengths of the lent arrays: those of half_arrays, and what the first half fit prepares for later ones.
 pub const TAB: usize = half_arrays::TAB;

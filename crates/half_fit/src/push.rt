@@ -1,4 +1,4 @@
-// The push of an amount along the parents of a way.
+// The push of an amount along the parents of a path.
 use crate::ARCS;
 use crate::HELP;
 use crate::POOL;

@@ -17,7 +17,7 @@ use Rattle.num_laws.proofs.Sums.{when-le}
 use Rattle.flow_laws.specs.Flow.{atNode}
 use Rattle.half_arrays.specs.State.{amountAt}
 use Rattle.half_arrays.proofs.Ranges.{amount-most}
-use Rattle.half_sums.specs.Sums.{Gathers, Small}
+use Rattle.half_sums.specs.Sums.{Gathers, SumsWithin}
 
 zero-at : (n k : ℕ) → _≡_ {A = ℕ} (getD (replicate n 0) k 0) 0
 zero-at zero k = refl
@@ -75,7 +75,7 @@ module _ (end : ℕ → ℕ) (st : List ℕ) (o p n : ℕ) where
   pub any-none : Gathers end (amountAt st o p) 0 n (replicate n 0)
   any-none = gathers-none end (amountAt st o p) n
 
-  pub any-small : (i : ℕ) (r : List ℕ) → Gathers end (amountAt st o p) i n r → i ≤ 128 → Small r
+  pub any-small : (i : ℕ) (r : List ℕ) → Gathers end (amountAt st o p) i n r → i ≤ 128 → SumsWithin r
   any-small i r g q = record { at = sum-below end (amountAt st o p) n i r g (amount-most st o p) q }
 
   module _ (i k a : ℕ) (r : List ℕ) (g : Gathers end (amountAt st o p) i n r) (e : a ≡ amountAt st o p i) where

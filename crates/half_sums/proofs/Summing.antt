@@ -9,7 +9,7 @@ use mir.Val.{Fits}
 use Rattle.half_arrays.specs.Arrays.{fromNode, toNode, boundAt, entryCount, nodeAt, mostAt, leastAt, netAt}
 use Rattle.half_arrays.specs.State.{flowPart, hiPart, loPart, flowAt, hiAt, loAt}
 use Rattle.half_arrays.proofs.Ranges.{amount-most, bound-most, count-most, most-most, least-most, node-below, net-below}
-use Rattle.half_sums.specs.Sums.{EntrySums, FlowSums, Small}
+use Rattle.half_sums.specs.Sums.{EntrySums, FlowSums, SumsWithin}
 use Rattle.half_sums.proofs.Gathering.{any-none, any-small, any-fits, any-more, any-same}
 use Rattle.half_sums.proofs.Weighing.{weigh-none, product-fits, adds-fits, adds-more, weighs-same, sum-most, sum-next, sum-none}
 
@@ -26,10 +26,10 @@ entries-none tab st o = record {
 }
 
 module _ (tab st : List ℕ) (o i : ℕ) (nh nl th tl : List ℕ) (u d : ℕ) (s : EntrySums tab st o i nh nl th tl u d) where
-  pub high-small : i ≤ 128 → Small nh
+  pub high-small : i ≤ 128 → SumsWithin nh
   high-small = any-small (nodeAt tab) st o hiPart 9 i nh (s .node-high)
 
-  pub low-small : i ≤ 128 → Small nl
+  pub low-small : i ≤ 128 → SumsWithin nl
   low-small = any-small (nodeAt tab) st o loPart 9 i nl (s .node-low)
 
   pub entries-all : (m : ℕ) → i ≤ m → m ≤ i → m ≡ entryCount tab → EntrySums tab st o (entryCount tab) nh nl th tl u d
@@ -92,10 +92,10 @@ pub bound-product : (arcs st : List ℕ) (o i b a : ℕ) → b ≡ boundAt arcs 
 bound-product arcs st o i b a = product-fits (boundAt arcs) st o flowPart (bound-most arcs) i b a
 
 module _ (arcs st : List ℕ) (o i : ℕ) (is os : List ℕ) (x y : ℕ) (s : FlowSums arcs st o i is os x y) where
-  pub into-small : i ≤ 81 → Small is
+  pub into-small : i ≤ 81 → SumsWithin is
   into-small l = any-small toNode st o flowPart 9 i is (s .into) (omega arith)
 
-  pub out-small : i ≤ 81 → Small os
+  pub out-small : i ≤ 81 → SumsWithin os
   out-small l = any-small fromNode st o flowPart 9 i os (s .out) (omega arith)
 
   pub flows-all : i ≤ 81 → 81 ≤ i → FlowSums arcs st o 81 is os x y

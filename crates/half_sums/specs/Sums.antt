@@ -30,5 +30,5 @@ pub record FlowSums (arcs st : List ℕ) (o m : ℕ) (is os : List ℕ) (a b : �
   pub by : b ≡ weigh (boundAt arcs) (flowAt st o) m
 
 -- sums of which two are added
-pub record Small (r : List ℕ) : Type 0 where
+pub record SumsWithin (r : List ℕ) : Type 0 where
   pub at : (k : ℕ) → getD r k 0 ≤ 8388480

@@ -11,7 +11,7 @@ use mir.Val.{Fits}
 use Rattle.half_arrays.specs.Arrays.{entryCount, weightAt}
 use Rattle.half_arrays.specs.State.{flowAt, hiAt, loAt}
 use Rattle.half_arrays.specs.Says.{Says}
-use Rattle.half_sums.specs.Sums.{EntrySums, FlowSums, Small}
+use Rattle.half_sums.specs.Sums.{EntrySums, FlowSums, SumsWithin}
 use Rattle.half_worth.specs.Amounts.{Balances, GivesWeights, Passes}
 use Rattle.half_worth.specs.Tests.{Level, Given}
 use Rattle.half_arrays.proofs.Answers.{said}
@@ -28,7 +28,7 @@ level-next into low out high k h e = record { at = λ i l. by i l (ℕ-discrete 
     by i l (yes q) = rw q e
     by i l (no n) = h .at i (omega arith)
 
-pub small-fits : (r s : List ℕ) → Small r → Small s → (k : ℕ) → Fits w64 (getD r k 0 + getD s k 0)
+pub small-fits : (r s : List ℕ) → SumsWithin r → SumsWithin s → (k : ℕ) → Fits w64 (getD r k 0 + getD s k 0)
 small-fits r s a b k = let p = a .at k in let q = b .at k in omega arith
 
 pub level-all : (into low out high : List ℕ) (k : ℕ) → Level into low out high k → k ≤ 9 → 9 ≤ k → Says true (Level into low out high 9)

@@ -3,7 +3,7 @@ ghost use Rattle.half_arrays.specs.State.{flowAt, hiAt, loAt};
 ghost use Rattle.half_worth.specs.Amounts.{Passes};
 ghost use Rattle.half_worth.specs.Tests.{Level, Given, WorthSums};
 ghost use Rattle.half_arrays.specs.Says.{Says};
-ghost use Rattle.half_sums.specs.Sums.{Small};
+ghost use Rattle.half_sums.specs.Sums.{SumsWithin};
 use axis_bounds::Axis;
 use half_arrays::ARCS;
 use half_arrays::POOL;
@@ -22,7 +22,7 @@ pub struct Worth {
 }
 
 fn balances(e: OfEntries, b: OfBounds) -> bool
-    requires { ⌜ Small (b .into) × Small (b .out) × Small (e .low) × Small (e .high) ⌝ }
+    requires { ⌜ SumsWithin (b .into) × SumsWithin (b .out) × SumsWithin (e .low) × SumsWithin (e .high) ⌝ }
     ensures { λ r. ⌜ Says r (Level (b .into) (e .low) (b .out) (e .high) 9) ⌝ }
 {
     let mut k: usize = 0;

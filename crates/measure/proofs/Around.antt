@@ -14,7 +14,7 @@ use Rattle.model.specs.Meaning.{blankPin}
 use Rattle.measure.specs.declared.Extent.{Extent}
 use Rattle.num_laws.specs.Spread.{most, fewest, spread}
 use Rattle.placement.proofs.Spans.{upX, upY}
-use Rattle.measure.specs.Held.{withPin, halfAround, Placed, PlacedTo}
+use Rattle.measure.specs.Held.{withPin, halfPerimeter, PinWithin, PinsWithin}
 
 -- of the places f of the pins from `from` up to `to`, those before i lie within l..g
 record Seen (f : Pin → ℕ) (hs : List Pin) (from to i l g : ℕ) : Type 0 where
@@ -44,10 +44,10 @@ pub record Around (ps : List Spot) (hs : List Pin) (from to i : ℕ) (e : Extent
   upward : Seen (upY ps) hs from to i (e .low) (e .high)
 
 module _ (ps : List Spot) (hs : List Pin) (from to : ℕ) where
-  pub pin-placed : (i : ℕ) → PlacedTo ps hs to → i < to → Placed ps (getD hs i blankPin)
+  pub pin-placed : (i : ℕ) → PinsWithin ps hs to → i < to → PinWithin ps (getD hs i blankPin)
   pin-placed i p h = p .at i h
 
-  module _ (long : length hs ≡ 128) (few : to ≤ 128) (p : PlacedTo ps hs to) where
+  module _ (long : length hs ≡ 128) (few : to ≤ 128) (p : PinsWithin ps hs to) where
     pub first-around : (r : Spot) → from < to → r ≡ record { x = upX ps (getD hs from blankPin); y = upY ps (getD hs from blankPin) } → Around ps hs from to (from + 1) (record { left = r .x; right = r .x; low = r .y; high = r .y })
     first-around r h e = let q = p .at from h in record {
       across = first-seen (upX ps) hs from to (omega arith) (r .x) h (ap {B = ℕ} (λ (s : Spot). s .x) e) (rw e (omega (arith, q .x, q .xup)));
@@ -61,7 +61,7 @@ module _ (ps : List Spot) (hs : List Pin) (from to : ℕ) where
         upward = next-seen (upY ps) hs from to (omega arith) i (e .low) (e .high) (r .y) (d .low) (d .high) h (so .upward) (ap {B = ℕ} (λ (s : Spot). s .y) k) (rw k (omega (arith, q .y, q .yup))) (ap {B = ℕ} (λ (s : Extent). s .low) w) (ap {B = ℕ} (λ (s : Extent). s .high) w);
       }
 
-      pub all-around : i ≤ to → to ≤ i → (e .right - e .left) + (e .high - e .low) ≡ halfAround ps (slice from to hs)
+      pub all-around : i ≤ to → to ≤ i → (e .right - e .left) + (e .high - e .low) ≡ halfPerimeter ps (slice from to hs)
       all-around h k = rw (last-seen (upX ps) hs from to (omega arith) i (e .left) (e .right) h k (so .across), last-seen (upY ps) hs from to (omega arith) i (e .low) (e .high) h k (so .upward))
 
   module _ (i : ℕ) (e : Extent) (so : Around ps hs from to i e) where

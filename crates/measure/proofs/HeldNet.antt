@@ -10,13 +10,13 @@ use Rattle.model.specs.declared.Spot.{Spot}
 use Rattle.model.specs.declared.Pin.{Pin as HeldPin}
 use Rattle.model.specs.declared.Chip.{Chip as HeldChip}
 use Rattle.model.specs.Meaning.{Net, chipOf, pinsOf, blankNet, blankPin, blankSpot}
-use Rattle.chip_text.specs.Valid.{noNet, pinsBefore, FinePin, Fine}
+use Rattle.chip_text.specs.Valid.{noNet, pinsBefore, HeldValidPin, HeldValid}
 use Rattle.chip_text.proofs.HeldNets.{pins-before-more, pins-before-up}
 use Rattle.chip_text.proofs.HeldMeaning.{weight-held, nets-held, pins-held}
-use Rattle.placement.specs.Length.{Near, origin, netLength, netsLength, wirelength}
+use Rattle.placement.specs.Length.{CornersWithin, origin, netLength, netsLength, wirelength}
 use Rattle.placement.proofs.Spans.{upX, upY, held-length}
 use Rattle.placement.proofs.LengthBound.{origin-near}
-use Rattle.measure.specs.Held.{halfAround, Placed, PlacedTo, lengthTo}
+use Rattle.measure.specs.Held.{halfPerimeter, PinWithin, PinsWithin, lengthTo}
 
 -- the corners of the first n macros
 origin-first : (n : ℕ) (s : List Spot) (m : ℕ) → m ≤ n → origin (take n s) m ≡ origin s m
@@ -33,15 +33,15 @@ map-same f g [] e = refl
 map-same f g (h ∷ hs) e = rw (e 0 (omega arith), map-same f g hs (λ i l. e (suc i) (omega arith)))
 
 -- only the corners of the first n macros matter to pins of those macros
-around-first : (n : ℕ) (s : List Spot) (hs : List HeldPin) → ((i : ℕ) → i < length hs → getD hs i blankPin .m ≤ n) → halfAround (take n s) hs ≡ halfAround s hs
+around-first : (n : ℕ) (s : List Spot) (hs : List HeldPin) → ((i : ℕ) → i < length hs → getD hs i blankPin .m ≤ n) → halfPerimeter (take n s) hs ≡ halfPerimeter s hs
 around-first n s hs few = rw (
   map-same (upX (take n s)) (upX s) hs (λ i l. rw (origin-first n s (getD hs i blankPin .m) (few i l))),
   map-same (upY (take n s)) (upY s) hs (λ i l. rw (origin-first n s (getD hs i blankPin .m) (few i l))),
 )
 
 -- a fine chip and near positions
-module _ (c : HeldChip) (fine : Fine c) (s : List Spot) (near : Near (take (c .n) s)) where
-  fine-placed : (p : HeldPin) → FinePin (c .n) p → Placed s p
+module _ (c : HeldChip) (fine : HeldValid c) (s : List Spot) (near : CornersWithin (take (c .n) s)) where
+  fine-placed : (p : HeldPin) → HeldValidPin (c .n) p → PinWithin s p
   fine-placed p f =
       let few = fine .macCount in
       let e = origin-first (c .n) s (p .m) (f .macro) in
@@ -53,7 +53,7 @@ module _ (c : HeldChip) (fine : Fine c) (s : List Spot) (near : Near (take (c .n
         yup = f .y;
       }
 
-  pub pins-placed : PlacedTo s (c .pins) (pinsBefore (c .t) (c .nets))
+  pub pins-placed : PinsWithin s (c .pins) (pinsBefore (c .t) (c .nets))
   pins-placed = record { at = λ i l. fine-placed (getD (c .pins) i blankPin) (fine .pin i l) }
 
   module _ (nets : length (c .nets) ≡ 32) (pins : length (c .pins) ≡ 128) where
@@ -78,7 +78,7 @@ module _ (c : HeldChip) (fine : Fine c) (s : List Spot) (near : Near (take (c .n
           let k : from + i < to = omega (arith, fine .pins, within, length-slice from to (c .pins) (omega (arith, fine .pins, within))) in
           rw (getD-drop from (take to (c .pins)) i blankPin, getD-take to (c .pins) (from + i) blankPin k) (fine .pin (from + i) (omega (arith, within)) .macro)
 
-      net-long : netLength (take (c .n) s) (getD (chipOf c .nets) j noNet) ≡ getD (c .nets) j blankNet .weight * halfAround s its
+      net-long : netLength (take (c .n) s) (getD (chipOf c .nets) j noNet) ≡ getD (c .nets) j blankNet .weight * halfPerimeter s its
       unfolding netLength
       net-long =
           let w = getD (c .nets) j blankNet .weight in
@@ -93,7 +93,7 @@ module _ (c : HeldChip) (fine : Fine c) (s : List Spot) (near : Near (take (c .n
     split zero h = sym (zero-add (wirelength (chipOf c) (take (c .n) s)))
     split (suc j) h =
         let a = split j (omega arith) in
-        let b : netsLength (take (c .n) s) (drop j (chipOf c .nets)) ≡ getD (c .nets) j blankNet .weight * halfAround s (slice (pinsBefore j (c .nets)) (pinsBefore (suc j) (c .nets)) (c .pins)) + netsLength (take (c .n) s) (drop (suc j) (chipOf c .nets)) =
+        let b : netsLength (take (c .n) s) (drop j (chipOf c .nets)) ≡ getD (c .nets) j blankNet .weight * halfPerimeter s (slice (pinsBefore j (c .nets)) (pinsBefore (suc j) (c .nets)) (c .pins)) + netsLength (take (c .n) s) (drop (suc j) (chipOf c .nets)) =
         rw (drop-cons (chipOf c .nets) j noNet (rw (nets-held c fine nets) h), net-long j h) in
         omega arith
 

@@ -9,7 +9,7 @@ use Rattle.model.specs.declared.Spot.{Spot}
 use Rattle.model.specs.declared.Chip.{Chip as HeldChip}
 use Rattle.model.specs.Meaning.{chipOf, blankFix, blankMac}
 use Rattle.model.proofs.FirstOf.{first-take}
-use Rattle.chip_text.specs.Valid.{Fine}
+use Rattle.chip_text.specs.Valid.{HeldValid}
 use Rattle.chip_text.proofs.HeldMeaning.{macs-held}
 use Rattle.placement.specs.Legal.{boxes, within, legal}
 use Rattle.placement.proofs.Boxes.{take-boxes}
@@ -17,7 +17,7 @@ use Rattle.geometry.specs.Box.{boxOf}
 use Rattle.legal.specs.Turn.{legalAfter}
 use Rattle.legal.proofs.TurnLegal.{turn-legal}
 
-module _ (c : HeldChip) (fine : Fine c) (s : List Spot) (l : length (c .fixes) ≡ 8) (m : length (c .macs) ≡ 8) (n : length s ≡ 8) where
+module _ (c : HeldChip) (fine : HeldValid c) (s : List Spot) (l : length (c .fixes) ≡ 8) (m : length (c .macs) ≡ 8) (n : length s ≡ 8) where
   its-boxes : boxes (chipOf c .macs) (take (c .n) s) ≡ take (c .n) (boxes (c .macs) s)
   unfolding chipOf
   its-boxes = let few = fine .macCount in rw (first-take blankMac (c .n) (c .macs) (omega arith)) (take-boxes (c .n) (c .macs) s)

@@ -15,7 +15,7 @@ use Rattle.model.specs.declared.Pin.{Pin}
 use Rattle.model.specs.Meaning.{blankNet}
 use Rattle.chip_text.specs.Valid.{pinsBefore}
 use Rattle.chip_text.proofs.HeldNets.{pins-before-more, pins-before-up}
-use Rattle.measure.specs.Held.{halfAround, PlacedTo, lengthTo, Summable}
+use Rattle.measure.specs.Held.{halfPerimeter, PinsWithin, lengthTo, Summable}
 
 module _ (ps : List Spot) (ts : List Net) (hs : List Pin) where
   -- the first j nets are summed, and their pins stand before `from`
@@ -43,7 +43,7 @@ module _ (ps : List Spot) (ts : List Net) (hs : List Pin) where
     abbrev count : ℕ
     count = getD ts j blankNet .pins
 
-    module _ (half : ℕ) (e : half ≡ halfAround ps (slice from (from + count) hs)) where
+    module _ (half : ℕ) (e : half ≡ halfPerimeter ps (slice from (from + count) hs)) where
       one-more : total + getD ts j blankNet .weight * half ≡ lengthTo ps ts hs (suc j)
       unfolding lengthTo
       one-more = rw (s .so, e, s .before, pins-before-more j ts)
@@ -68,7 +68,7 @@ module _ (ps : List Spot) (ts : List Net) (hs : List Pin) where
       pub pins-fit : Fits w64 (from + count)
       pins-fit = let a = ends-within in omega (arith, v .pins)
 
-      pub pins-placed : PlacedTo ps hs (from + count)
+      pub pins-placed : PinsWithin ps hs (from + count)
       pins-placed = record { at = λ i l. let a = ends-within in v .placed .at i (omega arith) }
 
       pub some-pins : from < from + count

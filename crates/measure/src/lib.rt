@@ -15,7 +15,7 @@ ghost use Rattle.placement.specs.Legal.{legal};
 ghost use Rattle.placement.specs.Length.{origin, wirelength};
 ghost use Rattle.placement.proofs.Spans.{upX, upY};
 ghost use Rattle.measure.specs.Measuring.{measured as measuredAt, measuredAs, lengthIn, measurePositions};
-ghost use Rattle.measure.specs.Held.{withPin, halfAround, lengthTo, Placed, PlacedTo, Summable, Measurable};
+ghost use Rattle.measure.specs.Held.{withPin, halfPerimeter, lengthTo, PinWithin, PinsWithin, Summable, Measurable};
 
 // What measuring answers: legal or not and the wirelength, or the refusal.
 pub enum MeasureAnswer {
@@ -36,7 +36,7 @@ fn origin_of(spots: [Spot; Mac::COUNT], m: usize) -> Spot
 
 // Where a pin lies, 4,096 higher.
 fn place_of(spots: [Spot; Mac::COUNT], p: Pin) -> Spot
-    requires { ⌜ Placed spots p ⌝ }
+    requires { ⌜ PinWithin spots p ⌝ }
     ensures { λ r. ⌜ r ≡ record { x = upX spots p; y = upY spots p } ⌝ }
 {
     let o = origin_of(spots, p.m);
@@ -88,9 +88,9 @@ fn with_pin(e: Extent, p: Spot) -> Extent
 }
 
 // Greatest x less least x, plus greatest y less least y, over the pins from `from` up to `to`.
-fn half_around(spots: [Spot; Mac::COUNT], pins: [Pin; Pin::COUNT], from: usize, to: usize) -> u64
-    requires { ⌜ PlacedTo spots pins to × (from < to) × (to ≤ 128) ⌝ }
-    ensures { λ r. ⌜ r ≡ halfAround spots (slice from to pins) ⌝ }
+fn half_perimeter(spots: [Spot; Mac::COUNT], pins: [Pin; Pin::COUNT], from: usize, to: usize) -> u64
+    requires { ⌜ PinsWithin spots pins to × (from < to) × (to ≤ 128) ⌝ }
+    ensures { λ r. ⌜ r ≡ halfPerimeter spots (slice from to pins) ⌝ }
 {
     let first = place_of(spots, pins[from]);
     let mut e = Extent {
@@ -121,7 +121,7 @@ fn length_of(c: Chip, spots: [Spot; Mac::COUNT]) -> u64
     while j < c.t {
         let net = nets[j];
         let to = from + net.pins;
-        total += net.weight * half_around(spots, pins, from, to);
+        total += net.weight * half_perimeter(spots, pins, from, to);
         from = to;
         j += 1;
     }

@@ -13,7 +13,7 @@ use borrow.Author.Tests.{le-leb, lt-leb, leb-true}
 use Rattle.model.specs.declared.Spot.{Spot}
 use Rattle.model.specs.Meaning.{blankSpot}
 use Rattle.text_grammar.proofs.Lacks.{and-left, and-right}
-use Rattle.placement.specs.Length.{Near}
+use Rattle.placement.specs.Length.{CornersWithin}
 use Rattle.measure_tests.specs.Positions.{inRange}
 
 -- what the loop has left to test
@@ -40,7 +40,7 @@ module _ (s : List Spot) (n : ℕ) where
   all-tested i h g left = let e : i ≡ n = omega arith in rw (left, e, slice-empty n s)
 
 -- positions that pass are near
-pub in-range-near : (ps : List Spot) → true ≡ inRange ps → Near ps
+pub in-range-near : (ps : List Spot) → true ≡ inRange ps → CornersWithin ps
 unfolding inRange
 in-range-near [] e = record { x = λ i h. absurd (omega arith); y = λ i h. absurd (omega arith) }
 in-range-near (p ∷ ps) e = record { x = by-x (in-range-near ps rest .x); y = by-y (in-range-near ps rest .y) }

@@ -19,7 +19,7 @@ use Rattle.chip_text.specs.Text.{readChip, chipText}
 use Rattle.chip_text.specs.Passed.{Accepted, Passed}
 use Rattle.chip_text.proofs.TextRead.{text-read}
 use Rattle.chip_text.proofs.Passing.{Whole, passed-by}
-use Rattle.placement.specs.Length.{Near}
+use Rattle.placement.specs.Length.{CornersWithin}
 use Rattle.measure_tests.specs.Positions.{inRange, measureTests, refusedAs, testedBy}
 use Rattle.measure_tests.proofs.Faults.{counted, its-spots}
 use Rattle.measure_tests.proofs.Ranges.{in-range-near}
@@ -65,5 +65,5 @@ module _ (c : HeldChip) (w : Whole c) (s : List Spot) (l : length s ≡ 8) (coun
   pub the-spots : firstOf blankSpot count s ≡ take (c .n) s
   the-spots = its-spots c chip-is-passed s l count (counted c chip-is-passed s l count (eqb-true _ _ (first-passes 12 _ _ none)))
 
-  pub are-near : Near (take (c .n) s)
+  pub are-near : CornersWithin (take (c .n) s)
   are-near = in-range-near (take (c .n) s) (sym (first-passes 13 _ _ (rest-passes 12 _ _ none)) ∙ ap inRange the-spots)

@@ -11,7 +11,7 @@ use lib.Seq.{length-take-le, take-all}
 use borrow.Author.Tests.{le-leb}
 use Rattle.model.specs.Meaning.{Chip}
 use Rattle.text_grammar.specs.Reading.{Reading, accepted, refused}
-use Rattle.text_grammar.specs.Writing.{wrote, fit}
+use Rattle.text_grammar.specs.Writing.{wrote, ifRoom}
 use Rattle.chip_text.specs.Text.{readChip}
 use Rattle.chip_text.proofs.Accepted.{accepted-valid}
 use Rattle.chip_text.proofs.ReadText.{too-long}
@@ -35,7 +35,7 @@ printed-short text = by (readChip text) refl
     by (refused n l) e = let h = refusal-short n l (chip-number text n l e) (chip-line text n l e) in omega arith
 
 pub print-fits : (text out : List ℕ) → 192 ≤ length out → printText text out ≡ record { answer = wrote (length (printed text)); buffer = printed text ++ drop (length (printed text)) out }
-print-fits text out h = let s = printed-short text in ap (λ (b : Bool). fit b (printed text) out) (le-leb (length (printed text)) (length out) (omega arith))
+print-fits text out h = let s = printed-short text in ap (λ (b : Bool). ifRoom b (printed text) out) (le-leb (length (printed text)) (length out) (omega arith))
 
 pub printed-start : (text : List ℕ) (k : ℕ) → 16384 < k → printed (take k text) ≡ printed text
 printed-start text k h = by (decLe (length text) k)

@@ -11,7 +11,7 @@ use Rattle.model.specs.declared.Spot.{Spot}
 use Rattle.model.specs.Meaning.{Chip, Record}
 use Rattle.refusals.specs.Tests.{Test, orElse, firstFailed, unlessFailed}
 use Rattle.text_grammar.specs.Reading.{Reading, accepted, refused}
-use Rattle.text_grammar.specs.Writing.{Written, wrote, notWritten, fit, writeText}
+use Rattle.text_grammar.specs.Writing.{Written, wrote, notWritten, ifRoom, writeText}
 use Rattle.text_grammar.proofs.Lacks.{and-left, and-right}
 use Rattle.chip_text.specs.Text.{readChip, chipText, writeChip}
 use Rattle.record_text.specs.Text.{readRecord, recordText, writeRecord}
@@ -33,7 +33,7 @@ wider n k h e = let a = h .above in let w = h .within in record { above = omega 
 
 -- ---- what is written
 
-room-told : (b : Bool) (text out : List ℕ) (n l : ℕ) → fit b text out .answer ≡ notWritten n l → Numbered 15 n
+room-told : (b : Bool) (text out : List ℕ) (n l : ℕ) → ifRoom b text out .answer ≡ notWritten n l → Numbered 15 n
 room-told true text out n l e = let z : _≡_ {A = ℕ} 0 1 = cc in absurd (omega arith)
 room-told false text out n l e = let k : n ≡ 15 = cc in record { above = omega arith; within = omega arith }
 
@@ -107,7 +107,7 @@ measure-number c ps n l e = by (readChip (chipText c)) refl e
     by (accepted a) t q = passed-told c ps n l q
     by (refused k m) t q = wider k n (chip-number (chipText c) k m t) cc
 
--- ---- the fit
+-- ---- the ifRoom
 
 pub fit-told : (k : ℕ) → ((j : ℕ) → k ≡ suc j → Numbered 15 (suc j)) → (slots : ℕ) (b : Best) (n l : ℕ) → unlessFailed refusedBy k (bestFit slots b) ≡ refusedBy n l → Numbered 15 n
 fit-told zero t slots nothing n l e = let z : _≡_ {A = ℕ} 0 1 = cc in absurd (omega arith)

@@ -6,7 +6,7 @@ use lib.Dec.{leb}
 use lib.ListN.{length}
 use Rattle.model.specs.Meaning.{Chip}
 use Rattle.text_grammar.specs.Reading.{Reading, accepted, refused}
-use Rattle.text_grammar.specs.Writing.{Written, fit}
+use Rattle.text_grammar.specs.Writing.{Written, ifRoom}
 use Rattle.chip_text.specs.Text.{readChip}
 use Rattle.record_text.specs.Text.{recordText}
 use Rattle.placement.specs.Least.{chipRecord}
@@ -23,4 +23,4 @@ printed text = printedRead (readChip text)
 
 -- the same into a lent buffer: in its first bytes, and the rest as it was; 15 where the buffer is shorter, and all of it as it was
 abbrev pub printText : List ℕ → List ℕ → Written
-printText text out = fit (leb (length (printed text)) (length out)) (printed text) out
+printText text out = ifRoom (leb (length (printed text)) (length out)) (printed text) out

@@ -16,7 +16,7 @@ use Rattle.model.specs.Limits.{isWithin, pinPlace}
 use Rattle.text_grammar.proofs.Lacks.{and-left}
 use Rattle.chip_text.specs.Valid.{Valid, ValidNet, noPin, noNet}
 use Rattle.num_laws.proofs.Spreads.{spread-le}
-use Rattle.placement.specs.Length.{Near, origin, span, netLength, netsLength, wirelength}
+use Rattle.placement.specs.Length.{CornersWithin, origin, span, netLength, netsLength, wirelength}
 use Rattle.placement.proofs.Spans.{shifted, span-shift, from-zero, below-zero, add-shift}
 
 -- a place of a pin, 4,096 higher
@@ -70,7 +70,7 @@ module _ (corner : Spot → ℕ) (blank : corner blankSpot ≤ 1024) (ps : List 
     axis-bound : (ts : List Pin) → Within ts → span (map at ts) ≤ 9216
     axis-bound ts w = rw (all-shifted ts w, span-shift 4096 (map up ts)) (spread-le 9216 (map up ts) (record { at = all-small ts w }))
 
-module _ (ps : List Spot) (near : Near ps) (n : ℕ) where
+module _ (ps : List Spot) (near : CornersWithin ps) (n : ℕ) where
   net-bound : (t : Net) → ValidNet n t → netLength ps t ≤ 18432000
   unfolding netLength
   net-bound t v =
@@ -83,5 +83,5 @@ module _ (ps : List Spot) (near : Near ps) (n : ℕ) where
   nets-bound [] v = omega arith
   nets-bound (t ∷ ts) v = let a = net-bound t (v 0 (omega arith)) in let b = nets-bound ts (λ j l. v (suc j) (omega arith)) in omega arith
 
-pub wirelength-bound : (c : Chip) (ps : List Spot) → Valid c → Near ps → wirelength c ps ≤ 589824000
+pub wirelength-bound : (c : Chip) (ps : List Spot) → Valid c → CornersWithin ps → wirelength c ps ≤ 589824000
 wirelength-bound c ps v near = let h = nets-bound ps near (length (c .macs)) (c .nets) (v .net) in let k = v .netCount in omega arith

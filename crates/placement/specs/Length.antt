@@ -16,7 +16,7 @@ origin ps zero = blankSpot
 origin ps (suc m) = getD ps m blankSpot
 
 -- positions in their range
-pub record Near (ps : List Spot) : Type 0 where
+pub record CornersWithin (ps : List Spot) : Type 0 where
   pub x : (i : ℕ) → i < length ps → getD ps i blankSpot .x ≤ natAbs (placedCorner .most)
   pub y : (i : ℕ) → i < length ps → getD ps i blankSpot .y ≤ natAbs (placedCorner .most)
 

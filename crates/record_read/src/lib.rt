@@ -1,6 +1,4 @@
 // Reading a record from its text.
-use text_line::Fault;
-use text_line::Fields;
 use model::Mac;
 use model::Outcome;
 use model::Record;
@@ -11,6 +9,8 @@ use model::TEXT_MOST;
 use record_text::RecordWord;
 use record_words::RecordFound;
 use record_words::RecordLast;
+use text_line::Fault;
+use text_line::Fields;
 ghost use mathlib.Core.Path.{_≡_};
 ghost use Prim.Native.Nat.{_≤_, _<_};
 ghost use lib.ListN.{length, replicate};

@@ -1,11 +1,11 @@
 // The words of records in code: which word some bytes spell, which word may follow which, and how a line is spelled and laid out.
-use text_line::Layout;
-use text_line::Rule;
-use text_line::Spelling;
 use model::Mac;
 use model::Record;
 use model::Spot;
 use record_text::RecordWord;
+use text_line::Layout;
+use text_line::Rule;
+use text_line::Spelling;
 ghost use mathlib.Core.Path.{_≡_};
 ghost use Rattle.text_grammar.specs.Words.{isWord, isIn, wordIn};
 ghost use Rattle.text_grammar.specs.Reading.{isLast};

@@ -11,7 +11,7 @@ use borrow.Author.Tests.{le-leb, leb-true}
 use Rattle.model.specs.declared.Spot.{Spot}
 use Rattle.model.specs.Meaning.{Chip, none, least}
 use Rattle.text_grammar.specs.Reading.{Reading, accepted, refused}
-use Rattle.text_grammar.specs.Writing.{wrote, notWritten, fit}
+use Rattle.text_grammar.specs.Writing.{wrote, notWritten, ifRoom}
 use Rattle.chip_text.specs.Text.{readChip}
 use Rattle.record_text.specs.Text.{recordText}
 use Rattle.placement.specs.Legal.{legal}
@@ -64,7 +64,7 @@ place-means text out k e = by (readChip text) refl e
     no-text : {A : Type 0} (n l : ℕ) → notWritten n l ≡ wrote k → A
     no-text n l q = let z : _≡_ {A = ℕ} 0 1 = cc in absurd (omega arith)
 
-    fits : (c : Chip) (b : Bool) → leb (length (recordText (chipRecord c))) (length out) ≡ b → readChip text ≡ accepted c → fit b (recordText (chipRecord c)) out .answer ≡ wrote k → Placed text out k (fit b (recordText (chipRecord c)) out .buffer)
+    fits : (c : Chip) (b : Bool) → leb (length (recordText (chipRecord c))) (length out) ≡ b → readChip text ≡ accepted c → ifRoom b (recordText (chipRecord c)) out .answer ≡ wrote k → Placed text out k (ifRoom b (recordText (chipRecord c)) out .buffer)
     fits c true t r q = record {
       chip = c;
       read = r;
@@ -83,4 +83,4 @@ place-means text out k e = by (readChip text) refl e
 -- for every text that is accepted, with space lent for the record, the record is written
 pub place-writes : (text out : List ℕ) (c : Chip) → readChip text ≡ accepted c → length (recordText (chipRecord c)) ≤ length out
     → placeText text out ≡ record { answer = wrote (length (recordText (chipRecord c))); buffer = recordText (chipRecord c) ++ drop (length (recordText (chipRecord c))) out }
-place-writes text out c r h = ap (λ (t : Reading Chip). placeRead t out) r ∙ ap (λ (b : Bool). fit b (recordText (chipRecord c)) out) (le-leb (length (recordText (chipRecord c))) (length out) h)
+place-writes text out c r h = ap (λ (t : Reading Chip). placeRead t out) r ∙ ap (λ (b : Bool). ifRoom b (recordText (chipRecord c)) out) (le-leb (length (recordText (chipRecord c))) (length out) h)

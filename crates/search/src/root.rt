@@ -1,8 +1,8 @@
 // The root of the search: a dot for each pair.
 use chip_array::macro_count;
+use fit_slots::Direction;
 use half_fit::service::HalfFit;
 use half_fit::service::HalfOutcome;
-use search_tables::Arrays;
 use model::Chip;
 use model::Mac;
 use model::Outcome;
@@ -15,7 +15,7 @@ use search_node::LETTERS;
 use search_node::Node;
 use search_node::no_record;
 use search_order::ordered;
-use fit_slots::Direction;
+use search_tables::Arrays;
 ghost use mathlib.Core.Path.{_≡_};
 ghost use lib.ListN.{length};
 ghost use Rattle.model.specs.Meaning.{chipOf};

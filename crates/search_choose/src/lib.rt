@@ -3,14 +3,14 @@ mod open;
 mod score;
 
 use crate::score::pair_score;
-use search_kept::CELLS;
-use model::Fix;
-use model::Mac;
-use model::Spot;
 use fit_pairs::Cursor;
 use fit_pairs::first_pair;
 use fit_pairs::letter_count;
 use fit_pairs::next_pair;
+use model::Fix;
+use model::Mac;
+use model::Spot;
+use search_kept::CELLS;
 ghost use lib.ListN.{take};
 ghost use Rattle.search_choose.specs.Choice.{Laid, LaidBy, Chosen, PlaceOf, partsOf, ChosenOf};
 

@@ -1,12 +1,12 @@
 // The letters of a pair that the differences leave open. They guide the choice of the pair and nothing else, so nothing is promised of them.
 use axis_bounds::Slot;
-use search_kept::CELLS;
-use model::Fix;
-use model::Mac;
-use fit_pairs::Cursor;
 use fit_pair_slots::slot_at;
+use fit_pairs::Cursor;
 use fit_slots::Asked;
 use fit_slots::Direction;
+use model::Fix;
+use model::Mac;
+use search_kept::CELLS;
 ghost use Prim.Native.Nat.{_≤_};
 
 pub(crate) struct Open {

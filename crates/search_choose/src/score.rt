@@ -2,15 +2,15 @@
 use crate::open::Open;
 use crate::open::open_letters;
 use crate::open::urgency;
+use fit_pairs::Cursor;
 use geometry::Box;
 use geometry::apart;
-use search_kept::CELLS;
 use model::Fix;
 use model::Mac;
 use model::Spot;
-use fit_pairs::Cursor;
 use search_boxes::mac_box;
 use search_boxes::second_box;
+use search_kept::CELLS;
 ghost use mathlib.Core.Path.{_≡_};
 ghost use Prim.Native.Nat.{_≤_, _<_, min, max};
 ghost use lib.Dec.{ltb};

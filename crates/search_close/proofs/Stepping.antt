@@ -24,10 +24,10 @@ use Rattle.search_node.specs.declared.Parts.{Parts}
 use Rattle.search_node.specs.Node.{PartsOf, Given}
 use Rattle.search_halves.specs.Kept.{noCouple}
 use Rattle.search_choose.specs.Choice.{PlaceOf, Chosen, ChosenOf, Laid}
-use Rattle.search_node.specs.Letters.{Placed}
+use Rattle.search_node.specs.Letters.{CursorAt}
 
 -- the cursor of the pair that is chosen
-chosen-placed : (c : HeldChip) → Passed c → (p s : ℕ) (at : Cursor) → PlaceOf (c .macs) (c .n) (c .fixes) (c .k) p s at → s < p → Placed c s at
+chosen-placed : (c : HeldChip) → Passed c → (p s : ℕ) (at : Cursor) → PlaceOf (c .macs) (c .n) (c .fixes) (c .k) p s at → s < p → CursorAt c s at
 unfolding chipOf
 chosen-placed c ok p s at o h = record {
   reached = record { i = near .0; j = near .1; fix = λ e. ok .fine .fix (at .j) (o .on h .fixes e .1) };

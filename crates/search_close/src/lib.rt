@@ -1,9 +1,9 @@
 // A branch is closed, or the pair of it that is decided next is chosen.
-use search_best::replaced;
-use search_best::replaces_best;
+use fit_pairs::Cursor;
 use model::Outcome;
 use model::Record;
-use fit_pairs::Cursor;
+use search_best::replaced;
+use search_best::replaces_best;
 use search_choose::Choice;
 use search_choose::choose;
 use search_node::Node;

@@ -15,7 +15,7 @@ use Rattle.text_grammar.proofs.Lacks.{and-left, and-right}
 use Rattle.chip_text.specs.Valid.{Valid}
 use Rattle.geometry.specs.Box.{boxAt}
 use Rattle.placement.specs.Legal.{boxes, inDie, allInDie, placesAll, within}
-use Rattle.placement.specs.Length.{Near}
+use Rattle.placement.specs.Length.{CornersWithin}
 
 module _ (c : Chip) where
   corner-in : (ms : List Mac) (ps : List Spot) → length ps ≡ length ms → allInDie c (boxes ms ps) ≡ true → (i : ℕ) → i < length ps → (getD ps i blankSpot .x ≤ c .die .w) × (getD ps i blankSpot .y ≤ c .die .h)
@@ -38,7 +38,7 @@ module _ (c : Chip) where
     unfolding within
     inside = and-right (placesAll c ps) (allInDie c (boxes (c .macs) ps)) h
 
-    pub within-near : Valid c → Near ps
+    pub within-near : Valid c → CornersWithin ps
     within-near v = record {
       x = λ i g. let q = corner-in (c .macs) ps within-long inside i g .0 in let d = v .dieW .high in omega arith;
       y = λ i g. let q = corner-in (c .macs) ps within-long inside i g .1 in let d = v .dieH .high in omega arith;

@@ -2,6 +2,7 @@
 use chip_array::chip_in;
 use chip_array::macro_count;
 use fit::FitOutcome;
+use fit_slots::Direction;
 use half_fit::service::HalfFit;
 use half_fit::service::HalfOutcome;
 use model::Chip;
@@ -11,7 +12,6 @@ use model::Record;
 use model::Spot;
 use search_node::LETTERS;
 use search_node::no_record;
-use fit_slots::Direction;
 ghost use mathlib.Core.Path.{_≡_};
 ghost use Prim.Native.Nat.{_+_, min};
 ghost use Rattle.chip_array.specs.Array.{chipIn};

@@ -1,8 +1,8 @@
 // What is left of a branch once some letters of a pair are closed: the fits of the others, and the differences kept.
-use search_best::replaces_best;
 use axis_bounds::Slot;
-use search_kept::CELLS;
 use model::Record;
+use search_best::replaces_best;
+use search_kept::CELLS;
 use search_node::no_record;
 ghost use mathlib.Core.Path.{_≡_};
 ghost use lib.ListN.{set};

@@ -1,13 +1,13 @@
 // The four letters of a pair, tried: each is excluded by the differences, closed by its fit, or left with it.
-use search_best::replaces_best;
 use axis_bounds::Slot;
+use fit_pairs::Cursor;
+use fit_slots::Direction;
 use half_fit::ARCS;
 use half_fit::HELP;
 use half_fit::POOL;
 use half_fit::TAB;
-use search_tables::with_bound;
 use model::Record;
-use fit_pairs::Cursor;
+use search_best::replaces_best;
 use search_join::joined;
 use search_left::Left;
 use search_left::is_excluded;
@@ -20,7 +20,7 @@ use search_node::decided;
 use search_node::letter_slot;
 use search_node::no_record;
 use search_node::room;
-use fit_slots::Direction;
+use search_tables::with_bound;
 ghost use Rattle.chip_array.specs.Array.{chipIn};
 ghost use Rattle.search_letters.specs.Turns.{Untried, ChildOn, ChildOf, TriedOne, Tried};
 

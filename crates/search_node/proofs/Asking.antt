@@ -25,7 +25,7 @@ use Rattle.fit_pair_slots.specs.Letters.{slotRead}
 use Rattle.search_halves.specs.Half.{otherWay}
 use Rattle.fit_pair_slots.proofs.Reading.{slot-read}
 use Rattle.search_halves.specs.Kept.{wayOf, noCouple, asks}
-use Rattle.search_node.specs.Letters.{letterAt, wayAt, askedAt, slotAsked, Asks, Placed}
+use Rattle.search_node.specs.Letters.{letterAt, wayAt, askedAt, slotAsked, Asks, CursorAt}
 use Rattle.search_node.specs.Node.{roomOf}
 
 -- ---- letter i
@@ -71,7 +71,7 @@ letter-asks (suc (suc zero)) h q = refl
 letter-asks (suc (suc (suc zero))) h q = refl
 letter-asks (suc (suc (suc (suc i)))) h q = absurd (omega arith)
 
-pub asks-is : (c : HeldChip) (s : ℕ) (at : Cursor) → Placed c s at → (i : ℕ) → i < 4 → (t : Slot) → t ≡ slotAsked (c .macs) (c .fixes) at i → Asks c s i t
+pub asks-is : (c : HeldChip) (s : ℕ) (at : Cursor) → CursorAt c s at → (i : ℕ) → i < 4 → (t : Slot) → t ≡ slotAsked (c .macs) (c .fixes) at i → Asks c s i t
 asks-is c s at p i h t e = record {
   four = h;
   slot = e ∙ (slot-read (wayAt i) (askedAt i) (c .macs) (c .fixes) at (p .reached) ∙ (ap (heldSlot (wayAt i) (askedAt i)) (p .couple) ∙ letter-asks i h (getD (couples (chipOf c)) s noCouple)));

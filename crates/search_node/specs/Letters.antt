@@ -60,7 +60,7 @@ abbrev pub slotAsked : List Mac → List Fix → Cursor → ℕ → Slot
 slotAsked macs fixes at i = slotRead (wayAt i) (askedAt i) macs fixes (at .fix) (at .i) (at .j)
 
 -- the cursor is at pair s
-pub record Placed (c : HeldChip) (s : ℕ) (at : Cursor) : Type 0 where
+pub record CursorAt (c : HeldChip) (s : ℕ) (at : Cursor) : Type 0 where
   pub reached : Reached (c .fixes) at
   pub couple : coupleAt (c .macs) (c .fixes) at ≡ getD (couples (chipOf c)) s noCouple
 

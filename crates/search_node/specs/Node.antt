@@ -18,7 +18,7 @@ use Rattle.fit_slots.specs.Axes.{axisFor, cornersOn}
 use Rattle.fit_pairs.specs.declared.Cursor.{Cursor}
 use Rattle.search_tables.specs.Tables.{Tabled, Arced}
 use Rattle.search_best.specs.Best.{bestOf, Counted}
-use Rattle.search_node.specs.Letters.{lettersIn, Lettered, Placed}
+use Rattle.search_node.specs.Letters.{lettersIn, Lettered, CursorAt}
 use Rattle.search_node.specs.declared.Node.{Node}
 use Rattle.search_node.specs.declared.Parts.{Parts}
 
@@ -89,4 +89,4 @@ pub record Given (c : HeldChip) (parts : Parts) (p : ℕ) (tx ty : List ℕ) (no
 -- pair s of the branch is undecided, and the cursor is at it
 pub record Turn (c : HeldChip) (p : ℕ) (node : Node) (s : ℕ) (at : Cursor) : Type 0 where
   pub free : Open c p node s
-  pub on : Placed c s at
+  pub on : CursorAt c s at

@@ -1,16 +1,16 @@
 // A branch of the search: its letters, bounds, differences and fit; the four letters of a pair and the slots that they ask.
 use axis_bounds::Slot;
-use search_tables::ARCS;
-use search_kept::CELLS;
+use fit_pair_slots::slot_at;
+use fit_pairs::Cursor;
+use fit_slots::Asked;
+use fit_slots::Direction;
 use model::Fix;
 use model::Mac;
 use model::Outcome;
 use model::Record;
 use model::Spot;
-use fit_pairs::Cursor;
-use fit_pair_slots::slot_at;
-use fit_slots::Asked;
-use fit_slots::Direction;
+use search_kept::CELLS;
+use search_tables::ARCS;
 ghost use mathlib.Core.Path.{_≡_};
 ghost use Prim.Native.Nat.{_-_};
 ghost use lib.ListN.{set};

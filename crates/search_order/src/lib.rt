@@ -1,7 +1,7 @@
 // Equal macros: the earlier one does not lie further right, kept as differences.
 use axis_bounds::Slot;
-use search_kept::CELLS;
 use model::Chip;
+use search_kept::CELLS;
 ghost use mathlib.Core.Path.{_≡_};
 ghost use mathlib.Core.Bool.{true};
 ghost use Prim.Native.Nat.{_<_};

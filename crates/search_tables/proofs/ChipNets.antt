@@ -13,7 +13,7 @@ use Rattle.model.specs.declared.Chip.{Chip as HeldChip}
 use Rattle.model.specs.Meaning.{firstOf, blankNet, blankPin, pinOf, pinsOf, netsOf, chipOf}
 use Rattle.model.proofs.FirstOf.{length-first, getD-first}
 use Rattle.model.proofs.Nets.{length-pins}
-use Rattle.chip_text.specs.Valid.{FinePin, noNet, pinsBefore}
+use Rattle.chip_text.specs.Valid.{HeldValidPin, noNet, pinsBefore}
 use Rattle.chip_text.specs.Passed.{Passed}
 use Rattle.chip_text.proofs.HeldNets.{pins-before-more, pins-before-up, before-first, getD-weight, getD-net}
 use Rattle.chip_text.proofs.Passing.{Whole}
@@ -39,7 +39,7 @@ pin-same : (d : Direction) (p : HeldPin) → axisPin d (pinOf p) ≡ pinAt (p .m
 pin-same horizontal p = ap (pinAt (p .m)) (raised-again (p .xup))
 pin-same vertical p = ap (pinAt (p .m)) (raised-again (p .yup))
 
-pin-reads : (d : Direction) (n : ℕ) (p : HeldPin) → n ≤ 8 → FinePin n p → pinAt (p .m) (upOn d p) ≡ pinOn d p
+pin-reads : (d : Direction) (n : ℕ) (p : HeldPin) → n ≤ 8 → HeldValidPin n p → pinAt (p .m) (upOn d p) ≡ pinOn d p
 pin-reads horizontal n p l f = let a = f .macro in let b = f .x in let x : p .m ≡ p .m % 9 = omega arith in let y : p .xup ≡ p .xup % 65536 = omega arith in ap (λ (k : ℕ). pinAt k (p .xup)) x ∙ ap (pinAt (p .m % 9)) y
 pin-reads vertical n p l f = let a = f .macro in let b = f .y in let x : p .m ≡ p .m % 9 = omega arith in let y : p .yup ≡ p .yup % 65536 = omega arith in ap (λ (k : ℕ). pinAt k (p .yup)) x ∙ ap (pinAt (p .m % 9)) y
 

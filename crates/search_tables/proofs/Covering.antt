@@ -12,7 +12,7 @@ use Rattle.axis_bounds.specs.Axis.{NetOn, noPin, bareNet, places, netsLength}
 use Rattle.search_halves.proofs.Entries.{Covered}
 use Rattle.half_arrays.specs.Arrays.{entryCount, nodeAt, mostAt, leastAt, netAt, weightAt, pinAt, entryPins, netsFrom}
 use Rattle.search_tables.specs.Entries.{Lies, Backed, Entered}
-use Rattle.search_tables.proofs.Entering.{SmallPins}
+use Rattle.search_tables.proofs.Entering.{PinsWithin}
 
 -- ---- the pins of an array's net
 
@@ -65,7 +65,7 @@ module _ (p : ℕ → AxisPin) (q : ℕ → ℕ) (tab : List ℕ) (j : ℕ) wher
 
   -- ---- beside the pins of the chip's net
 
-  module _ (small : SmallPins p) (e k : ℕ) (h : Entered p q tab e k) (past : 9 * suc j ≤ k) (ps : List AxisPin) (ends : q (suc j) ≡ q j + length ps) (at : (i : ℕ) → i < length ps → getD ps i noPin ≡ p (q j + i)) (some : 0 < length ps) where
+  module _ (small : PinsWithin p) (e k : ℕ) (h : Entered p q tab e k) (past : 9 * suc j ≤ k) (ps : List AxisPin) (ends : q (suc j) ≡ q j + length ps) (at : (i : ℕ) → i < length ps → getD ps i noPin ≡ p (q j + i)) (some : 0 < length ps) where
     abbrev es : List AxisPin
     es = entryPins tab j e
 

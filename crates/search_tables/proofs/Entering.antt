@@ -134,11 +134,11 @@ module _ (tab : List ℕ) (e node most least net : ℕ) (long : length tab ≡ 1
       ap (λ (k : ℕ). k % 9) r ∙ z
 
 -- nodes and places are small
-pub record SmallPins (p : ℕ → AxisPin) : Type 0 where
+pub record PinsWithin (p : ℕ → AxisPin) : Type 0 where
   pub node : (i : ℕ) → p i .node < 9
   pub up : (i : ℕ) → p i .up < 65536
 
-module _ (p : ℕ → AxisPin) (q : ℕ → ℕ) (small : SmallPins p) (tab : List ℕ) (e j v : ℕ) (s : Span) (h : Entered p q tab e (9 * j + v)) (w : Spans p (q j) (q (suc j)) v s) (lv : v < 9) where
+module _ (p : ℕ → AxisPin) (q : ℕ → ℕ) (small : PinsWithin p) (tab : List ℕ) (e j v : ℕ) (s : Span) (h : Entered p q tab e (9 * j + v)) (w : Spans p (q j) (q (suc j)) v s) (lv : v < 9) where
   same-step : (a i : ℕ) → 9 * a + p i .node < suc (9 * j + v) → (9 * a + p i .node < 9 * j + v → ⊥) → (a ≡ j) × (p i .node ≡ v)
   same-step a i l n = let g = small .node i in (omega arith, omega arith)
 

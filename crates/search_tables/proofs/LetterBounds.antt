@@ -10,7 +10,7 @@ use Rattle.model.specs.Meaning.{Chip}
 use Rattle.chip_text.specs.Valid.{Valid}
 use Rattle.placement.specs.Letters.{Letter, dot}
 use Rattle.axis_bounds.specs.declared.Slot.{Slot}
-use Rattle.axis_bounds.specs.Axis.{Axis, Keeps, KeepsSlot, FinePair, valueAt, noSlot}
+use Rattle.axis_bounds.specs.Axis.{Axis, Keeps, KeepsSlot, WellFormedPair, valueAt, noSlot}
 use Rattle.fit_slots.specs.declared.Direction.{Direction}
 use Rattle.fit_slots.specs.declared.Direction.the-variants.{Horizontal as horizontal, Vertical as vertical}
 use Rattle.fit_slots.specs.Slots.{macSide, asked, Couple, twoMacs, macFix, couples}
@@ -95,7 +95,7 @@ slots-at d (l ∷ ls) [] j e h = absurd (omega arith)
 slots-at d (l ∷ ls) (q ∷ qs) zero e h = refl
 slots-at d (l ∷ ls) (q ∷ qs) (suc j) e h = slots-at d ls qs j (omega arith) (omega arith)
 
-slot-plain : (n : ℕ) (s : Slot) → n ≤ 8 → FinePair n s → Plain n s
+slot-plain : (n : ℕ) (s : Slot) → n ≤ 8 → WellFormedPair n s → Plain n s
 slot-plain n s h f = let p = f .plus in let m = f .minus in record { tail = f .tail; head = f .head; plus = omega arith; minus = omega arith }
 
 module _ (d : Direction) (c : Chip) (v : Valid c) (ls : List Letter) (el : length ls ≡ length (couples c)) where
@@ -165,7 +165,7 @@ module _ (d : Direction) (c : Chip) (v : Valid c) (ls : List Letter) (el : lengt
       let f = held-count d (set ls s m) (couples c) (e ∙ el) in
       let h = axis-fine d c (set ls s m) v (e ∙ el) .pair s (omega arith) in
       let g = slots-at d (set ls s m) (couples c) s (e ∙ el) (omega arith) ∙ ap (slotOf d c v ls el s) (getD-set-same ls s m dot lt) in
-      slot-plain (length (c .macs)) new (v .macCount) (subst (FinePair (length (c .macs))) g (subst (λ (k : ℕ). FinePair k (getD (heldSlots d (set ls s m) (couples c)) s noSlot)) (length-map (c .macs) (macSide d)) h))
+      slot-plain (length (c .macs)) new (v .macCount) (subst (WellFormedPair (length (c .macs))) g (subst (λ (k : ℕ). WellFormedPair k (getD (heldSlots d (set ls s m) (couples c)) s noSlot)) (length-map (c .macs) (macSide d)) h))
 
   new-near : Plain 8 new
   new-near = let p = new-plain in let a = p .tail in let b = p .head in let g = v .macCount in record { tail = omega arith; head = omega arith; plus = p .plus; minus = p .minus }

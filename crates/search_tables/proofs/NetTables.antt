@@ -24,7 +24,7 @@ use Rattle.half_arrays.specs.Arrays.{weightAt, entryCount}
 use Rattle.search_tables.specs.declared.entries.Span.{Span}
 use Rattle.search_tables.specs.Entries.{pinsOn, startOf, Lies, Spans, withEntry, Entered, onNodes, Few, SameRest, Weighed, NetsIn, NetPut}
 use Rattle.search_tables.proofs.Padding.{zeros-at}
-use Rattle.search_tables.proofs.Entering.{SmallPins, entered-store, entered-none, entered-rest, entered-more}
+use Rattle.search_tables.proofs.Entering.{PinsWithin, entered-store, entered-none, entered-rest, entered-more}
 
 -- ---- how many
 
@@ -81,7 +81,7 @@ module _ (p : ℕ → AxisPin) (from m v e : ℕ) (h : Few p from m v e) where
 
 -- ---- one net
 
-pub pins-small : (d : Direction) (pins : List Pin) → SmallPins (pinsOn d pins)
+pub pins-small : (d : Direction) (pins : List Pin) → PinsWithin (pinsOn d pins)
 pins-small d pins = record { node = λ i. omega arith; up = λ i. omega arith }
 
 module _ (d : Direction) (nets : List Net) (pins : List Pin) (j from : ℕ) where

@@ -1,7 +1,7 @@
 // The fields of a case: parts of its line between tabs, numbers, positions.
-use num_text::Number;
 use model::Mac;
 use model::Spot;
+use num_text::Number;
 ghost use mathlib.Core.Path.{_≡_};
 ghost use Prim.Native.Nat.{_+_, _≤_, min};
 ghost use lib.ListN.{length};

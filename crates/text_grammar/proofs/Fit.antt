@@ -13,14 +13,14 @@ use Rattle.model.specs.declared.Refusal.{Refusal}
 use Rattle.model.specs.declared.Tested.{Tested}
 use Rattle.model.specs.declared.Tested.the-variants as tested
 use Rattle.text_grammar.specs.Reading.{Reading, accepted}
-use Rattle.text_grammar.specs.Writing.{wrote, notWritten, testedAs, refuse, fit, writeText}
+use Rattle.text_grammar.specs.Writing.{wrote, notWritten, testedAs, refuse, ifRoom, writeText}
 
 -- a text of at most 65,536 bytes whose length n writing into any buffer has told
 module _ (text x y b : List ℕ) (n : ℕ) (short : length text ≤ 65536) (told : Wrote x y text 0 n) where
-  too-short : length b < n → refuse 15 0 b ≡ fit (leb (length text) (length b)) text b
+  too-short : length b < n → refuse 15 0 b ≡ ifRoom (leb (length text) (length b)) text b
   too-short h = rw (lt-leb (length text) (length b) (omega (arith, told .place)))
 
-  all-fits : (a : List ℕ) (k : ℕ) → n ≤ length b → Wrote b a text 0 k → record { answer = wrote k; buffer = a } ≡ fit (leb (length text) (length b)) text b
+  all-fits : (a : List ℕ) (k : ℕ) → n ≤ length b → Wrote b a text 0 k → record { answer = wrote k; buffer = a } ≡ ifRoom (leb (length text) (length b)) text b
   all-fits a k h w = rw (le-leb (length text) (length b) (omega (arith, told .place)), len, w .bytes ∙ whole)
     where
       len : k ≡ length text

@@ -35,11 +35,11 @@ abbrev pub refuse : ℕ → ℕ → List ℕ → Written
 refuse n l out = record { answer = notWritten n l; buffer = out }
 
 -- a text written into a buffer, by whether it fits: the bytes after it stay, or refusal 15
-abbrev pub fit : Bool → List ℕ → List ℕ → Written
-fit true text out = record { answer = wrote (length text); buffer = text ++ drop (length text) out }
-fit false text out = refuse 15 0 out
+abbrev pub ifRoom : Bool → List ℕ → List ℕ → Written
+ifRoom true text out = record { answer = wrote (length text); buffer = text ++ drop (length text) out }
+ifRoom false text out = refuse 15 0 out
 
 -- a value with that text, which is read as the first argument says, written into the buffer out
 abbrev pub writeText : {A : Type 0} → Reading A → List ℕ → List ℕ → Written
-writeText (accepted a) text out = fit (leb (length text) (length out)) text out
+writeText (accepted a) text out = ifRoom (leb (length text) (length out)) text out
 writeText (refused n l) text out = refuse n l out

@@ -1,7 +1,7 @@
 // One line of a text: where it ends, its word and its fields.
-use num_text::Number;
 use model::Pin;
 use model::Refusal;
+use num_text::Number;
 ghost use mathlib.Core.Path.{_≡_};
 ghost use mathlib.Core.List.{[], _∷_};
 ghost use Prim.Native.Nat.{_<_, _≤_};

@@ -9,7 +9,7 @@ use Rattle.num_text.specs.Number.{digits}
 use Rattle.num_text.specs.Held.{Wrote}
 use Rattle.num_text.proofs.Wrote.{wrote-then, wrote-length}
 use Rattle.text_grammar.specs.Line.{lineFeed}
-use Rattle.text_grammar.specs.Writing.{wrote, refuse, fit}
+use Rattle.text_grammar.specs.Writing.{wrote, refuse, ifRoom}
 use Rattle.text_grammar.proofs.Fit.{too-short, all-fits}
 use Rattle.text_grammar.proofs.Lengths.{digits-short}
 use Rattle.text_grammar.proofs.Numbers.{Numbered}
@@ -30,10 +30,10 @@ line-short n l h g =
 
 -- what is left in a buffer that is too short for it, and in one that is not
 module _ (n l : ℕ) (x y b : List ℕ) (k : ℕ) (h : n < 2 ^ 64) (g : l < 2 ^ 64) (told : Wrote x y (refusalLine n l) 0 k) where
-  pub line-too-long : length b < k → refuse 15 0 b ≡ fit (leb (length (refusalLine n l)) (length b)) (refusalLine n l) b
+  pub line-too-long : length b < k → refuse 15 0 b ≡ ifRoom (leb (length (refusalLine n l)) (length b)) (refusalLine n l) b
   line-too-long = let s = line-short n l h g in too-short (refusalLine n l) x y b k (omega arith) told
 
-  pub line-fits : (a : List ℕ) (r : ℕ) → k ≤ length b → Wrote b a (refusalLine n l) 0 r → record { answer = wrote r; buffer = a } ≡ fit (leb (length (refusalLine n l)) (length b)) (refusalLine n l) b
+  pub line-fits : (a : List ℕ) (r : ℕ) → k ≤ length b → Wrote b a (refusalLine n l) 0 r → record { answer = wrote r; buffer = a } ≡ ifRoom (leb (length (refusalLine n l)) (length b)) (refusalLine n l) b
   line-fits = let s = line-short n l h g in all-fits (refusalLine n l) x y b k (omega arith) told
 
 -- `refused,no,10,line,16385` and LF

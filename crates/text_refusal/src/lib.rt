@@ -7,7 +7,7 @@ ghost use lib.Dec.{leb};
 ghost use lib.ListN.{length};
 ghost use Rattle.num_text.specs.Number.{digits};
 ghost use Rattle.num_text.specs.Held.{Wrote};
-ghost use Rattle.text_grammar.specs.Writing.{answerOf, fit};
+ghost use Rattle.text_grammar.specs.Writing.{answerOf, ifRoom};
 ghost use Rattle.text_refusal.specs.Refusal.{refusalLine};
 
 // Writes a mark and the decimal digits of n from `at` on, as far as the buffer goes, and answers the place after them.
@@ -29,7 +29,7 @@ fn put_refusal(out: &mut [u8], at: usize, f: Refusal) -> usize
 
 // The line of a refusal: 15 where the buffer is shorter.
 pub fn write_refusal(f: Refusal, out: &mut [u8]) -> WriteAnswer
-    ensures { λ a. ⌜ record { answer = answerOf a; buffer = now (out .exit) } ≡ fit (leb (length (refusalLine (f .no) (f .line))) (length (now (out .entry)))) (refusalLine (f .no) (f .line)) (now (out .entry)) ⌝ }
+    ensures { λ a. ⌜ record { answer = answerOf a; buffer = now (out .exit) } ≡ ifRoom (leb (length (refusalLine (f .no) (f .line))) (length (now (out .entry)))) (refusalLine (f .no) (f .line)) (now (out .entry)) ⌝ }
 {
     let mut none = [0u8; 1];
     let n = put_refusal(&mut none, 0, f);

@@ -1,6 +1,6 @@
 use Prim.Native.Nat.{_≤_, _-_}
 use Rattle.axis_graph.proofs.Answers.{shows-no}
-use Rattle.axis_amounts.specs.Amounts.{FineSpans}
+use Rattle.axis_amounts.specs.Amounts.{SpansWithin}
 use Rattle.axis_amounts.proofs.Tests.{spans-none, spans-more, spans-all}
 use borrow.Author.Needs.{needs}
 use Rattle.axis_amounts.proofs.fine_spans.Statement.{statement}
@@ -8,7 +8,7 @@ use Rattle.axis_amounts.proofs.fine_spans.Tie as tie
 
 -- the nets below j are within the limits
 abbrev Inv-loop : tie.InvT-loop
-Inv-loop count n nets j₀ j = (j ≤ count) × FineSpans n nets j
+Inv-loop count n nets j₀ j = (j ≤ count) × SpansWithin n nets j
 
 abbrev μ-loop : tie.MeasureT-loop
 μ-loop count n nets j₀ j = count - j

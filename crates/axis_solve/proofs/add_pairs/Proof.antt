@@ -28,8 +28,8 @@ admit-all-requires c κs =
     let g = c .before .before .die-graph .ensures in
     (pairs-fine a (shape t) h _ g, (pairs-free a (shape t) h _ g (t .pre .1), (search needs, (search needs, all-wanted a (shape t) h _ g _ (c .before .macro-graph .ensures)))))
 
-drain-nets-requires : tie.Need-drain-nets-requires
-drain-nets-requires c κs =
+augment-nets-requires : tie.Need-augment-nets-requires
+augment-nets-requires c κs =
     let t = c .before .before .before .before .before .before .before .before .before in
     (t .pre .0, admitted-free (t .args .a) (shape t) (t .pre .0) _ (c .before .before .before .before .before .before .die-graph .ensures) _ (c .before .before .before .before .before .macro-graph .ensures) _ _ _ (c .before .before .before .admit-all .ensures) (c .if1 .taken))
 
@@ -42,4 +42,4 @@ returns-2 c =
     admitted-none (t .args .a) (shape t) (t .pre .0) _ (c .before .before .before .before .before .before .die-graph .ensures) _ (c .before .before .before .before .before .macro-graph .ensures) _ _ _ (c .before .before .before .admit-all .ensures) (c .if1 .left)
 
 pub add-pairs-spec : {M : Type 1} → statement M
-add-pairs-spec = tie.close (tie.spec mul-from add-to die-graph-requires macro-graph-requires admit-all-requires drain-nets-requires returns returns-2)
+add-pairs-spec = tie.close (tie.spec mul-from add-to die-graph-requires macro-graph-requires admit-all-requires augment-nets-requires returns returns-2)

@@ -9,10 +9,10 @@ use Rattle.axis_values.proofs.is_rooted.Tie as tie
 
 -- the nodes below k have parents
 abbrev Inv-loop : tie.InvT-loop
-Inv-loop f x way slots m n k₀ k = Rooted slots m f x way k
+Inv-loop f x parents slots m n k₀ k = Rooted slots m f x parents k
 
 abbrev μ-loop : tie.MeasureT-loop
-μ-loop f x way slots m n k₀ k = n - k
+μ-loop f x parents slots m n k₀ k = n - k
 
 loop-holds : tie.Need-loop-holds Inv-loop μ-loop
 loop-holds c = search rooted-none

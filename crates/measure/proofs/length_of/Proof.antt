@@ -22,8 +22,8 @@ array-copy-out-net c = search few-nets
 add-to : tie.Need-add-to Inv-loop μ-loop
 add-to c = search pins-fit
 
-half-around-requires : tie.Need-half-around-requires Inv-loop μ-loop
-half-around-requires c κs = (search pins-placed, search some-pins, search few-pins)
+half-perimeter-requires : tie.Need-half-perimeter-requires Inv-loop μ-loop
+half-perimeter-requires c κs = (search pins-placed, search some-pins, search few-pins)
 
 mul-total : tie.Need-mul-total Inv-loop μ-loop
 mul-total c = search product-fits
@@ -53,7 +53,7 @@ length-of-spec =
     mul-net
     array-copy-out-net
     add-to
-    half-around-requires
+    half-perimeter-requires
     mul-total
     add-total
     add-j

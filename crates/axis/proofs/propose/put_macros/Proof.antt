@@ -4,10 +4,10 @@ use Rattle.axis.proofs.propose.put_macros.Statement.{statement}
 use Rattle.axis.proofs.propose.put_macros.Tie as tie
 
 abbrev Inv-loop : tie.InvT-loop
-Inv-loop by picks st lane n x₀ way₀ v₀ x way v = 0 ≤ 0
+Inv-loop by picks st lane n x₀ parents₀ v₀ x parents v = 0 ≤ 0
 
 abbrev μ-loop : tie.MeasureT-loop
-μ-loop by picks st lane n x₀ way₀ v₀ x way v = n - v
+μ-loop by picks st lane n x₀ parents₀ v₀ x parents v = n - v
 
 put-value-requires : tie.Need-put-value-requires Inv-loop μ-loop
 put-value-requires c κs = search needs

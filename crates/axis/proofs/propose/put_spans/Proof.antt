@@ -4,10 +4,10 @@ use Rattle.axis.proofs.propose.put_spans.Statement.{statement}
 use Rattle.axis.proofs.propose.put_spans.Tie as tie
 
 abbrev Inv-loop : tie.InvT-loop
-Inv-loop tab picks st lane base n t x₀ way₀ j₀ x way j = 0 ≤ 0
+Inv-loop tab picks st lane base n t x₀ parents₀ j₀ x parents j = 0 ≤ 0
 
 abbrev μ-loop : tie.MeasureT-loop
-μ-loop tab picks st lane base n t x₀ way₀ j₀ x way j = 32 - j
+μ-loop tab picks st lane base n t x₀ parents₀ j₀ x parents j = 32 - j
 
 loop-holds : tie.Need-loop-holds Inv-loop μ-loop
 loop-holds c = search needs

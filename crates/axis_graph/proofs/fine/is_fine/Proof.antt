@@ -1,12 +1,12 @@
 use Prim.Native.Nat.{_≤_, _-_}
-use Rattle.axis_graph.proofs.Fining.{FineTo, fine-none, fine-more, many-nodes, many-slots, not-fine, all-fine}
+use Rattle.axis_graph.proofs.Fining.{SlotsWithinTo, fine-none, fine-more, many-nodes, many-slots, not-fine, all-fine}
 use borrow.Author.Needs.{needs}
 use Rattle.axis_graph.proofs.fine.is_fine.Statement.{statement}
 use Rattle.axis_graph.proofs.fine.is_fine.Tie as tie
 
 -- the slots below i are within the limits
 abbrev Inv-loop : tie.InvT-loop
-Inv-loop g n m i₀ i = (i ≤ m) × FineTo n (g .slots) i
+Inv-loop g n m i₀ i = (i ≤ m) × SlotsWithinTo n (g .slots) i
 
 abbrev μ-loop : tie.MeasureT-loop
 μ-loop g n m i₀ i = m - i

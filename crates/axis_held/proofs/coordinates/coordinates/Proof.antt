@@ -1,12 +1,12 @@
 use Prim.Native.Nat.{_≤_, _-_}
-use Rattle.axis_held.proofs.Placing.{PlacedTo, placed-none, placed-skip, placed-more, placed-all}
+use Rattle.axis_held.proofs.Placing.{OffsetsTo, placed-none, placed-skip, placed-more, placed-all}
 use borrow.Author.Needs.{needs}
 use Rattle.axis_held.proofs.coordinates.coordinates.Statement.{statement}
 use Rattle.axis_held.proofs.coordinates.coordinates.Tie as tie
 
 -- the first i macros have their coordinates
 abbrev Inv-loop : tie.InvT-loop
-Inv-loop n x r₀ i₀ r i = (i ≤ 8) × PlacedTo x n r i
+Inv-loop n x r₀ i₀ r i = (i ≤ 8) × OffsetsTo x n r i
 
 abbrev μ-loop : tie.MeasureT-loop
 μ-loop n x r₀ i₀ r i = 8 - i

@@ -3,8 +3,8 @@ use Rattle.axis_solve.proofs.Settling.{solved, solve-growing}
 use Rattle.axis_solve.proofs.solve.solve_axis.Statement.{statement}
 use Rattle.axis_solve.proofs.solve.solve_axis.Tie as tie
 
-drain-all-requires : tie.Need-drain-all-requires
-drain-all-requires c κs = search needs
+augment-all-requires : tie.Need-augment-all-requires
+augment-all-requires c κs = search needs
 
 seed-requires : tie.Need-seed-requires
 seed-requires c κs = search needs
@@ -16,4 +16,4 @@ returns : tie.Need-returns
 returns c = search solved
 
 pub solve-axis-spec : {M : Type 1} → statement M
-solve-axis-spec = tie.close (tie.spec drain-all-requires seed-requires settle-requires returns)
+solve-axis-spec = tie.close (tie.spec augment-all-requires seed-requires settle-requires returns)

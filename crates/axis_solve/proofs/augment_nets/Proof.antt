@@ -2,8 +2,8 @@ use Rattle.axis_held.proofs.HeldAxes.{Shaped, shaped, held-base}
 use Rattle.axis_solve.proofs.Nets.{nets-small, nets-spread, nets-resting, nets-in, nets-free}
 use Rattle.axis_held.proofs.Judging.{nets-fine, nets-some, nets-given, nets-solved}
 use borrow.Author.Needs.{needs}
-use Rattle.axis_solve.proofs.drain_nets.Statement.{statement}
-use Rattle.axis_solve.proofs.drain_nets.Tie as tie
+use Rattle.axis_solve.proofs.augment_nets.Statement.{statement}
+use Rattle.axis_solve.proofs.augment_nets.Tie as tie
 
 -- the axis's arrays are as long as its type says
 shape : (t : tie.Start) → Shaped (t .args .a)
@@ -49,5 +49,5 @@ returns c =
     let t = c .before .before .before .before .before .before .before .before .before .before .before in
     nets-solved (t .args .a) (shape t) (t .pre .0) _ (c .before .before .before .before .before .before .before .before .whole-graph .ensures .held (t .pre .0)) _ (c .before .before .before .before .before .before .before .net-spans .ensures .held (t .pre .0)) _ _ (c .before .before .before .solve-axis .ensures) _ (c .coordinates .ensures)
 
-pub drain-nets-spec : {M : Type 1} → statement M
-drain-nets-spec = tie.close (tie.spec whole-graph-requires net-spans-requires add-rebase rebase-requires start-values-requires solve-axis-requires coordinates-requires returns)
+pub augment-nets-spec : {M : Type 1} → statement M
+augment-nets-spec = tie.close (tie.spec whole-graph-requires net-spans-requires add-rebase rebase-requires start-values-requires solve-axis-requires coordinates-requires returns)

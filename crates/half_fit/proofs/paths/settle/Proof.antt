@@ -1,7 +1,7 @@
 use Prim.Native.Nat.{_-_, _≤_}
 use borrow.Author.Needs.{needs}
-use Rattle.half_fit.proofs.ways.settle.Statement.{statement}
-use Rattle.half_fit.proofs.ways.settle.Tie as tie
+use Rattle.half_fit.proofs.paths.settle.Statement.{statement}
+use Rattle.half_fit.proofs.paths.settle.Tie as tie
 
 abbrev Inv-loop : tie.InvT-loop
 Inv-loop m s₀ o d par rank w₀ s w = 0 ≤ 0

@@ -10,9 +10,9 @@ use axis_graph::SLOT_ROOM;
 ghost use mathlib.Core.Path.{_≡_};
 ghost use Prim.Native.Nat.{_<_, min};
 ghost use Rattle.axis_graph.specs.Limits.{nodeRoom};
-ghost use Rattle.axis_graph.specs.Graph.{Fine, Leads, Net};
+ghost use Rattle.axis_graph.specs.Graph.{GraphWithin, Leads, Net};
 ghost use Rattle.axis_solve.specs.Growth.{Growing};
-ghost use Rattle.axis_solve.specs.Drain.{ReachOk, Sound, Spare, TurnOk, Drained};
+ghost use Rattle.axis_solve.specs.Augment.{ReachOk, Sound, Spare, TurnOk, Augmented};
 
 // The values and amounts after one push, and the amount q of that push.
 struct Turn {
@@ -29,7 +29,7 @@ pub struct Flowed {
 
 // Grows until the goal joins.
 fn reach(g: Graph, f: [u64; SLOT_ROOM], w: Growth, goal: usize) -> Growth
-    requires { ⌜ Fine g ⌝ }
+    requires { ⌜ GraphWithin g ⌝ }
     requires { ⌜ Growing g f w ⌝ }
     requires { ⌜ goal < nodeRoom ⌝ }
     requires { ⌜ Leads g (w .start) goal ⌝ }
@@ -62,7 +62,7 @@ fn one_turn(
     hi: usize,
     r: u64,
 ) -> Turn
-    requires { ⌜ Fine g ⌝ }
+    requires { ⌜ GraphWithin g ⌝ }
     requires { ⌜ Sound g f x ⌝ }
     requires { ⌜ Spare f r ⌝ }
     requires { ⌜ Net g lo hi ⌝ }
@@ -79,7 +79,7 @@ fn one_turn(
 }
 
 // The whole weight of a net, by turns.
-pub(crate) fn drain(
+pub(crate) fn augment(
     g: Graph,
     f: [u64; SLOT_ROOM],
     x: [u64; NODE_ROOM],
@@ -87,11 +87,11 @@ pub(crate) fn drain(
     hi: usize,
     weight: u64,
 ) -> Flowed
-    requires { ⌜ Fine g ⌝ }
+    requires { ⌜ GraphWithin g ⌝ }
     requires { ⌜ Sound g f x ⌝ }
     requires { ⌜ Spare f weight ⌝ }
     requires { ⌜ Net g lo hi ⌝ }
-    ensures { λ t. ⌜ Drained g f lo hi weight (t .x) (t .f) ⌝ }
+    ensures { λ t. ⌜ Augmented g f lo hi weight (t .x) (t .f) ⌝ }
 {
     let mut h = f;
     let mut y = x;

@@ -1,8 +1,8 @@
 use Prim.Native.Nat.{_-_, _≤_}
 use Rattle.measure.proofs.Around.{Around, pin-placed, first-around, next-around, all-around, left-first, low-first, half-fits}
 use borrow.Author.Needs.{needs}
-use Rattle.measure.proofs.half_around.Statement.{statement}
-use Rattle.measure.proofs.half_around.Tie as tie
+use Rattle.measure.proofs.half_perimeter.Statement.{statement}
+use Rattle.measure.proofs.half_perimeter.Tie as tie
 
 abbrev Inv-loop : tie.InvT-loop
 Inv-loop spots from to pins e₀ i₀ e i = (i ≤ to) × Around spots pins from to i e
@@ -58,8 +58,8 @@ add-result c = search half-fits
 returns : tie.Need-returns Inv-loop μ-loop
 returns c = search (needs, all-around)
 
-pub half-around-spec : {M : Type 1} → statement M
-half-around-spec =
+pub half-perimeter-spec : {M : Type 1} → statement M
+half-perimeter-spec =
     tie.close
     (tie.spec
     Inv-loop

@@ -1,7 +1,7 @@
 use Prim.Native.Nat.{_-_, _≤_}
 use borrow.Author.Needs.{needs}
-use Rattle.half_fit.proofs.ways.spread.Statement.{statement}
-use Rattle.half_fit.proofs.ways.spread.Tie as tie
+use Rattle.half_fit.proofs.paths.spread.Statement.{statement}
+use Rattle.half_fit.proofs.paths.spread.Tie as tie
 
 abbrev Inv-loop : tie.InvT-loop
 Inv-loop s o b d₀ par₀ off w₀ d par w = 0 ≤ 0

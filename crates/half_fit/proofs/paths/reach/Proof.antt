@@ -1,7 +1,7 @@
 use Prim.Native.Nat.{_-_, _≤_}
 use borrow.Author.Needs.{needs}
-use Rattle.half_fit.proofs.ways.reach.Statement.{statement}
-use Rattle.half_fit.proofs.ways.reach.Tie as tie
+use Rattle.half_fit.proofs.paths.reach.Statement.{statement}
+use Rattle.half_fit.proofs.paths.reach.Tie as tie
 
 abbrev Inv-loop : tie.InvT-loop
 Inv-loop m s o goal stop d₀ par₀ rank₀ gone₀ turn₀ d par rank gone turn = 0 ≤ 0

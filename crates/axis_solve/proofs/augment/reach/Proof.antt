@@ -1,8 +1,8 @@
 use borrow.Author.Needs.{needs}
 use Rattle.axis_solve.specs.Growth.{outside}
 use Rattle.axis_solve.proofs.Reaches.{Reaching, reaching-starts, reaching-growing, reaching-ends, reaching-more, reaching-less, reaching-never}
-use Rattle.axis_solve.proofs.drain.reach.Statement.{statement}
-use Rattle.axis_solve.proofs.drain.reach.Tie as tie
+use Rattle.axis_solve.proofs.augment.reach.Statement.{statement}
+use Rattle.axis_solve.proofs.augment.reach.Tie as tie
 
 -- the growth goes on; nodes outside get fewer
 abbrev Inv-loop : tie.InvT-loop

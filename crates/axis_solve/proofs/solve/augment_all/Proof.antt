@@ -2,8 +2,8 @@ use Prim.Native.Nat.{_≤_, _-_}
 use borrow.Author.Needs.{needs}
 use Rattle.axis_solve.specs.Flows.{Flows}
 use Rattle.axis_solve.proofs.AllNets.{flows-none, flows-sound, flows-net, flows-spare, flows-more, flows-all}
-use Rattle.axis_solve.proofs.solve.drain_all.Statement.{statement}
-use Rattle.axis_solve.proofs.solve.drain_all.Tie as tie
+use Rattle.axis_solve.proofs.solve.augment_all.Statement.{statement}
+use Rattle.axis_solve.proofs.solve.augment_all.Tie as tie
 
 -- the first j nets flow
 abbrev Inv-loop : tie.InvT-loop
@@ -21,8 +21,8 @@ mul-p c = search needs
 array-copy-out-p : tie.Need-array-copy-out-p Inv-loop μ-loop
 array-copy-out-p c = search needs
 
-drain-requires : tie.Need-drain-requires Inv-loop μ-loop
-drain-requires c κs = (search needs, (search flows-sound, (search flows-spare, search flows-net)))
+augment-requires : tie.Need-augment-requires Inv-loop μ-loop
+augment-requires c κs = (search needs, (search flows-sound, (search flows-spare, search flows-net)))
 
 add-j : tie.Need-add-j Inv-loop μ-loop
 add-j c = search needs
@@ -36,8 +36,8 @@ loop-again c = (search needs, search flows-more)
 returns : tie.Need-returns Inv-loop μ-loop
 returns c = search flows-all
 
-pub drain-all-spec : {M : Type 1} → statement M
-drain-all-spec =
+pub augment-all-spec : {M : Type 1} → statement M
+augment-all-spec =
     tie.close
     (tie.spec
     Inv-loop
@@ -45,7 +45,7 @@ drain-all-spec =
     loop-holds
     mul-p
     array-copy-out-p
-    drain-requires
+    augment-requires
     add-j
     loop-less
     loop-again

@@ -2,8 +2,8 @@ use borrow.Author.Needs.{needs}
 use Rattle.axis_solve.proofs.Raising.{fine-nodes}
 use Rattle.axis_solve.proofs.Seeds.{seed-growing, seed-chain}
 use Rattle.axis_solve.proofs.Turns.{turn-pushable, turn-ok, turn-small, turn-spread}
-use Rattle.axis_solve.proofs.drain.one_turn.Statement.{statement}
-use Rattle.axis_solve.proofs.drain.one_turn.Tie as tie
+use Rattle.axis_solve.proofs.augment.one_turn.Statement.{statement}
+use Rattle.axis_solve.proofs.augment.one_turn.Tie as tie
 
 seed-requires : tie.Need-seed-requires
 seed-requires c κs = search needs

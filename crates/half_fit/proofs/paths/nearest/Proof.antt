@@ -1,7 +1,7 @@
 use Prim.Native.Nat.{_-_, _≤_}
 use borrow.Author.Needs.{needs}
-use Rattle.half_fit.proofs.ways.nearest.Statement.{statement}
-use Rattle.half_fit.proofs.ways.nearest.Tie as tie
+use Rattle.half_fit.proofs.paths.nearest.Statement.{statement}
+use Rattle.half_fit.proofs.paths.nearest.Tie as tie
 
 abbrev Inv-loop : tie.InvT-loop
 Inv-loop m d gone stop b₀ by₀ v₀ b by v = 0 ≤ 0

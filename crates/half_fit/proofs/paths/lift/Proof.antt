@@ -1,7 +1,7 @@
 use Prim.Native.Nat.{_-_, _≤_}
 use borrow.Author.Needs.{needs}
-use Rattle.half_fit.proofs.ways.lift.Statement.{statement}
-use Rattle.half_fit.proofs.ways.lift.Tie as tie
+use Rattle.half_fit.proofs.paths.lift.Statement.{statement}
+use Rattle.half_fit.proofs.paths.lift.Tie as tie
 
 abbrev Inv-loop : tie.InvT-loop
 Inv-loop m s₀ o d r z w₀ s w = 0 ≤ 0

@@ -9,7 +9,7 @@ use Rattle.axis_graph.specs.declared.Graph.{Graph}
 use Rattle.axis_solve.specs.declared.growth.Growth.{Growth}
 use Rattle.axis_graph.specs.Limits.{lowMost, amountMost}
 use Rattle.axis_bounds.specs.Listed.{tails, heads}
-use Rattle.axis_graph.specs.Graph.{at, Holds, Tights, Near}
+use Rattle.axis_graph.specs.Graph.{at, Holds, Tights, CloseValues}
 use Rattle.axis_solve.specs.Growth.{Growing}
 
 -- the goal joined
@@ -23,7 +23,7 @@ pub record Sound (g : Graph) (f x : List ℕ) : Type 0 where
   pub holds : Holds (g .slots) (g .m) x
   pub tight : Tights (g .slots) (g .m) f x
   pub low : (k : ℕ) → at x k ≤ lowMost
-  pub near : Near (g .slots) (g .m) (g .n)
+  pub near : CloseValues (g .slots) (g .m) (g .n)
 
 -- every amount leaves room for r more
 pub record Spare (f : List ℕ) (r : ℕ) : Type 0 where
@@ -44,6 +44,6 @@ pub record TurnOk (g : Graph) (f : List ℕ) (lo hi r : ℕ) (x′ f′ : List �
   pub carried : Carried g f lo hi q f′
 
 -- all of r went from lo to hi
-pub record Drained (g : Graph) (f : List ℕ) (lo hi r : ℕ) (x′ f′ : List ℕ) : Type 0 where
+pub record Augmented (g : Graph) (f : List ℕ) (lo hi r : ℕ) (x′ f′ : List ℕ) : Type 0 where
   pub sound : Sound g f′ x′
   pub carried : Carried g f lo hi r f′

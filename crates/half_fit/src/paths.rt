@@ -1,4 +1,4 @@
-// Cheapest ways over nine nodes by Dijkstra's method, with the slacks of the residual bounds as lengths.
+// Cheapest paths over nine nodes by Dijkstra's method, with the slacks of the residual bounds as lengths.
 use crate::POOL;
 use crate::state::BIAS;
 use crate::state::FAR;
