@@ -17,8 +17,8 @@ pub fn write_record(r: Record, out: &mut [u8]) -> WriteAnswer
         return WriteAnswer::Refused(f);
     }
     let mut none = [0u8; 1];
-    if out.len() < recordprinter::put_record(&mut none, 0, r) {
+    if out.len() < record_print::put_record(&mut none, 0, r) {
         return WriteAnswer::Refused(Refusal { no: 15, line: 0 });
     }
-    WriteAnswer::Text(recordprinter::put_record(out, 0, r))
+    WriteAnswer::Text(record_print::put_record(out, 0, r))
 }

@@ -1,7 +1,7 @@
-use Rattle.recordprinter.proofs.Printed.{none-written, least-written}
+use Rattle.record_print.proofs.Printed.{none-written, least-written}
 use borrow.Author.Needs.{needs}
-use Rattle.recordprinter.proofs.put_body.Statement.{statement}
-use Rattle.recordprinter.proofs.put_body.Tie as tie
+use Rattle.record_print.proofs.put_body.Statement.{statement}
+use Rattle.record_print.proofs.put_body.Tie as tie
 
 enum-told : tie.Need-enum-told
 enum-told c = search needs

@@ -2,8 +2,8 @@ use Rattle.text_put.proofs.Items.{item-written}
 use Rattle.record_text.specs.Words.{recordWords}
 use Rattle.record_words.proofs.Words.{laying}
 use borrow.Author.Needs.{needs}
-use Rattle.recordprinter.proofs.put_item.Statement.{statement}
-use Rattle.recordprinter.proofs.put_item.Tie as tie
+use Rattle.record_print.proofs.put_item.Statement.{statement}
+use Rattle.record_print.proofs.put_item.Tie as tie
 
 spelling-of-requires : tie.Need-spelling-of-requires
 spelling-of-requires c κs = search needs

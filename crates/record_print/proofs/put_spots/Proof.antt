@@ -5,10 +5,10 @@ use Rattle.text_grammar.specs.Words.{itemsText}
 use Rattle.text_put.specs.Run.{run}
 use Rattle.text_put.proofs.Items.{run-none}
 use Rattle.record_text.specs.Words.{recordWords}
-use Rattle.recordprinter.proofs.Printed.{spotItem, spot-more, spots-all}
+use Rattle.record_print.proofs.Printed.{spotItem, spot-more, spots-all}
 use borrow.Author.Needs.{needs}
-use Rattle.recordprinter.proofs.put_spots.Statement.{statement}
-use Rattle.recordprinter.proofs.put_spots.Tie as tie
+use Rattle.record_print.proofs.put_spots.Statement.{statement}
+use Rattle.record_print.proofs.put_spots.Tie as tie
 
 abbrev Inv-loop : tie.InvT-loop
 Inv-loop out₀ at spots n last a₀ i₀ out a i = (i ≤ last) × Wrote out₀ out (itemsText recordWords (run (spotItem spots) 0 i)) at a

@@ -1,7 +1,7 @@
-use Rattle.recordprinter.proofs.Printed.{record-written}
+use Rattle.record_print.proofs.Printed.{record-written}
 use borrow.Author.Needs.{needs}
-use Rattle.recordprinter.proofs.put_record.Statement.{statement}
-use Rattle.recordprinter.proofs.put_record.Tie as tie
+use Rattle.record_print.proofs.put_record.Statement.{statement}
+use Rattle.record_print.proofs.put_record.Tie as tie
 
 put-body-requires : tie.Need-put-body-requires
 put-body-requires c κs = search needs

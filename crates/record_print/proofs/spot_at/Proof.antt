@@ -1,7 +1,7 @@
 use Rattle.text_put.proofs.Counted.{blank-past}
 use borrow.Author.Needs.{needs}
-use Rattle.recordprinter.proofs.spot_at.Statement.{statement}
-use Rattle.recordprinter.proofs.spot_at.Tie as tie
+use Rattle.record_print.proofs.spot_at.Statement.{statement}
+use Rattle.record_print.proofs.spot_at.Tie as tie
 
 mul-result : tie.Need-mul-result
 mul-result c = search needs
