@@ -18,11 +18,12 @@ use Rattle.text_grammar.specs.Words.{itemText, itemsText}
 use Rattle.chip_text.specs.declared.ChipWord.the-variants as word
 use Rattle.chip_text.specs.Words.{chipWords}
 use Rattle.chip_text.specs.Text.{Item, pinItem, netItem, netItems}
+use Rattle.chip_text.proofs.Passing.{Whole}
 use Rattle.text_put.specs.Shown.{shownOf}
 use Rattle.text_put.specs.Run.{run}
 use Rattle.text_put.proofs.Counted.{first-run}
 use Rattle.text_put.proofs.Items.{run-last, items-none, items-one, items-then}
-use Rattle.chip_print.specs.Items.{itemAt, netAt, ArraysOf}
+use Rattle.chip_print.specs.Items.{itemAt, netAt}
 
 net-items-snoc : (ts : List Net) (t : Net) → netItems (ts ++ (t ∷ [])) ≡ netItems ts ++ (netItem t ∷ []) ++ map pinItem (t .pins)
 unfolding netItems
@@ -79,7 +80,7 @@ module _ (c : HeldChip) where
     pub pins-more : (t : HeldNet) (r : ℕ) → t ≡ u → r ≡ min (q + t .pins) 128 → r ≡ pinsTo (j + 1)
     pins-more t r y w = rw (last-net, taken-snoc (netsTo j) u, ← y) (omega arith)
 
-    module _ (ok : ArraysOf c) where
+    module _ (ok : Whole c) where
       -- the lines of the net's pins
       pins-run : map pinItem (pinsOf (firstOf blankPin (u .pins) (drop (taken (netsTo j)) (c .pins)))) ≡ run (itemAt c word.Pin) q (shownOf (u .pins) (128 - q))
       pins-run =
@@ -91,7 +92,7 @@ module _ (c : HeldChip) where
           rw (last-net, nets-snoc (netsTo j) u (c .pins), net-items-snoc, pins-run, append-snoc (netItems (netsOf (netsTo j) (c .pins))) (itemAt c word.Net j) (run (itemAt c word.Pin) q (shownOf (u .pins) (128 - q))))
           (items-then chipWords b m a _ at f r v w₁ _ w₂)
 
-  pub nets-all : (b a : List ℕ) (n j at r : ℕ) → ArraysOf c → n ≡ shownOf (c .t) 32 → j ≤ n → n ≤ j → Wrote b a (netLines j) at r → Wrote b a (itemsText chipWords (netItems (chipOf c .nets))) at r
+  pub nets-all : (b a : List ℕ) (n j at r : ℕ) → Whole c → n ≡ shownOf (c .t) 32 → j ≤ n → n ≤ j → Wrote b a (netLines j) at r → Wrote b a (itemsText chipWords (netItems (chipOf c .nets))) at r
   unfolding chipOf
   nets-all b a n j at r ok e f h w = rw all-nets w
     where

@@ -1,16 +1,14 @@
 -- The items of a chip held as a value, by their numbers, and the parts of its text.
 use Prim.Native.Nat.{ℕ, _-_}
-use mathlib.Core.Path.{_≡_}
 use mathlib.Core.List.{List, [], _∷_, _++_, map}
 use lib.IntN.{pos}
-use lib.ListN.{length, getD}
+use lib.ListN.{getD}
 use Rattle.model.specs.declared.Fix.{Fix}
 use Rattle.model.specs.declared.Mac.{Mac}
 use Rattle.model.specs.declared.Net.{Net as HeldNet}
-use Rattle.model.specs.declared.Pin.{Pin as HeldPin}
 use Rattle.model.specs.declared.Chip.{Chip as HeldChip}
 use Rattle.model.specs.Meaning.{Chip, blankFix, blankMac, blankNet, blankPin, pinOf}
-use Rattle.model.specs.Limits.{mostFixes, mostMacs, mostNets, mostPins}
+use Rattle.model.specs.Limits.{mostPins}
 use Rattle.text_grammar.specs.Line.{number}
 use Rattle.text_put.specs.Shown.{shownOf}
 use Rattle.text_put.specs.Run.{run}
@@ -38,14 +36,3 @@ netAt c j q = itemAt c word.Net j ∷ run (itemAt c word.Pin) q (shownOf (getD (
 -- the lines before the nets: die, fixes, macros
 unfoldable pub blockItems : Chip → List Item
 blockItems c = dieItem (c .die) ∷ (map fixItem (c .fixes) ++ map macItem (c .macs))
-
--- arrays that are as long as the greatest counts of a chip
-pub record Arrays (fs : List Fix) (ms : List Mac) (ts : List HeldNet) (ps : List HeldPin) : Type 0 where
-  pub fixes : length fs ≡ mostFixes
-  pub macs : length ms ≡ mostMacs
-  pub nets : length ts ≡ mostNets
-  pub pins : length ps ≡ mostPins
-
--- the same of a chip's arrays
-abbrev pub ArraysOf : HeldChip → Type 0
-ArraysOf c = Arrays (c .fixes) (c .macs) (c .nets) (c .pins)

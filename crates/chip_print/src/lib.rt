@@ -16,28 +16,8 @@ ghost use Rattle.text_line.specs.Layout.{valuesIn};
 ghost use Rattle.text_put.specs.Run.{run};
 ghost use Rattle.chip_text.specs.Words.{chipWords, form};
 ghost use Rattle.chip_text.specs.Text.{netItems, chipText};
-ghost use Rattle.chip_print.specs.Items.{itemAt, netAt, blockItems, Arrays, ArraysOf};
-
-// The arrays are as long as the greatest counts of a chip.
-fn arrays_long(
-    fixes: [Fix; Fix::COUNT],
-    macs: [Mac; Mac::COUNT],
-    nets: [Net; Net::COUNT],
-    pins: [Pin; Pin::COUNT],
-)
-    ensures { λ _. ⌜ Arrays fixes macs nets pins ⌝ }
-{}
-
-// The same of a chip's arrays.
-pub fn chip_arrays(c: Chip)
-    ensures { λ _. ⌜ ArraysOf c ⌝ }
-{
-    let fixes = c.fixes;
-    let macs = c.macs;
-    let nets = c.nets;
-    let pins = c.pins;
-    arrays_long(fixes, macs, nets, pins);
-}
+ghost use Rattle.chip_text.proofs.Passing.{Whole};
+ghost use Rattle.chip_print.specs.Items.{itemAt, netAt, blockItems};
 
 // Fix i of the array, or a blank one past its end.
 fn fix_at(fixes: [Fix; Fix::COUNT], i: usize) -> Fix
@@ -171,7 +151,7 @@ fn put_net(out: &mut [u8], at: usize, c: Chip, j: usize, q: usize) -> usize
 
 // The same for the lines of the nets, each with its pins.
 fn put_nets(out: &mut [u8], at: usize, c: Chip) -> usize
-    requires { ⌜ ArraysOf c ⌝ }
+    requires { ⌜ Whole c ⌝ }
     ensures { λ r. ⌜ Wrote (now (out .entry)) (now (out .exit)) (itemsText chipWords (netItems (chipOf c .nets))) at r ⌝ }
 {
     let nets = c.nets;
@@ -190,7 +170,7 @@ fn put_nets(out: &mut [u8], at: usize, c: Chip) -> usize
 
 // The same for the lines before the nets: die, fixes, macros.
 fn put_blocks(out: &mut [u8], at: usize, c: Chip) -> usize
-    requires { ⌜ ArraysOf c ⌝ }
+    requires { ⌜ Whole c ⌝ }
     ensures { λ r. ⌜ Wrote (now (out .entry)) (now (out .exit)) (itemsText chipWords (blockItems (chipOf c))) at r ⌝ }
 {
     let fixes = text_put::shown(c.k, Fix::COUNT);
@@ -204,7 +184,6 @@ fn put_blocks(out: &mut [u8], at: usize, c: Chip) -> usize
 pub fn put_chip(out: &mut [u8], at: usize, c: Chip) -> usize
     ensures { λ r. ⌜ Wrote (now (out .entry)) (now (out .exit)) (chipText (chipOf c)) at r ⌝ }
 {
-    chip_arrays(c);
     let a = put_blocks(out, at, c);
     let b = put_nets(out, a, c);
     put_item(out, b, c, ChipWord::End, 0)

@@ -21,7 +21,7 @@ use Rattle.chip_text.specs.Text.{chipRead, readChip, chipItems, chipText}
 use Rattle.chip_text.proofs.ItemsRun.{items-formed, chip-run}
 use Rattle.chip_text.proofs.ReadText.{too-long}
 use Rattle.chip_text.proofs.TextRead.{text-read}
-use Rattle.chip_print.specs.Items.{ArraysOf}
+use Rattle.chip_text.proofs.Passing.{Whole}
 use Rattle.chip_items.specs.Tests.{itemsTested}
 use Rattle.chip_test.proofs.ChipRun.{items-accepted, items-refused}
 use Rattle.chip_test.proofs.Counts.{few-items}
@@ -35,7 +35,7 @@ each-brief word.Net = refl
 each-brief word.Pin = refl
 each-brief word.End = refl
 
-module _ (c : HeldChip) (ok : ArraysOf c) where
+module _ (c : HeldChip) (ok : Whole c) where
   module _ (b m : List ℕ) (n : ℕ) (w : Wrote b m (chipText (chipOf c)) 0 n) where
     pub long-read : 16384 < n → refused 1 0 ≡ readChip (chipText (chipOf c))
     long-read h = too-long (chipText (chipOf c)) (omega arith)

@@ -21,7 +21,8 @@ use Rattle.text_grammar.specs.Reading.{accepted, refused}
 use Rattle.text_grammar.proofs.Items.{runItems}
 use Rattle.chip_text.specs.Kind.{Part, start, chipKind}
 use Rattle.chip_text.specs.Text.{Item, dieItem, fixItem, macItem, pinItem, endItem, netItems, chipItems}
-use Rattle.chip_print.specs.Items.{weightItem, ArraysOf}
+use Rattle.chip_text.proofs.Passing.{Whole}
+use Rattle.chip_print.specs.Items.{weightItem}
 use Rattle.chip_print.proofs.Nets.{held-items}
 use Rattle.chip_faults.specs.declared.Row.the-variants as row
 use Rattle.chip_faults.specs.Faults.{netFault, rowFault}
@@ -33,7 +34,7 @@ module _ {P : Part → Type 0} (s : Part) (is : List Item) (r : Tested) where
   line-is : {a b : ℕ} → a ≡ b → Run P s a is r → Run P s b is r
   line-is e = subst (λ (n : ℕ). Run P s n is r) e
 
-module _ (c : HeldChip) (ok : ArraysOf c) where
+module _ (c : HeldChip) (ok : Whole c) where
   abbrev n : ℕ
   n = c .n
 

@@ -9,7 +9,7 @@ use Rattle.model.specs.declared.Chip.{Chip as HeldChip}
 use Rattle.model.specs.Meaning.{firstOf, blankFix, blankMac, blankNet, blankPin, netsOf, chipOf}
 use Rattle.model.proofs.Nets.{length-pins}
 use Rattle.chip_text.specs.Text.{netItems, chipItems}
-use Rattle.chip_print.specs.Items.{ArraysOf}
+use Rattle.chip_text.proofs.Passing.{Whole}
 
 first-and-rest : {A : Type 0} (z : A) (n : ℕ) (s : List A) → length (firstOf z n s) + length (drop n s) ≤ 1 + length s
 unfolding firstOf
@@ -25,7 +25,7 @@ nets-items (t ∷ ts) ps =
     let b = first-and-rest blankPin (t .pins) ps in
     rw (length-append, length-map, length-pins) (omega arith)
 
-pub few-items : (c : HeldChip) → ArraysOf c → length (chipItems (chipOf c)) ≤ 214
+pub few-items : (c : HeldChip) → Whole c → length (chipItems (chipOf c)) ≤ 214
 unfolding chipItems chipOf
 few-items c a =
     let f = first-and-rest blankFix (c .k) (c .fixes) in

@@ -12,7 +12,6 @@ ghost use Rattle.chip_text.specs.Text.{readChip, chipText};
 pub fn test_chip(c: Chip) -> Tested
     ensures { λ r. ⌜ testedAs (chipOf c) r ≡ readChip (chipText (chipOf c)) ⌝ }
 {
-    chip_print::chip_arrays(c);
     let tested = chip_items::test_items(c);
     let Tested::Refused(f) = tested else {
         return Tested::Passed;

@@ -1,10 +1,8 @@
+use Rattle.chip_text.proofs.Passing.{whole}
 use Rattle.chip_test.proofs.Answers.{passed-read, long-read, refused-read}
 use borrow.Author.Needs.{needs}
 use Rattle.chip_test.proofs.test_chip.Statement.{statement}
 use Rattle.chip_test.proofs.test_chip.Tie as tie
-
-chip-arrays-requires : tie.Need-chip-arrays-requires
-chip-arrays-requires c κs = search needs
 
 test-items-requires : tie.Need-test-items-requires
 test-items-requires c κs = search needs
@@ -16,7 +14,7 @@ enum-told : tie.Need-enum-told
 enum-told c = search needs
 
 returns : tie.Need-returns
-returns c = search passed-read
+returns c = search (passed-read, whole)
 
 slice-aggregate-put-chip : tie.Need-slice-aggregate-put-chip
 slice-aggregate-put-chip c = search needs
@@ -25,16 +23,15 @@ put-chip-requires : tie.Need-put-chip-requires
 put-chip-requires c κs = search needs
 
 returns-2 : tie.Need-returns-2
-returns-2 c = search long-read
+returns-2 c = search (long-read, whole)
 
 returns-3 : tie.Need-returns-3
-returns-3 c = search refused-read
+returns-3 c = search (refused-read, whole)
 
 pub test-chip-spec : {M : Type 1} → statement M
 test-chip-spec =
     tie.close
     (tie.spec
-    chip-arrays-requires
     test-items-requires
     enum-known-tested
     enum-told
