@@ -64,10 +64,10 @@ module _ (ss : List Slot) (f x : List ℕ) where
 
 module _ (s : Slot) (k a t h r : ℕ) where
   pub tied-forward : s .head ≡ k → t < r → Shows true (Tied s k a t h r)
-  tied-forward e l = shows-yes (record { parents = inl (e, l) })
+  tied-forward e l = shows-yes (record { way = inl (e, l) })
 
   pub tied-back : s .tail ≡ k → h < r → 0 < a → Shows true (Tied s k a t h r)
-  tied-back e l c = shows-yes (record { parents = inr (e, l, c) })
+  tied-back e l c = shows-yes (record { way = inr (e, l, c) })
 
 module _ (ss : List Slot) (m : ℕ) (f x parents : List ℕ) where
   pub rooted-none : Rooted ss m f x parents 1

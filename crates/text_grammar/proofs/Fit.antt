@@ -17,10 +17,10 @@ use Rattle.text_grammar.specs.Writing.{wrote, notWritten, testedAs, refu
 
 -- a text of at most 65,536 bytes whose length n writing into any buffer has told
 module _ (text x y b : List ℕ) (n : ℕ) (short : length text ≤ 65536) (told : Wrote x y text 0 n) where
-  too-short : length b < n → refuse 15 0 b ≡ ifRoom (leb (length text) (length b)) text b
+  pub too-short : length b < n → refuse 15 0 b ≡ ifRoom (leb (length text) (length b)) text b
   too-short h = rw (lt-leb (length text) (length b) (omega (arith, told .place)))
 
-  all-fits : (a : List ℕ) (k : ℕ) → n ≤ length b → Wrote b a text 0 k → record { answer = wrote k; buffer = a } ≡ ifRoom (leb (length text) (length b)) text b
+  pub all-fits : (a : List ℕ) (k : ℕ) → n ≤ length b → Wrote b a text 0 k → record { answer = wrote k; buffer = a } ≡ ifRoom (leb (length text) (length b)) text b
   all-fits a k h w = rw (le-leb (length text) (length b) (omega (arith, told .place)), len, w .bytes ∙ whole)
     where
       len : k ≡ length text
