@@ -76,10 +76,10 @@ tabled (t ∷ ts) = (leb 1 (t .number) && leb (t .number) 15) && tabled ts
 pub first-told : (ts : List Test) → tabled ts ≡ true → (k : ℕ) → firstFailed ts ≡ suc k → Numbered 15 (suc k)
 unfolding tabled firstFailed
 first-told [] e k q = absurd (omega arith)
-first-told (t ∷ ts) e k q = by (t .passes) q (first-told ts (and-right _ (tabled ts) e) k)
+first-told (t ∷ ts) e k q = by (t .passes) q (first-told ts (and-right (leb 1 (t .number) && leb (t .number) 15) (tabled ts) e) k)
   where
     its : (leb 1 (t .number) && leb (t .number) 15) ≡ true
-    its = and-left _ (tabled ts) e
+    its = and-left (leb 1 (t .number) && leb (t .number) 15) (tabled ts) e
 
     by : (b : Bool) → orElse b (t .number) (firstFailed ts) ≡ suc k → (firstFailed ts ≡ suc k → Numbered 15 (suc k)) → Numbered 15 (suc k)
     by true f more = more f
