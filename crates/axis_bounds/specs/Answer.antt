@@ -1,4 +1,5 @@
--- What solving an axis promises: values that keep the bounds, least in length and of those the smallest, with a flow of that length; or a closed chain that no values keep.
+-- What solving an axis promises: values that keep the bounds, least in length and of those the smallest, with a flow of that length; or a closed
+-- chain that no values keep.
 use Prim.Native.Nat.{ℕ, _+_, _≤_, _<_}
 use mathlib.Core.Path.{_≡_}
 use mathlib.Core.List.{List}

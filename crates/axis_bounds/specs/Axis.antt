@@ -38,7 +38,14 @@ netsOf (t ∷ ts) ps = record { weight = t .weight; pins = take (t .pins) ps } �
 
 -- the axis that a value holds
 unfoldable pub axisOf : HeldAxis → Axis
-axisOf a = record { side = a .side; sizes = take (a .n) (a .sizes); pairs = take (a .p) (a .pairs); base = a .base; nets = netsOf (take (a .t) (a .nets)) (a .pins) }
+axisOf a =
+    record {
+      side = a .side;
+      sizes = take (a .n) (a .sizes);
+      pairs = take (a .p) (a .pairs);
+      base = a .base;
+      nets = netsOf (take (a .t) (a .nets)) (a .pins);
+    }
 
 -- the value of a node, from the macros' coordinates z: 0 at the die corner
 abbrev pub valueAt : List ℕ → ℕ → ℕ

@@ -42,9 +42,11 @@ pub record GraphSolved (a : Axis) (x f : List ℕ) : Type 0 where
   pub most : (s : ℕ) → amount f s ≤ sum (weightOf a) (length (a .nets))
   pub idle : (s : ℕ) → tails (graphSlots a) s ≡ heads (graphSlots a) s → amount f s ≡ 0
   pub balance : Balance (tails (graphSlots a)) (heads (graphSlots a)) (amount f) (supply a) (demand a) (length (graphSlots a)) (nodeCount a)
-  pub reaches : weigh (pluses (graphSlots a)) (amount f) (length (graphSlots a)) + lower a x ≡ weigh (minuses (graphSlots a)) (amount f) (length (graphSlots a)) + upper a x
+  pub reaches : weigh (pluses (graphSlots a)) (amount f) (length (graphSlots a)) + lower a x
+      ≡ weigh (minuses (graphSlots a)) (amount f) (length (graphSlots a)) + upper a x
   pub least : (z : List ℕ) → Holds (graphSlots a) z → upper a x + lower a z ≤ upper a z + lower a x
-  pub smallest : (z : List ℕ) → Holds (graphSlots a) z → upper a z + lower a x ≤ upper a x + lower a z → (k : ℕ) → k ≤ length (a .sizes) → amount x k + amount z 0 ≤ amount z k + amount x 0
+  pub smallest : (z : List ℕ) → Holds (graphSlots a) z → upper a z + lower a x ≤ upper a x + lower a z → (k : ℕ) → k ≤ length (a .sizes)
+      → amount x k + amount z 0 ≤ amount z k + amount x 0
 
 -- a closed chain on the slots of macros and pairs whose sum is above 0
 pub record GraphRefuted (a : Axis) (f : List ℕ) : Type 0 where

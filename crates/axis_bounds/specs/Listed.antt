@@ -1,4 +1,5 @@
--- The slots of an axis in document 01's order: two for each macro, one for each pair, two for each pin. Nodes: 0 the die corner, then the macros, then hi and lo of each net in turn.
+-- The slots of an axis in document 01's order: two for each macro, one for each pair, two for each pin. Nodes: 0 the die corner, then the macros,
+-- then hi and lo of each net in turn.
 use Prim.Native.Nat.{ℕ, suc, _+_, _*_}
 use mathlib.Core.List.{List, [], _∷_, _++_}
 use lib.ListN.{length, getD}

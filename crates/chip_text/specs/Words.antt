@@ -1,7 +1,7 @@
 -- The words of chip files, their spelling and their fields (document 01, "The chip file").
 use Prim.Native.Nat.{ℕ}
 use mathlib.Core.List.{List, [], _∷_}
-use Rattle.model.specs.Limits.{Range, dieSide, fixCorner, fixSide, macSide, netWeight, pinMacro, pinPlace}
+use Rattle.model.specs.Limits.{dieSide, fixCorner, fixSide, macSide, netWeight, pinMacro, pinPlace}
 use Rattle.chip_text.specs.declared.ChipWord.{ChipWord}
 use Rattle.chip_text.specs.declared.ChipWord.the-variants.{Die, Fix, Mac, Net, Pin, End}
 use Rattle.text_grammar.specs.Line.{Form, over, named}

@@ -1,4 +1,5 @@
--- The program's answer for a fit (document 01, "The fit" and "Refusal table"): the number and the line of a refusal, no fit, or the wirelength and the number of slots of a placement; beside it the positions, 0,0 past the macros, and 0,0 everywhere without a placement.
+-- The program's answer for a fit (document 01, "The fit" and "Refusal table"): the number and the line of a refusal, no fit, or the wirelength and
+-- the number of slots of a placement; beside it the positions, 0,0 past the macros, and 0,0 everywhere without a placement.
 use Prim.Native.Nat.{_-_}
 use mathlib.Core.List.{List, [], _++_}
 use lib.ListN.{length, replicate}

@@ -40,7 +40,8 @@ abbrev pub putIf : Bool → List ℕ → List ℕ → List ℕ
 putIf true after before = after
 putIf false after before = before
 
--- v, w are the verdicts of the directions, f, g their amounts: both where both are solved, else those of the first that is not; nothing where the list is too short
+-- v, w are the verdicts of the directions, f, g their amounts: both where both are solved, else those of the first that is not; nothing where the
+-- list is too short
 abbrev pub slotsPut : ℕ → Verdict → List ℕ → Verdict → List ℕ → List ℕ → List ℕ
 slotsPut m v f w g list =
     putIf (leb m 456 && leb (m + m) (length list))

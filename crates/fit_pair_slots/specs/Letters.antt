@@ -28,7 +28,10 @@ letterAfter vertical = 65
 -- the slot of macros i and j, or of macro i and fix j, counted from 0: places are read modulo 8, a fix's numbers modulo 65,536
 abbrev pub slotRead : Direction → Asked → List Mac → List Fix → Bool → ℕ → ℕ → Slot
 slotRead d k macs fixes false i j = macPair k (i % 8 + 1) (macSide d (getD macs (i % 8) blankMac)) (j % 8 + 1) (macSide d (getD macs (j % 8) blankMac))
-slotRead d k macs fixes true i j = fixPair k (i % 8 + 1) (macSide d (getD macs (i % 8) blankMac)) (fixCorner d (getD fixes (j % 8) blankFix) % 65536) (fixSide d (getD fixes (j % 8) blankFix) % 65536)
+slotRead d k macs fixes true i j =
+    fixPair k (i % 8 + 1) (macSide d (getD macs (i % 8) blankMac))
+    (fixCorner d (getD fixes (j % 8) blankFix) % 65536)
+    (fixSide d (getD fixes (j % 8) blankFix) % 65536)
 
 -- the pair is on the arrays, and its fix is within its ranges
 pub record Reached (fixes : List Fix) (at : Cursor) : Type 0 where

@@ -1,4 +1,6 @@
--- What amounts on slots must be. Document 01, "The fit": a slot's amount flows from u to v; inflow minus outflow is the weight at a net's hi, minus the weight at its lo, 0 elsewhere; the sum of a × amount is the wirelength. For no fit the list holds 0 and 1 only, inflow equals outflow everywhere, and that sum is above 0.
+-- What amounts on slots must be. Document 01, "The fit": a slot's amount flows from u to v; inflow minus outflow is the weight at a net's hi,
+-- minus the weight at its lo, 0 elsewhere; the sum of a × amount is the wirelength. For no fit the list holds 0 and 1 only, inflow equals outflow
+-- everywhere, and that sum is above 0.
 use Prim.Native.Nat.{ℕ, suc, _+_, _≤_}
 use mathlib.Core.Path.{_≡_}
 use mathlib.Core.List.{List, [], _∷_}

@@ -45,7 +45,14 @@ heldSlots d (l ∷ ls) [] = []
 heldSlots d (l ∷ ls) (q ∷ qs) = heldSlot d (asked d l) q ∷ heldSlots d ls qs
 
 unfoldable pub axisFor : Direction → Chip → List Letter → Axis
-axisFor d c ls = record { side = dieSide d (c .die); sizes = map (macSide d) (c .macs); pairs = heldSlots d ls (couples c); base = pinUp; nets = map (axisNet d) (c .nets) }
+axisFor d c ls =
+    record {
+      side = dieSide d (c .die);
+      sizes = map (macSide d) (c .macs);
+      pairs = heldSlots d ls (couples c);
+      base = pinUp;
+      nets = map (axisNet d) (c .nets);
+    }
 
 -- the corners' x or y
 abbrev pub cornerOn : Direction → Spot → ℕ

@@ -1,4 +1,5 @@
--- What a fit answers. Document 01, "The fit" and "Refusal table": the refusal of the chip, tested as its text would be; then the first of 11, 12, 15 whose test fails; else a placement with its length, or no fit.
+-- What a fit answers. Document 01, "The fit" and "Refusal table": the refusal of the chip, tested as its text would be; then the first of 11, 12,
+-- 15 whose test fails; else a placement with its length, or no fit.
 use Prim.Native.Nat.{ℕ, _+_, _*_, _/_, _-_}
 use mathlib.Core.Path.{_≡_}
 use mathlib.Core.List.{List, [], _∷_, map}

@@ -1,4 +1,5 @@
--- The slots of a fit. Document 01, "The fit": horizontal slots, then vertical; two for each macro, one for each pair, two for each pin, all in file order. Each slot is a bound "v - u ≥ a".
+-- The slots of a fit. Document 01, "The fit": horizontal slots, then vertical; two for each macro, one for each pair, two for each pin, all in
+-- file order. Each slot is a bound "v - u ≥ a".
 use Prim.Native.Nat.{ℕ, suc, _+_}
 use mathlib.Core.List.{List, [], _∷_, _++_, map}
 use lib.ListN.{length}
@@ -14,7 +15,8 @@ use Rattle.fit_slots.specs.declared.Asked.{Asked}
 use Rattle.fit_slots.specs.declared.Asked.the-variants.{Before as before, After as after, Nothing as nothing}
 use Rattle.placement.specs.Letters as letter
 
--- a slot without a bound, or the bound v - u ≥ a between nodes u and v. Nodes: 0 is the die corner, i is macro i, and after the macros stand hi and lo of each net in turn.
+-- a slot without a bound, or the bound v - u ≥ a between nodes u and v. Nodes: 0 is the die corner, i is macro i, and after the macros stand hi
+-- and lo of each net in turn.
 pub data Slot : Type 0 where
   free : Slot
   bound : ℕ → ℕ → ℤ → Slot

@@ -1,4 +1,5 @@
--- Measuring a placement (document 01, "Legal, and how long"): the host hands over the positions as a list, one x,y for each macro, each 0..1,024; the answer is legal or not, and the wirelength, which exists for illegal positions too.
+-- Measuring a placement (document 01, "Legal, and how long"): the host hands over the positions as a list, one x,y for each macro, each 0..1,024;
+-- the answer is legal or not, and the wirelength, which exists for illegal positions too.
 use Prim.Native.Nat.{ℕ}
 use mathlib.Core.List.{List}
 use mathlib.Core.Bool.{Bool}

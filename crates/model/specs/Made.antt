@@ -55,7 +55,9 @@ meantFix fix.Outside = outOfRange
 
 -- a fix with its corner at x,y, of width w and height h
 abbrev pub makeFix : ℕ → ℕ → ℕ → ℕ → Made Fix
-makeFix x y w h = ifWithin (isWithin fixCorner (pos x) && isWithin fixCorner (pos y) && isWithin fixSide (pos w) && isWithin fixSide (pos h)) (record { x = x; y = y; w = w; h = h })
+makeFix x y w h =
+    ifWithin (isWithin fixCorner (pos x) && isWithin fixCorner (pos y) && isWithin fixSide (pos w) && isWithin fixSide (pos h))
+    (record { x = x; y = y; w = w; h = h })
 
 -- what each case of the constructor's answer means
 abbrev pub meantMac : MacMade → Made Mac

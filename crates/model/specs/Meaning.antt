@@ -1,4 +1,5 @@
--- What a chip and a record mean: lists and unbounded numbers (document 01, "The chip file", "The search and its record"). A die, a fix, a macro and a spot are the records of numbers that the program declares.
+-- What a chip and a record mean: lists and unbounded numbers (document 01, "The chip file", "The search and its record"). A die, a fix, a macro
+-- and a spot are the records of numbers that the program declares.
 use Prim.Native.Nat.{ℕ, zero, suc, _+_}
 use mathlib.Core.List.{List, [], _∷_}
 use lib.ListN.{drop}

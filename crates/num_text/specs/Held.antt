@@ -24,7 +24,8 @@ heldNumber noNumber = held.Bad
 abbrev pub lastPlace : ℕ
 lastPlace = 18446744073709551615
 
--- writing `text` from place `at` on, as far as the buffer goes, turned the buffer `before` into `after`; `next` is the place after the text, or the greatest place where that is above it
+-- writing `text` from place `at` on, as far as the buffer goes, turned the buffer `before` into `after`; `next` is the place after the text, or
+-- the greatest place where that is above it
 pub record Wrote (before after text : List ℕ) (at next : ℕ) : Type 0 where
   pub place : next ≡ min (at + length text) lastPlace
   pub bytes : after ≡ sets before at text

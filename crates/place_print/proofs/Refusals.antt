@@ -1,6 +1,6 @@
 -- The refusal number of writing, searching, placing, printing, measuring and fitting is 1 to 15, so it is never 0 or 255, the two numbers of the C interface that are no refusal.
 use Prim.Native.Nat.{ℕ, zero, suc}
-use mathlib.Core.Path.{_≡_, refl, ap}
+use mathlib.Core.Path.{_≡_, refl}
 use mathlib.Core.Bool.{Bool, true, false, _&&_}
 use mathlib.Core.List.{List, [], _∷_}
 use native.Mathlib.Omega.{arith}
@@ -11,7 +11,7 @@ use Rattle.model.specs.declared.Spot.{Spot}
 use Rattle.model.specs.Meaning.{Chip, Record}
 use Rattle.refusals.specs.Tests.{Test, orElse, firstFailed, unlessFailed}
 use Rattle.text_grammar.specs.Reading.{Reading, accepted, refused}
-use Rattle.text_grammar.specs.Writing.{Written, wrote, notWritten, ifRoom, writeText}
+use Rattle.text_grammar.specs.Writing.{notWritten, ifRoom, writeText}
 use Rattle.text_grammar.proofs.Lacks.{and-left, and-right}
 use Rattle.chip_text.specs.Text.{readChip, chipText, writeChip}
 use Rattle.record_text.specs.Text.{readRecord, recordText, writeRecord}

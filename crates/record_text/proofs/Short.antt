@@ -19,11 +19,10 @@ use Rattle.text_grammar.proofs.Items.{Within, items-read, read-text-lines}
 use Rattle.text_grammar.proofs.Lacks.{and-right}
 use Rattle.text_grammar.proofs.Lengths.{digits-short}
 use Rattle.text_grammar.proofs.Values.{passing}
-use Rattle.record_text.specs.declared.RecordWord.{RecordWord}
 use Rattle.record_text.specs.declared.RecordWord.the-variants as word
 use Rattle.record_text.specs.Words.{form, recordWords}
 use Rattle.record_text.specs.Kind.{start, recordKind}
-use Rattle.record_text.specs.Text.{Item, leastItem, doneItem, atItem, atItems, recordItems, recordText, readRecord}
+use Rattle.record_text.specs.Text.{leastItem, doneItem, atItem, atItems, recordItems, recordText, readRecord}
 use Rattle.record_text.proofs.ReadText.{record-means, read-text}
 
 -- a value that passes its test is at most the top of its range

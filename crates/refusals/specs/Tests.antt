@@ -1,4 +1,5 @@
--- The refusals of a service once its input is read (document 01, "Refusal table": "Then 11 or 13, 12 or 14, 15"): a list of tests, each with its number, in order; the first that fails counts, and its line is 0.
+-- The refusals of a service once its input is read (document 01, "Refusal table": "Then 11 or 13, 12 or 14, 15"): a list of tests, each with its
+-- number, in order; the first that fails counts, and its line is 0.
 use Prim.Native.Nat.{ℕ, zero, suc}
 use mathlib.Core.List.{List, [], _∷_}
 use mathlib.Core.Bool.{Bool, true, false}

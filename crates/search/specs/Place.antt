@@ -1,4 +1,6 @@
--- What the two services of the search answer and leave in the lent buffer. Document 01, "The search and its record" and "Refusal table": a chip alone fixes its record; a chip held as a value is tested first as its text would be, and a text is read; then 15 where the buffer is shorter than the record; a refusal writes nothing, and bytes past the record are not touched.
+-- What the two services of the search answer and leave in the lent buffer. Document 01, "The search and its record" and "Refusal table": a chip
+-- alone fixes its record; a chip held as a value is tested first as its text would be, and a text is read; then 15 where the buffer is shorter
+-- than the record; a refusal writes nothing, and bytes past the record are not touched.
 use mathlib.Core.List.{List}
 use Prim.Native.Nat.{ℕ}
 use Rattle.model.specs.Meaning.{Chip}

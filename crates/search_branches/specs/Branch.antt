@@ -10,7 +10,8 @@ use Rattle.placement.specs.Order.{before}
 use Rattle.placement.specs.Letters.{Letter, dot, left, right, low, high, keepsLetters}
 use Rattle.placement.specs.Least.{Best, nothing, found}
 
--- a placement of length l, or an equally long one that comes earlier: document 01, "the best placement so far is replaced by a shorter one, or by an equally short one that comes earlier"
+-- a placement of length l, or an equally long one that comes earlier: document 01, "the best placement so far is replaced by a shorter one, or by
+-- an equally short one that comes earlier"
 abbrev pub replaces : ℕ → List Spot → ℕ → List Spot → Bool
 replaces l ps m qs = ltb l m || (eqb l m && before ps qs)
 

@@ -29,5 +29,6 @@ closedBy a = record { closed = true; answer = a; s = 0; at = record { fix = fals
 
 -- a closed branch has its answer; of an open one a pair is undecided
 pub record StepOk (parts : Parts) (p : ℕ) (node : Node) (best : HeldRecord) (r : Step) : Type 0 where
-  pub closed : r .closed ≡ true → (c : HeldChip) (tx ty : List ℕ) → Given c parts p tx ty node best → Searched c (node .letters) p (node .kx) (node .ky) best (r .answer)
+  pub closed : r .closed ≡ true → (c : HeldChip) (tx ty : List ℕ) → Given c parts p tx ty node best
+      → Searched c (node .letters) p (node .kx) (node .ky) best (r .answer)
   pub branch : r .closed ≡ false → (c : HeldChip) (tx ty : List ℕ) → Given c parts p tx ty node best → Turn c p node (r .s) (r .at)

@@ -45,4 +45,5 @@ pub record Alike (c : Chip) (i j : ℕ) : Type 0 where
   pub inside : (a : ℕ) → a < length (c .nets) → mate a < length (c .nets)
   pub back : (a : ℕ) → a < length (c .nets) → mate (mate a) ≡ a
   pub weight : (a : ℕ) → a < length (c .nets) → netAt c (mate a) .weight ≡ netAt c a .weight
-  pub pins : (a : ℕ) → a < length (c .nets) → (k : ℕ) → k < length (netAt c a .pins) → OneOf (netAt c (mate a) .pins) (otherPin i j (getD (netAt c a .pins) k noPin))
+  pub pins : (a : ℕ) → a < length (c .nets) → (k : ℕ) → k < length (netAt c a .pins)
+      → OneOf (netAt c (mate a) .pins) (otherPin i j (getD (netAt c a .pins) k noPin))

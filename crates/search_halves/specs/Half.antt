@@ -1,4 +1,5 @@
--- A direction's half of a fit: the least length and, of the coordinates that have it, the smallest, under that direction's bounds. Two halves joined are a placement with its length.
+-- A direction's half of a fit: the least length and, of the coordinates that have it, the smallest, under that direction's bounds. Two halves
+-- joined are a placement with its length.
 use Prim.Native.Nat.{ℕ, _+_}
 use mathlib.Core.List.{List, [], _∷_}
 use Rattle.model.specs.declared.Spot.{Spot}

@@ -62,5 +62,7 @@ pub record Beside (c : HeldChip) (letters : List ℕ) (p : ℕ) (here : HeldReco
   pub half : HalfOn (axisFor (otherWay d) (chipOf c) (lettersIn letters p)) m (cornersOn (otherWay d) spots)
 
 -- r is what the half fit f beside the half of `here` says of the letters
-pub record JoinedFrom (c : HeldChip) (letters : List ℕ) (p : ℕ) (here best : HeldRecord) (d : Direction) (f : HalfFit) (other : ℕ) (r : HeldRecord) : Type 0 where
-  pub held : Passed c → Lettered c letters p → Beside c letters p here d other → HalfSaid (chipOf c) (lettersIn letters p) d (roomOf (best .outcome) other) (f .outcome) (f .at) → ChildHeld c letters p best r
+pub record JoinedFrom (c : HeldChip) (letters : List ℕ) (p : ℕ) (here best : HeldRecord) (d : Direction) (f : HalfFit) (other : ℕ)
+    (r : HeldRecord) : Type 0 where
+  pub held : Passed c → Lettered c letters p → Beside c letters p here d other
+      → HalfSaid (chipOf c) (lettersIn letters p) d (roomOf (best .outcome) other) (f .outcome) (f .at) → ChildHeld c letters p best r

@@ -40,18 +40,24 @@ pub record Untried (node : Node) (t : Left) : Type 0 where
 pub record Shut (c : Chip) (ls : List Letter) (s : ℕ) (kx ky : List ℕ) (j : ℕ) : Type 0 where
   pub keeps : (ps : List Spot) → inBranch c ls ps ≡ true → KeepsBoth kx ky ps → keepsOne ps (oppositeAt c s (letterAt j)) ≡ true
 
--- the letters below i are tried; b is the best so far: what it may be after keeps the differences, and of the letters tried those that hold a placement are open
+-- the letters below i are tried; b is the best so far: what it may be after keeps the differences, and of the letters tried those that hold a
+-- placement are open
 pub record LeftOk (c : HeldChip) (p : ℕ) (node : Node) (s i : ℕ) (t : Left) (b : HeldRecord) : Type 0 where
   pub counted : (j : ℕ) → j < 4 → Counted (c .n) (childAt (childList t) j)
-  pub fit : (j : ℕ) → j < 4 → (bestOf (childAt (childList t) j) ≡ nothing → ⊥) → bestOf (childAt (childList t) j) ≡ fitOf (chipOf c) (lettersIn (set (node .letters) s (byteOf j)) p)
+  pub fit : (j : ℕ) → j < 4 → (bestOf (childAt (childList t) j) ≡ nothing → ⊥)
+      → bestOf (childAt (childList t) j) ≡ fitOf (chipOf c) (lettersIn (set (node .letters) s (byteOf j)) p)
   pub shut : (j : ℕ) → j < i → j < 4 → bestOf (childAt (childList t) j) ≡ nothing → Shut (chipOf c) (lettersIn (node .letters) p) s (t .kx) (t .ky) j
-  pub covers : (ps : List Spot) → inBranch (chipOf c) (lettersIn (node .letters) p) ps ≡ true → KeepsBoth (node .kx) (node .ky) ps → NotAfter (bestOf b) (placed (chipOf c) ps) ⊎ KeepsBoth (t .kx) (t .ky) ps
+  pub covers : (ps : List Spot) → inBranch (chipOf c) (lettersIn (node .letters) p) ps ≡ true → KeepsBoth (node .kx) (node .ky) ps
+      → NotAfter (bestOf b) (placed (chipOf c) ps) ⊎ KeepsBoth (t .kx) (t .ky) ps
 
 -- ---- what is answered
 
--- r is the fit of a branch with letter i for pair s, of direction d, or no placement where nothing there replaces the best; the branch's bounds in direction d are `before`, the length of its other half is `other`
-pub record ChildOn (c : HeldChip) (p : ℕ) (d : Direction) (tab letters before : List ℕ) (here : HeldRecord) (other s i : ℕ) (t : Slot) (best r : HeldRecord) : Type 0 where
-  pub held : (node : Node) → letters ≡ node .letters → here ≡ node .here → Passed c → NodeOk c p node → Open c p node s → Asks c s i t → wayAt i ≡ d → Tabled d (chipOf c) tab → Arced d (chipOf c) (lettersIn letters p) before
+-- r is the fit of a branch with letter i for pair s, of direction d, or no placement where nothing there replaces the best; the branch's bounds in
+-- direction d are `before`, the length of its other half is `other`
+pub record ChildOn (c : HeldChip) (p : ℕ) (d : Direction) (tab letters before : List ℕ) (here : HeldRecord) (other s i : ℕ) (t : Slot)
+    (best r : HeldRecord) : Type 0 where
+  pub held : (node : Node) → letters ≡ node .letters → here ≡ node .here → Passed c → NodeOk c p node → Open c p node s → Asks c s i t
+      → wayAt i ≡ d → Tabled d (chipOf c) tab → Arced d (chipOf c) (lettersIn letters p) before
       → Beside c (set letters s (byteOf i)) p here d other → ChildHeld c (set letters s (byteOf i)) p best r
 
 -- the same, whatever the letter's direction
@@ -59,9 +65,11 @@ pub record ChildOf (c : HeldChip) (p : ℕ) (tx ty : List ℕ) (node : Node) (s 
   pub held : Passed c → Arrayed c tx ty → NodeOk c p node → Open c p node s → Asks c s i t → ChildHeld c (set (node .letters) s (byteOf i)) p best r
 
 -- r is what is left once letter i is tried, where the letters below i were tried and t was left
-pub record TriedOne (c : HeldChip) (parts : Parts) (p : ℕ) (tx ty : List ℕ) (node : Node) (s : ℕ) (at : Cursor) (i : ℕ) (best : HeldRecord) (t r : Left) : Type 0 where
+pub record TriedOne (c : HeldChip) (parts : Parts) (p : ℕ) (tx ty : List ℕ) (node : Node) (s : ℕ) (at : Cursor) (i : ℕ) (best : HeldRecord)
+    (t r : Left) : Type 0 where
   pub left : Given c parts p tx ty node best → Turn c p node s at → i < 4 → LeftOk c p node s i t best → LeftOk c p node s (i + 1) r best
 
 -- t is what is left once the letters below i are tried
-pub record Tried (c : HeldChip) (parts : Parts) (p : ℕ) (tx ty : List ℕ) (node : Node) (s : ℕ) (at : Cursor) (i : ℕ) (best : HeldRecord) (t : Left) : Type 0 where
+pub record Tried (c : HeldChip) (parts : Parts) (p : ℕ) (tx ty : List ℕ) (node : Node) (s : ℕ) (at : Cursor) (i : ℕ) (best : HeldRecord)
+    (t : Left) : Type 0 where
   pub left : Given c parts p tx ty node best → Turn c p node s at → LeftOk c p node s i t best

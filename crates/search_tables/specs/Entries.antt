@@ -64,7 +64,8 @@ joinedTo s u = cond (s .some) (span true (max (s .most) u) (min (s .least) u)) (
 
 -- entry e, modulo 128, with its node, its greatest and its least place, its net
 unfoldable pub withEntry : List ℕ → ℕ → ℕ → ℕ → ℕ → ℕ → List ℕ
-withEntry tab e node most least net = set (set (set (set tab (e % 128) (node % 65536)) (128 + e % 128) (most % 65536)) (256 + e % 128) (least % 65536)) (384 + e % 128) (net % 65536)
+withEntry tab e node most least net =
+    set (set (set (set tab (e % 128) (node % 65536)) (128 + e % 128) (most % 65536)) (256 + e % 128) (least % 65536)) (384 + e % 128) (net % 65536)
 
 -- the two places of entry x are those of pins of its net on its node
 pub record Backed (p : ℕ → AxisPin) (q : ℕ → ℕ) (tab : List ℕ) (x : ℕ) : Type 0 where

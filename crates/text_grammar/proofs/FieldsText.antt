@@ -8,14 +8,14 @@ use native.Mathlib.Decide.{ℕ-discrete}
 use native.Mathlib.Omega.{arith}
 use lib.Dec.{eqb}
 use lib.IntN.{ℤ}
-use borrow.Author.Tests.{eq-eqb, ne-eqb, eqb-true, not-true}
+use borrow.Author.Tests.{eq-eqb, ne-eqb, eqb-true}
 use Rattle.num_text.specs.Number.{Numeral, noNumber, numeralOf, numberText, allOf}
 use Rattle.num_text.specs.Number as decimal
 use Rattle.num_text.proofs.RoundTrip.{read-text, text-read, text-bytes}
 use Rattle.model.specs.Limits.{Range, isWithin}
 use Rattle.text_grammar.specs.Line.{comma, lineFeed, upTo, from, Sort, numbers, strings, Value, number, string, absent, Valued, value, noValue, isOf, isString, tested, ranged, numbered, valueOf, valueText, Rule, Form, over, one, either, Rest, rest, noMark, strip, Fields, got, faulty, andThen, valued, marked, fields, ifAbsent, fieldText, fieldsText}
 use Rattle.text_grammar.proofs.Lacks.{lacks, and-left, and-right, all-append}
-use Rattle.text_grammar.proofs.Cut.{up-to-from, up-to-lacks, up-to-stop, up-to-clean, from-clean}
+use Rattle.text_grammar.proofs.Cut.{up-to-from, up-to-stop, up-to-clean, from-clean}
 
 -- ---- marks and sets as the reader wants them
 

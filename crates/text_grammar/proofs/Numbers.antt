@@ -3,7 +3,7 @@
 -- length, so the laws go along the definition of reading.
 use Prim.{Unit, tt}
 use Prim.Native.Nat.{ℕ, suc, _+_, _≤_}
-use mathlib.Core.Path.{_≡_, refl, subst}
+use mathlib.Core.Path.{_≡_, refl}
 use mathlib.Core.Bool.{Bool, true, false, _&&_}
 use mathlib.Core.List.{List, [], _∷_}
 use native.Mathlib.Omega.{arith}
@@ -14,7 +14,7 @@ use borrow.Author.Tests.{leb-true}
 use Rattle.num_text.specs.Number.{Numeral, noNumber, numeralOf}
 use Rattle.num_text.specs.Number as decimal
 use Rattle.model.specs.Limits.{Range, isWithin}
-use Rattle.text_grammar.specs.Words.{Found, known, unknown, isIn, wordIn}
+use Rattle.text_grammar.specs.Words.{Found, known, unknown, wordIn}
 use Rattle.text_grammar.specs.Line.{comma, lineFeed, Line, before, cut, lines, upTo, from, Sort, numbers, strings, Value, absent, Valued, value, noValue, isString, tested, ranged, numbered, valueOf, Rule, Form, over, one, either, Rest, rest, noMark, strip, Fields, got, faulty, andThen, valued, marked, fields}
 use Rattle.text_grammar.specs.Reading.{Step, next, fault, check, Reading, accepted, refused, Kind, inPlace, stepFields, stepFound, stepBytes, stepLine, ending, onward, readLines, sized, readText}
 use Rattle.text_grammar.proofs.Lacks.{and-left, and-right}

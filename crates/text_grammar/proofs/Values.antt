@@ -1,15 +1,15 @@
 -- The values of a line that pass their tests are the values of the part that is read from them.
 -- Such a part holds the value of a field that can't be negative as a natural number: `held` writes it back.
 use mathlib.Core.Path.{_≡_, refl, sym, ap, ap₂, _∙_}
-use mathlib.Core.Bool.{Bool, true, false, _&&_}
+use mathlib.Core.Bool.{Bool, true, false}
 use mathlib.Core.List.{List, [], _∷_, _++_}
 use Prim.{Unit, tt}
 use Prim.Native.Nat.{ℕ, suc}
 use lib.IntN.{ℤ, pos, negsuc, natAbs}
 use lib.ListN.{getD}
 use lib.Signed.{leZ}
-use Rattle.model.specs.Limits.{Range, isWithin}
-use Rattle.text_grammar.specs.Line.{Sort, numbers, strings, Value, number, string, absent, value, noValue, isString, tested, ranged, Rule, Form, over, one, either, Fields, got, andThen, valued, ifAbsent}
+use Rattle.model.specs.Limits.{isWithin}
+use Rattle.text_grammar.specs.Line.{Sort, numbers, strings, Value, number, string, absent, value, isString, tested, ranged, Form, over, one, either, got, andThen, valued, ifAbsent}
 use Rattle.text_grammar.specs.Words.{Words, Item, numberIn}
 use Rattle.text_grammar.proofs.Lacks.{and-left, and-right}
 use Rattle.text_grammar.proofs.FieldsText.{suits, judge, shaped, judged, valued-got, and-then-got, no-value, Choice, left-out, taken, choose, suits-here}

@@ -8,7 +8,7 @@ use native.Mathlib.Omega.{arith}
 use lib.Dec.{eqb}
 use borrow.Author.Tests.{eqb-true}
 use Rattle.text_grammar.specs.Line.{comma, lineFeed}
-use Rattle.text_grammar.specs.Words.{same, Words, Found, known, unknown, isWord, isIn, wordIn}
+use Rattle.text_grammar.specs.Words.{same, Words, known, unknown, isWord, isIn, wordIn}
 use Rattle.text_grammar.proofs.Lacks.{lacks, and-left, and-right}
 use Rattle.text_grammar.proofs.FieldsText.{isForm}
 use Rattle.text_grammar.proofs.Every.{Every}

@@ -1,4 +1,5 @@
--- What writing a value leaves in a lent buffer. Document 01: a value is tested first as its text would be, then 15; a refusal writes nothing; bytes past a written text are not touched.
+-- What writing a value leaves in a lent buffer. Document 01: a value is tested first as its text would be, then 15; a refusal writes nothing;
+-- bytes past a written text are not touched.
 use Prim.Native.Nat.{ℕ}
 use mathlib.Core.List.{List, _++_}
 use mathlib.Core.Bool.{Bool, true, false}

@@ -2,13 +2,12 @@
 use mathlib.Core.Path.{_≡_, refl, sym, ap, _∙_}
 use mathlib.Core.Bool.{Bool, true, false, _&&_, not, false≢true}
 use mathlib.Core.List.{List, [], _∷_, map}
-use Prim.Native.Nat.{ℕ, zero, suc, _+_, _≤_, _<_}
-use native.Mathlib.Numerals.{add-one}
+use Prim.Native.Nat.{ℕ, zero, suc, _≤_, _<_}
 use native.Mathlib.Omega.{arith}
 use lib.Dec.{leb, ltb}
-use lib.ListN.{length, getD, take, drop, length-take, length-map, List·getD-map, drop-of-length-le}
+use lib.ListN.{length, getD, take, drop, length-take, length-map, List·getD-map}
 use lib.Seq.{getD-take, drop-cons}
-use borrow.Author.Tests.{leb-true, ltb-true, le-leb, lt-leb, not-true, not-false}
+use borrow.Author.Tests.{leb-true, ltb-true, not-false}
 use Rattle.model.specs.Meaning.{pinUp}
 use Rattle.num_text.specs.Held.{cap}
 use Rattle.text_line.specs.declared.Rule.{Rule as HeldRule}

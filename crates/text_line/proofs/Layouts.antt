@@ -1,8 +1,7 @@
 -- The layouts of lines with no field up to three.
 use mathlib.Core.Path.{_≡_}
-use mathlib.Core.List.{List, [], _∷_}
+use mathlib.Core.List.{[], _∷_}
 use Rattle.text_line.specs.declared.Rule.{Rule as HeldRule}
-use Rattle.text_line.specs.declared.Layout.{Layout}
 use Rattle.text_line.specs.Layout.{noRule, laidOut}
 
 module _ (z : HeldRule) (e : z ≡ noRule) where

@@ -2,23 +2,17 @@
 use mathlib.Core.Path.{_≡_, refl, sym, ap, _∙_}
 use mathlib.Core.Bool.{true}
 use mathlib.Core.List.{List}
-use Prim.Native.Nat.{ℕ, _+_, _-_, _<_, _≤_}
-use lib.ListN.{length, take, drop}
+use Prim.Native.Nat.{ℕ}
 use Rattle.model.specs.declared.Refusal.{Refusal}
-use Rattle.text_grammar.specs.Line.{comma, upTo, Value, Form, Fields, got, faulty, fields}
-use Rattle.text_grammar.specs.Words.{Found, known, unknown, wordIn}
-use Rattle.text_grammar.specs.Reading.{Kind, Step, refused, accepted, fault, stepFields, stepBytes, stepLine, readText}
-use Rattle.text_grammar.specs.Steps.{entryFault, ReadAs, lineEnd, lineAt}
-use Rattle.text_grammar.proofs.OneLine.{fields-got, fields-faulty, step-unknown, step-fails, step-passes}
-use Rattle.text_grammar.proofs.LineAt.{step-open, step-ended}
-use Rattle.text_grammar.proofs.Left.{Left, text-fails, text-goes-on}
-use Rattle.text_line.specs.declared.Fault.{Fault}
+use Rattle.text_grammar.specs.Line.{Form, got, fields}
+use Rattle.text_grammar.specs.Reading.{Kind, stepFields}
+use Rattle.text_grammar.specs.Steps.{ReadAs}
+use Rattle.text_grammar.proofs.OneLine.{fields-got, fields-faulty}
 use Rattle.text_line.specs.declared.Fault.the-variants as line
 use Rattle.text_line.specs.declared.Layout.{Layout}
-use Rattle.text_line.specs.declared.Fields.{Fields as HeldFields}
 use Rattle.text_line.specs.declared.Fields.the-variants as held
 use Rattle.text_line.specs.declared.FieldsRead.{FieldsRead}
-use Rattle.text_line.specs.Layout.{formOf, isLayout, layoutFor, valuesIn, located, readFields, meant, meantFields, FieldsOk}
+use Rattle.text_line.specs.Layout.{formOf, isLayout, layoutFor, valuesIn, located, readFields, meant, FieldsOk}
 use Rattle.text_line.specs.Steps.{LineOk}
 
 -- a form that a layout holds: the layout means it, and is within the limits

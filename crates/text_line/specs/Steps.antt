@@ -46,7 +46,8 @@ within r v = leb (r .least) v && leb v (r .most)
 -- the field with the rule r at a has the value v, and b is the place after it
 pub record Got (text : List ℕ) (a : ℕ) (r : HeldRule) (v b : ℕ) : Type 0 where
   pub place : b ≤ length text
-  pub read : (more : List ℕ → Fields) → marked (strip (markOf r) (drop a text)) (ruleOf r) more (faulty 2) ≡ andThen (number (lowered (r .up) v)) (more (drop b text))
+  pub read : (more : List ℕ → Fields) → marked (strip (markOf r) (drop a text)) (ruleOf r) more (faulty 2)
+      ≡ andThen (number (lowered (r .up) v)) (more (drop b text))
 
 -- the field with the rule r at a is refused by f
 pub record Faulty (text : List ℕ) (a : ℕ) (r : HeldRule) (l : ℕ) (f : Refusal) : Type 0 where
