@@ -2,7 +2,6 @@
 use mathlib.Core.Path.{_≡_, sym}
 use mathlib.Core.Bool.{Bool, true, false, not}
 use mathlib.Core.List.{List}
-use mathlib.Core.Logic.{inl, inr}
 use Prim.Native.Nat.{ℕ, _+_, _*_, _≤_, _<_}
 use native.Mathlib.Omega.{arith}
 use borrow.Author.Count.{below-more}
@@ -16,7 +15,8 @@ use Rattle.axis_graph.specs.declared.Graph.{Graph}
 use Rattle.axis_graph.specs.Limits.{nodeRoom, lowMost}
 use Rattle.axis_graph.specs.Graph.{at, GraphWithin, ValuesWithin, Holds, Tights, Shows, Decides}
 use Rattle.axis_graph.specs.Above.{FirstAbove}
-use Rattle.axis_values.specs.Values.{Kept, Tied, Parent, Rooted, Rests}
+use Rattle.axis_tie.specs.Tied.{Tied}
+use Rattle.axis_values.specs.Values.{Kept, Parent, Rooted, Rests}
 use Rattle.axis_graph.proofs.FirstAbove.{every-fits}
 
 -- ---- values within the limit
@@ -61,13 +61,6 @@ module _ (ss : List Slot) (f x : List ℕ) where
     tights-all m l = shows-yes (record { eq = λ s k. h .eq s (omega arith) })
 
 -- ---- parents
-
-module _ (s : Slot) (k a t h r : ℕ) where
-  pub tied-forward : s .head ≡ k → t < r → Shows true (Tied s k a t h r)
-  tied-forward e l = shows-yes (record { way = inl (e, l) })
-
-  pub tied-back : s .tail ≡ k → h < r → 0 < a → Shows true (Tied s k a t h r)
-  tied-back e l c = shows-yes (record { way = inr (e, l, c) })
 
 module _ (ss : List Slot) (m : ℕ) (f x parents : List ℕ) where
   pub rooted-none : Rooted ss m f x parents 1

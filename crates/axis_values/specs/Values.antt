@@ -1,13 +1,12 @@
 -- What the tests of proposed values show.
 use Prim.Native.Nat.{ℕ, _+_, _≤_, _<_}
-use mathlib.Core.Path.{_≡_}
 use mathlib.Core.List.{List}
-use mathlib.Core.Logic.{_⊎_}
 use Rattle.axis_bounds.specs.declared.Slot.{Slot}
 use Rattle.axis_bounds.specs.Listed.{slotAt, tails, heads}
 use Rattle.axis_graph.specs.declared.Graph.{Graph}
 use Rattle.axis_graph.specs.Limits.{lowMost}
 use Rattle.axis_graph.specs.Graph.{at, TightAt, GraphWithin, Holds, Tights}
+use Rattle.axis_tie.specs.Tied.{Tied}
 
 -- values within the limit that keep all bounds
 pub record Kept (g : Graph) (x : List ℕ) : Type 0 where
@@ -15,10 +14,6 @@ pub record Kept (g : Graph) (x : List ℕ) : Type 0 where
   pub low : (k : ℕ) → at x k ≤ lowMost
 
 -- ---- parents
-
--- slot s, which carries a, leads to k from a node before it; t, h, r: the ranks of its tail, its head and of k
-pub record Tied (s : Slot) (k a t h r : ℕ) : Type 0 where
-  pub way : ((s .head ≡ k) × (t < r)) ⊎ ((s .tail ≡ k) × (h < r) × (0 < a))
 
 -- the parent slot of a node, and its rank
 abbrev pub parentOf : List ℕ → ℕ → ℕ

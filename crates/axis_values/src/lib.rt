@@ -3,7 +3,6 @@
 // The values keep all bounds, every slot that carries is tight, and every node has a parent before it in some order from node 0: by a
 // tight slot forwards, or by one that carries backwards. Where the amounts are a flow too (axis_amounts), the values are the smallest of
 // the least.
-use axis_bounds::Slot;
 use axis_graph::Graph;
 use axis_graph::NODE_ROOM;
 use axis_graph::NODES;
@@ -11,8 +10,9 @@ use axis_graph::PARENTS;
 use axis_graph::SLOT_ROOM;
 use axis_graph::above::first_above;
 use axis_graph::fine::is_fine;
+use axis_tie::is_tied;
 ghost use Rattle.axis_graph.specs.Graph.{GraphWithin, ValuesWithin, Holds, Tights, Shows};
-ghost use Rattle.axis_values.specs.Values.{Kept, Tied, Rooted, Rests};
+ghost use Rattle.axis_values.specs.Values.{Kept, Rooted, Rests};
 
 // The highest value of a proposal.
 const HIGHEST: u64 = 500000;
@@ -71,25 +71,6 @@ fn tight_slots(g: Graph, f: [u64; SLOT_ROOM], x: [u64; NODE_ROOM]) -> bool
         }
     }
     true
-}
-
-// Whether slot s is the parent of node k; a: what it carries; t, h and r: the ranks of its tail, its head and of k.
-fn is_tied(s: Slot, k: usize, a: u64, t: usize, h: usize, r: usize) -> bool
-    ensures { λ b. ⌜ Shows b (Tied s k a t h r) ⌝ }
-{
-    if s.head == k {
-        if t < r {
-            return true;
-        }
-    }
-    if s.tail == k {
-        if h < r {
-            if 0 < a {
-                return true;
-            }
-        }
-    }
-    false
 }
 
 // Whether every node but 0 has a parent.

@@ -1,7 +1,7 @@
 use Rattle.axis_graph.proofs.Answers.{shows-no}
-use Rattle.axis_values.proofs.Tests.{tied-forward, tied-back}
-use Rattle.axis_values.proofs.is_tied.Statement.{statement}
-use Rattle.axis_values.proofs.is_tied.Tie as tie
+use Rattle.axis_tie.proofs.Ties.{tied-forward, tied-back}
+use Rattle.axis_tie.proofs.is_tied.Statement.{statement}
+use Rattle.axis_tie.proofs.is_tied.Tie as tie
 
 returns : tie.Need-returns
 returns c = search tied-forward
