@@ -7,7 +7,7 @@ use mathlib.Core.Logic.{inl, inr}
 use lib.ListN.{length}
 use Rattle.placement.specs.Least.{Best, nothing, found}
 use Rattle.search_branches.specs.Branch.{replaces, pick, better}
-use Rattle.search_branches.proofs.Replaces.{Compared, replaces-transitive, replaces-asymmetric, replaces-total, still-stands}
+use Rattle.search_branches.proofs.Replaces.{OneReplaces, replaces-transitive, replaces-asymmetric, replaces-total, still-stands}
 
 -- nothing, or a placement of n corners
 abbrev pub Sized : ℕ → Best → Type 0
@@ -34,7 +34,7 @@ module _ (n : ℕ) where
   better-commutative (found m qs) nothing p q = refl
   better-commutative (found m qs) (found l ps) p q = by (replaces-total l ps m qs (q ∙ sym p))
     where
-      by : Compared l ps m qs → pick (replaces l ps m qs) (found l ps) (found m qs) ≡ pick (replaces m qs l ps) (found m qs) (found l ps)
+      by : OneReplaces l ps m qs → pick (replaces l ps m qs) (found l ps) (found m qs) ≡ pick (replaces m qs l ps) (found m qs) (found l ps)
       by (inl (e, f)) = rw (e, f)
       by (inr (inl r)) = rw (r, replaces-asymmetric l ps m qs r)
       by (inr (inr r)) = rw (r, replaces-asymmetric m qs l ps r)

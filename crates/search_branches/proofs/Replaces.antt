@@ -56,14 +56,14 @@ module _ (l : ℕ) (ps : List Spot) (m : ℕ) (qs : List Spot) where
   replaces-asymmetric e = not-true-false (replaces m qs l ps) (λ f. true-false (replaces l ps l ps) (replaces-transitive l ps m qs l ps e f) (replaces-irreflexive l ps))
 
   -- equal, or one replaces the other
-  abbrev pub Compared : Type 0
-  Compared = ((l ≡ m) × (ps ≡ qs)) ⊎ ((replaces l ps m qs ≡ true) ⊎ (replaces m qs l ps ≡ true))
+  abbrev pub OneReplaces : Type 0
+  OneReplaces = ((l ≡ m) × (ps ≡ qs)) ⊎ ((replaces l ps m qs ≡ true) ⊎ (replaces m qs l ps ≡ true))
 
   module _ (h : length ps ≡ length qs) where
-    pub replaces-total : Compared
+    pub replaces-total : OneReplaces
     replaces-total = by (decLt l m) (decLt m l) (before-total ps qs h)
       where
-        by : Dec (l < m) → Dec (m < l) → Compared before ps qs → Compared
+        by : Dec (l < m) → Dec (m < l) → Compared before ps qs → OneReplaces
         by (yes p) q r = inr (inl (says-replaces l ps m qs (inl p)))
         by (no n) (yes q) r = inr (inr (says-replaces m qs l ps (inl q)))
         by (no n) (no o) (inl e) = inl (omega arith, e)
@@ -74,7 +74,7 @@ module _ (l : ℕ) (ps : List Spot) (m : ℕ) (qs : List Spot) where
     pub replaces-tie : replaces l ps m qs ≡ false → replaces m qs l ps ≡ false → (l ≡ m) × (ps ≡ qs)
     replaces-tie e f = by replaces-total
       where
-        by : Compared → (l ≡ m) × (ps ≡ qs)
+        by : OneReplaces → (l ≡ m) × (ps ≡ qs)
         by (inl g) = g
         by (inr (inl g)) = absurd (true-false (replaces l ps m qs) g e)
         by (inr (inr g)) = absurd (true-false (replaces m qs l ps) g f)
@@ -84,7 +84,7 @@ module _ (k : ℕ) (os : List Spot) (l : ℕ) (ps : List Spot) (m : ℕ) (qs : L
   pub still-stands : replaces k os l ps ≡ false → replaces l ps m qs ≡ false → replaces k os m qs ≡ false
   still-stands e f = not-true-false (replaces k os m qs) (λ g. by g (replaces-total l ps m qs h))
     where
-      by : replaces k os m qs ≡ true → Compared l ps m qs → ⊥
+      by : replaces k os m qs ≡ true → OneReplaces l ps m qs → ⊥
       by g (inl (p, q)) = true-false (replaces k os l ps) (rw (p, q) g) e
       by g (inr (inl r)) = true-false (replaces l ps m qs) r f
       by g (inr (inr r)) = true-false (replaces k os l ps) (replaces-transitive k os m qs l ps g r) e
