@@ -1,0 +1,74 @@
+use Rattle.text_grammar.proofs.OneLine.{word-end, word-long}
+use Rattle.text_walk.proofs.Walking.{past-words, past-table, word-stops, word-goes-on}
+use borrow.Author.Needs.{needs}
+use Rattle.text_walk.proofs.walk_bytes.Statement.{statement}
+use Rattle.text_walk.proofs.walk_bytes.Tie as tie
+
+bytes-before-requires : tie.Need-bytes-before-requires
+bytes-before-requires c κs = search needs
+
+slice-aggregate-find-word : tie.Need-slice-aggregate-find-word
+slice-aggregate-find-word c = search word-long
+
+find-word-requires : tie.Need-find-word-requires
+find-word-requires c κs = search needs
+
+stopped-requires : tie.Need-stopped-requires
+stopped-requires c κs = search needs
+
+returns : tie.Need-returns
+returns c = search past-words
+
+stopped-requires-2 : tie.Need-stopped-requires-2
+stopped-requires-2 c κs = search needs
+
+returns-2 : tie.Need-returns-2
+returns-2 c = search (needs, past-table)
+
+mul-no : tie.Need-mul-no
+mul-no c = search needs
+
+array-read-no : tie.Need-array-read-no
+array-read-no c = search needs
+
+stopped-requires-3 : tie.Need-stopped-requires-3
+stopped-requires-3 c κs = search needs
+
+returns-3 : tie.Need-returns-3
+returns-3 c = search (needs, word-stops)
+
+sub-walk-fields : tie.Need-sub-walk-fields
+sub-walk-fields c = search word-end
+
+part-walk-fields-start : tie.Need-part-walk-fields-start
+part-walk-fields-start c = search (needs, word-end)
+
+part-walk-fields-end : tie.Need-part-walk-fields-end
+part-walk-fields-end c = search needs
+
+walk-fields-requires : tie.Need-walk-fields-requires
+walk-fields-requires c κs = search needs
+
+returns-4 : tie.Need-returns-4
+returns-4 c = search (needs, word-goes-on)
+
+pub walk-bytes-spec : {M : Type 1} → statement M
+walk-bytes-spec =
+    tie.close
+    (tie.spec
+    bytes-before-requires
+    slice-aggregate-find-word
+    find-word-requires
+    stopped-requires
+    returns
+    stopped-requires-2
+    returns-2
+    mul-no
+    array-read-no
+    stopped-requires-3
+    returns-3
+    sub-walk-fields
+    part-walk-fields-start
+    part-walk-fields-end
+    walk-fields-requires
+    returns-4)

@@ -1,0 +1,88 @@
+-- The walk through a line by a table of words, for any kind of text. A table has the spelling of each word, the layout of its line and, as things stand,
+-- the number of the first test before the fields that a line with the word fails, or 0.
+use Prim.Native.Nat.{ℕ, zero, suc}
+use mathlib.Core.Path.{_≡_}
+use mathlib.Core.Bool.{Bool, true, false}
+use mathlib.Core.List.{List, [], _∷_}
+use lib.Dec.{ltb}
+use lib.ListN.{length, take, getD}
+use Rattle.model.specs.declared.Refusal.{Refusal}
+use Rattle.text_grammar.specs.Line.{Line, comma, upTo, from, Value}
+use Rattle.text_grammar.specs.Words.{same}
+use Rattle.text_grammar.specs.Reading.{Reading, accepted, refused}
+use Rattle.text_grammar.specs.Steps.{lineEnd, lineAt}
+use Rattle.text_line.specs.declared.Spelling.{Spelling}
+use Rattle.text_line.specs.declared.Layout.{Layout}
+use Rattle.text_line.specs.declared.Fault.{Fault}
+use Rattle.text_line.specs.declared.Fault.the-variants as fault
+use Rattle.text_line.specs.Held.{textOf}
+use Rattle.text_line.specs.Layout.{valuesOf, readFields}
+use Rattle.text_line.specs.Steps.{lineOf}
+use Rattle.text_walk.specs.declared.LineWalked.{LineWalked}
+use Rattle.text_walk.specs.declared.NextLine.{NextLine}
+
+-- a line: the number of its word and the values of its fields, or the number of its fault
+pub data Walk : Type 0 where
+  word : ℕ → List Value → Walk
+  stop : ℕ → Walk
+
+-- the layout past the end of a list
+abbrev pub blankLayout : Layout
+blankLayout = record { count = 0; rules = [] }
+
+-- the number of the first spelling that the bytes s are, or how many there are
+unfoldable pub findIn : List Spelling → List ℕ → ℕ
+findIn [] s = 0
+findIn (p ∷ ps) s = elim (same (textOf p) s) [ true ↦ 0 | false ↦ suc (findIn ps s) ]
+
+-- word i with the fields that are read so
+abbrev pub byFields : ℕ → Reading (List Value) → Walk
+byFields i (accepted vs) = word i vs
+byFields i (refused n l) = stop n
+
+-- word i with the layout y, by the bytes after it in line l
+abbrev pub walkFields : Layout → ℕ → ℕ → List ℕ → Walk
+walkFields y i l s = byFields i (readFields (y .count) (y .rules) l s)
+
+-- what follows, where there is no fault
+abbrev pub unlessFault : ℕ → Walk → Walk
+unlessFault zero w = w
+unlessFault (suc n) w = stop (suc n)
+
+-- a word that is known, or fault 2
+abbrev pub ifKnown : Bool → Walk → Walk
+ifKnown true w = w
+ifKnown false w = stop 2
+
+-- word i of n
+abbrev pub walkWord : List Layout → List ℕ → ℕ → ℕ → ℕ → List ℕ → Walk
+walkWord ys fs n l i s = ifKnown (ltb i n) (unlessFault (getD fs i 0) (walkFields (getD ys i blankLayout) i l s))
+
+-- the bytes b of line l, by the first n words of a table
+unfoldable pub walkBytes : List Spelling → List Layout → ℕ → List ℕ → ℕ → List ℕ → Walk
+walkBytes ps ys n fs l b = walkWord ys fs (length (take n ps)) l (findIn (take n ps) (upTo comma b)) (from comma b)
+
+-- line l; a missing LF is fault 2
+abbrev pub walkLine : List Spelling → List Layout → ℕ → List ℕ → ℕ → Line → Walk
+walkLine ps ys n fs l x = ifKnown (x .ended) (walkBytes ps ys n fs l (x .bytes))
+
+-- ---- the program's answer
+
+-- a line with the fault f
+abbrev pub stoppedAt : Refusal → LineWalked
+stoppedAt f = record { fault = fault.Refused f; word = 0; values = 0 ∷ 0 ∷ 0 ∷ 0 ∷ [] }
+
+-- what each case of the answer means
+abbrev pub walkOf : List Layout → Fault → ℕ → List ℕ → Walk
+walkOf ys fault.Clear i vs = word i (valuesOf (getD ys i blankLayout .count) (getD ys i blankLayout .rules) vs)
+walkOf ys (fault.Refused f) i vs = stop (f .no)
+
+-- r is the answer for line l, which is walked so
+pub record WalkOk (ys : List Layout) (l : ℕ) (w : Walk) (r : LineWalked) : Type 0 where
+  pub meant : walkOf ys (r .fault) (r .word) (r .values) ≡ w
+  pub at : lineOf (r .fault) l ≡ l
+
+-- r is the answer for the line that begins at a, as line l
+pub record LineOkAt (text : List ℕ) (a : ℕ) (ps : List Spelling) (ys : List Layout) (n : ℕ) (fs : List ℕ) (l : ℕ) (r : NextLine) : Type 0 where
+  pub ends : r .end ≡ lineEnd text a
+  pub walked : WalkOk ys l (walkLine ps ys n fs l (lineAt text a (lineEnd text a))) (r .line)
