@@ -20,8 +20,7 @@ use Rattle.text_line.specs.declared.Fields.the-variants as held
 use Rattle.text_line.specs.declared.FieldsRead.{FieldsRead}
 use Rattle.text_line.specs.Layout.{formOf, isLayout, located, readFields, FieldsOk}
 use Rattle.text_walk.specs.declared.LineWalked.{LineWalked}
-use Rattle.text_walk.specs.declared.NextLine.{NextLine}
-use Rattle.text_walk.specs.Walk.{Walk, stop, blankLayout, findIn, byFields, unlessFault, walkFields, walkBytes, walkLine, stoppedAt, WalkOk, LineOkAt}
+use Rattle.text_walk.specs.Walk.{Walk, stop, blankLayout, findIn, byFields, unlessFault, walkFields, walkBytes, walkLine, stoppedAt, WalkOk}
 
 -- ---- the fields
 
@@ -54,7 +53,6 @@ faulty-stop zero w z = absurd (z refl)
 faulty-stop (suc m) w z = refl
 
 module _ (ps : List Spelling) (ys : List Layout) (n : ℕ) (fs : List ℕ) (l : ℕ) (bytes : List ℕ) (b : ℕ) (q : b ≡ length (upTo comma bytes)) (i : ℕ) (e : i ≡ findIn (take n ps) (take b bytes)) (x : LineWalked) where
-
   found : findIn (take n ps) (upTo comma bytes) ≡ i
   found = sym (e ∙ rw (q, ← up-to-take comma bytes))
 
@@ -85,15 +83,12 @@ module _ (ps : List Spelling) (ys : List Layout) (n : ℕ) (fs : List ℕ) (l : 
 -- ---- the line
 
 module _ (text : List ℕ) (a : ℕ) (ps : List Spelling) (ys : List Layout) (n : ℕ) (fs : List ℕ) (l z : ℕ) (e : z ≡ lineEnd text a) (x : LineWalked) where
-  pub no-feed : length text ≤ z → x ≡ stoppedAt (record { no = 2; line = l }) → LineOkAt text a ps ys n fs l (record { end = z; line = x })
-  no-feed h g = record { ends = e; walked = rw (g, ← e, le-ltb z (length text) h) (record { meant = refl; at = refl }) }
+  pub no-feed : length text ≤ z → x ≡ stoppedAt (record { no = 2; line = l }) → WalkOk ys l (walkLine ps ys n fs l (lineAt text a (lineEnd text a))) x
+  no-feed h g = rw (g, ← e, le-ltb z (length text) h) (record { meant = refl; at = refl })
 
   module _ (h : z < length text) where
-    from-start : a ≤ z
-    from-start = omega arith
+    pub never-before : z < a → WalkOk ys l (walkLine ps ys n fs l (lineAt text a (lineEnd text a))) x
+    never-before g = absurd (omega arith)
 
-    pub never-before : z < a → LineOkAt text a ps ys n fs l (record { end = z; line = x })
-    never-before g = absurd (let s = from-start in omega arith)
-
-    pub line-walked : WalkOk ys l (walkBytes ps ys n fs l (take (z - a) (drop a text))) x → LineOkAt text a ps ys n fs l (record { end = z; line = x })
-    line-walked t = record { ends = e; walked = rw (← e, lt-ltb z (length text) h) t }
+    pub line-walked : WalkOk ys l (walkBytes ps ys n fs l (take (z - a) (drop a text))) x → WalkOk ys l (walkLine ps ys n fs l (lineAt text a (lineEnd text a))) x
+    line-walked t = rw (← e, lt-ltb z (length text) h) t

@@ -10,7 +10,6 @@ use Rattle.model.specs.declared.Refusal.{Refusal}
 use Rattle.text_grammar.specs.Line.{Line, comma, upTo, from, Value}
 use Rattle.text_grammar.specs.Words.{same}
 use Rattle.text_grammar.specs.Reading.{Reading, accepted, refused}
-use Rattle.text_grammar.specs.Steps.{lineEnd, lineAt}
 use Rattle.text_line.specs.declared.Spelling.{Spelling}
 use Rattle.text_line.specs.declared.Layout.{Layout}
 use Rattle.text_line.specs.declared.Fault.{Fault}
@@ -19,7 +18,6 @@ use Rattle.text_line.specs.Held.{textOf}
 use Rattle.text_line.specs.Layout.{valuesOf, readFields}
 use Rattle.text_line.specs.Steps.{lineOf}
 use Rattle.text_walk.specs.declared.LineWalked.{LineWalked}
-use Rattle.text_walk.specs.declared.NextLine.{NextLine}
 
 -- a line: the number of its word and the values of its fields, or the number of its fault
 pub data Walk : Type 0 where
@@ -81,8 +79,3 @@ walkOf ys (fault.Refused f) i vs = stop (f .no)
 pub record WalkOk (ys : List Layout) (l : ℕ) (w : Walk) (r : LineWalked) : Type 0 where
   pub meant : walkOf ys (r .fault) (r .word) (r .values) ≡ w
   pub at : lineOf (r .fault) l ≡ l
-
--- r is the answer for the line that begins at a, as line l
-pub record LineOkAt (text : List ℕ) (a : ℕ) (ps : List Spelling) (ys : List Layout) (n : ℕ) (fs : List ℕ) (l : ℕ) (r : NextLine) : Type 0 where
-  pub ends : r .end ≡ lineEnd text a
-  pub walked : WalkOk ys l (walkLine ps ys n fs l (lineAt text a (lineEnd text a))) (r .line)

@@ -9,7 +9,7 @@ ghost use mathlib.Core.List.{[], _∷_};
 ghost use lib.ListN.{take, getD};
 ghost use Prim.Native.Nat.{_<_};
 ghost use Rattle.text_grammar.specs.Steps.{lineEnd, lineAt};
-ghost use Rattle.text_walk.specs.Walk.{findIn, blankLayout, walkFields, walkBytes, walkLine, stoppedAt, WalkOk, LineOkAt};
+ghost use Rattle.text_walk.specs.Walk.{findIn, blankLayout, walkFields, walkBytes, walkLine, stoppedAt, WalkOk};
 
 // How many words a kind of text has at most.
 pub const WORDS: usize = 8;
@@ -19,12 +19,6 @@ pub struct LineWalked {
     pub fault: Fault,
     pub word: usize,
     pub values: [u64; 4],
-}
-
-// A line, and where it ends.
-pub struct NextLine {
-    pub end: usize,
-    pub line: LineWalked,
 }
 
 // The number of the first of the first `count` spellings that s is, or how many they are.
@@ -102,7 +96,7 @@ fn walk_bytes(
     walk_fields(&bytes[b..], layouts, i, line)
 }
 
-// The line that begins at a, by the first `count` words of a kind of text: missing LF 2, word 2, the faults of its word, its fields.
+// The line that begins at a, by the first `count` words of a kind of text: missing LF 2, word 2, the fault of its word, its fields.
 pub fn next_line(
     text: &[u8],
     a: usize,
@@ -111,22 +105,15 @@ pub fn next_line(
     count: usize,
     faults: [usize; WORDS],
     line: usize,
-) -> NextLine
-    ensures { λ r. ⌜ LineOkAt (now (text .entry)) a spellings layouts count faults line r ⌝ }
+) -> LineWalked
+    ensures { λ r. ⌜ WalkOk layouts line (walkLine spellings layouts count faults line (lineAt (now (text .entry)) a (lineEnd (now (text .entry)) a))) r ⌝ }
 {
     let end = text_line::line_end(text, a);
     if text.len() <= end {
-        return NextLine {
-            end,
-            line: stopped(Refusal { no: 2, line }),
-        };
+        return stopped(Refusal { no: 2, line });
     }
     if end < a {
-        return NextLine {
-            end,
-            line: stopped(Refusal { no: 2, line }),
-        };
+        return stopped(Refusal { no: 2, line });
     }
-    let walked = walk_bytes(&text[a..end], spellings, layouts, count, faults, line);
-    NextLine { end, line: walked }
+    walk_bytes(&text[a..end], spellings, layouts, count, faults, line)
 }

@@ -1,0 +1,131 @@
+-- The walk by the table of a kind of text is the step of that kind: `line-means`.
+use mathlib.Core.Path.{_≡_, refl, sym, ap, subst, _∙_}
+use mathlib.Core.Bool.{Bool, true, false}
+use mathlib.Core.List.{List, [], _∷_, map}
+use Prim.Native.Nat.{ℕ, zero, suc, _≤_, _<_}
+use native.Mathlib.Decide.{decLt}
+use native.Mathlib.Omega.{arith}
+use lib.Dec.{ltb}
+use lib.ListN.{length, getD, take, length-map}
+use borrow.Author.Tests.{le-ltb, lt-ltb}
+use Rattle.text_grammar.specs.Line.{Line, comma, upTo, from, Value, Form, Fields, got, faulty, fields}
+use Rattle.text_grammar.specs.Words.{same, Words, Found, known, unknown, wordIn}
+use Rattle.text_grammar.specs.Reading.{Kind, Step, fault, check, Reading, stepFields, stepFound, stepBytes, stepLine}
+use Rattle.text_grammar.specs.Steps.{entryFault, Entered, ReadAs}
+use Rattle.text_grammar.proofs.Entry.{foundOr, step-word}
+use Rattle.text_line.specs.declared.Spelling.{Spelling}
+use Rattle.text_line.specs.declared.Layout.{Layout}
+use Rattle.text_line.specs.Held.{textOf, spelled}
+use Rattle.text_line.specs.Layout.{layoutFor, located, readFields}
+use Rattle.text_line.proofs.Find.{spelled-text}
+use Rattle.text_line.proofs.Walk.{Laying}
+use Rattle.text_walk.specs.Walk.{Walk, word, stop, blankLayout, findIn, byFields, unlessFault, ifKnown, walkFields, walkWord, walkBytes, walkLine}
+
+module _ {W S : Type 0} (k : Kind W S) (z : W) where
+  abbrev d : Words W
+  d = k .words
+
+  abbrev pub spellingsOf : List W → List Spelling
+  spellingsOf ws = map (λ w. spelled (d .spell w)) ws
+
+  -- a table of the kind's words
+  pub record TableOf (ps : List Spelling) (ys : List Layout) (n : ℕ) : Type 0 where
+    pub spells : take n ps ≡ spellingsOf (d .all)
+    pub laid : (i : ℕ) → i < length (d .all) → getD ys i blankLayout ≡ layoutFor (d .form (getD (d .all) i z))
+    pub lays : (w : W) → Laying (d .form w)
+
+  -- the faults of the kind's words
+  pub record FaultsOf (s : S) (fs : List ℕ) : Type 0 where
+    pub at : (i : ℕ) → i < length (d .all) → getD fs i 0 ≡ entryFault k s (getD (d .all) i z)
+
+  -- ---- the word
+
+  abbrev foundBy : Bool → W → Found W
+  foundBy true w = known w
+  foundBy false w = unknown
+
+  abbrev foundAt : List W → ℕ → Found W
+  foundAt ws i = foundBy (ltb i (length ws)) (getD ws i z)
+
+  next-at : (w : W) (ws : List W) (i : ℕ) → foundAt ws i ≡ foundAt (w ∷ ws) (suc i)
+  next-at w ws i = by (decLt i (length ws))
+    where
+      by : Dec (i < length ws) → foundAt ws i ≡ foundAt (w ∷ ws) (suc i)
+      by (yes h) = rw (lt-ltb i (length ws) h, lt-ltb (suc i) (suc (length ws)) (omega arith))
+      by (no h) = rw (le-ltb i (length ws) (omega arith), le-ltb (suc i) (suc (length ws)) (omega arith))
+
+  find-word : (ws : List W) (b : List ℕ) → wordIn d ws b ≡ foundAt ws (findIn (spellingsOf ws) b)
+  unfolding wordIn findIn
+  find-word [] b = refl
+  find-word (w ∷ ws) b = by (same (d .spell w) b) refl (find-word ws b)
+    where
+      by : (t : Bool) → same (d .spell w) b ≡ t → wordIn d ws b ≡ foundAt ws (findIn (spellingsOf ws) b) → wordIn d (w ∷ ws) b ≡ foundAt (w ∷ ws) (findIn (spellingsOf (w ∷ ws)) b)
+      by true q ih = rw (spelled-text (d .spell w), q, wordIn, findIn, lt-ltb 0 (suc (length ws)) (omega arith))
+      by false q ih = rw (spelled-text (d .spell w), q, wordIn, findIn) (ih ∙ next-at w ws (findIn (spellingsOf ws) b))
+
+  -- ---- what a walk means
+
+  -- word i with the values vs: it passes the tests before the fields, the values are those of a line, and it adds what the step says
+  pub record WordMeans (s : S) (i : ℕ) (vs : List Value) (step : Step S) : Type 0 where
+    pub inside : i < length (d .all)
+    pub entered : Entered k s (getD (d .all) i z)
+    pub read : ReadAs d (getD (d .all) i z) vs
+    pub adds : k .add s (getD (d .all) i z) vs ≡ step
+
+  abbrev pub Means : S → Walk → Step S → Type 0
+  Means s (word i vs) step = WordMeans s i vs step
+  Means s (stop m) step = fault m ≡ step
+
+  module _ (s : S) (l i : ℕ) (rest : List ℕ) (h : i < length (d .all)) where
+    abbrev w : W
+    w = getD (d .all) i z
+
+    fields-mean : (x : Fields) → fields (d .form w) rest ≡ x → Entered k s w → Means s (byFields i (located l x)) (stepFields k s w x)
+    fields-mean (got vs) q e = record { inside = h; entered = e; read = record { bytes = rest; read = q }; adds = refl }
+    fields-mean (faulty n) q e = refl
+
+    word-means : (m : ℕ) → m ≡ entryFault k s w → Means s (unlessFault m (byFields i (located l (fields (d .form w) rest)))) (foundOr m (stepFields k s w (fields (d .form w) rest)))
+    word-means zero q = fields-mean (fields (d .form w) rest) refl (record { clear = sym q })
+    word-means (suc m) q = refl
+
+  read-is : (y : Layout) (w : W) (l : ℕ) (rest : List ℕ) → y ≡ layoutFor (d .form w) → Laying (d .form w) → readFields (y .count) (y .rules) l rest ≡ located l (fields (d .form w) rest)
+  unfolding readFields
+  read-is y w l rest e g = ap (λ (y : Layout). readFields (y .count) (y .rules) l rest) e ∙ rw (g .fine, g .means, readFields)
+
+  module _ (s : S) (ps : List Spelling) (ys : List Layout) (n : ℕ) (fs : List ℕ) (t : TableOf ps ys n) (f : FaultsOf s fs) (l : ℕ) (b : List ℕ) where
+    abbrev i : ℕ
+    i = findIn (spellingsOf (d .all)) (upTo comma b)
+
+    abbrev here : W
+    here = getD (d .all) i z
+
+    walk-at : walkBytes ps ys n fs l b ≡ walkWord ys fs (length (d .all)) l i (from comma b)
+    unfolding walkBytes
+    walk-at = ap (λ (q : List Spelling). walkWord ys fs (length q) l (findIn q (upTo comma b)) (from comma b)) (t .spells) ∙ rw (length-map (d .all) (λ w. spelled (d .spell w)))
+
+    step-at : stepBytes k s b ≡ stepFound k s (foundAt (d .all) i) (from comma b)
+    unfolding stepBytes
+    step-at = ap (λ (x : Found W). stepFound k s x (from comma b)) (find-word (d .all) (upTo comma b))
+
+    known-means : i < length (d .all) → Means s (walkBytes ps ys n fs l b) (stepBytes k s b)
+    known-means h =
+        rw (walk-at, step-at, lt-ltb i (length (d .all)) h, f .at i h, read-is (getD ys i blankLayout) here l (from comma b) (t .laid i h) (t .lays here), step-word k s here (stepFields k s here (fields (d .form here) (from comma b))))
+        (word-means s l i (from comma b) h (entryFault k s here) refl)
+
+    unknown-means : length (d .all) ≤ i → Means s (walkBytes ps ys n fs l b) (stepBytes k s b)
+    unknown-means h = rw (walk-at, step-at, le-ltb i (length (d .all)) h)
+
+    bytes-mean : Means s (walkBytes ps ys n fs l b) (stepBytes k s b)
+    bytes-mean = by (decLt i (length (d .all)))
+      where
+        by : Dec (i < length (d .all)) → Means s (walkBytes ps ys n fs l b) (stepBytes k s b)
+        by (yes h) = known-means h
+        by (no h) = unknown-means (omega arith)
+
+  module _ (s : S) (ps : List Spelling) (ys : List Layout) (n : ℕ) (fs : List ℕ) (t : TableOf ps ys n) (f : FaultsOf s fs) (l : ℕ) where
+    pub line-means : (x : Line) → Means s (walkLine ps ys n fs l x) (stepLine k s x)
+    line-means x = by (x .ended)
+      where
+        by : (e : Bool) → Means s (ifKnown e (walkBytes ps ys n fs l (x .bytes))) (check e 2 (stepBytes k s (x .bytes)))
+        by true = bytes-mean s ps ys n fs t f l (x .bytes)
+        by false = refl
