@@ -1,20 +1,21 @@
--- What the program's values mean: a word that was looked for, the word of the last line, and what has been read.
+-- What the program's values mean: the word of the last line, and what has been read.
 use Prim.Native.Nat.{ℕ}
-use Rattle.text_grammar.specs.Words.{Found, known, unknown, isIn}
+use mathlib.Core.List.{List, [], map}
+use Rattle.model.specs.Held.{filled}
+use Rattle.text_grammar.specs.Line.{over}
+use Rattle.text_line.specs.declared.Spelling.{Spelling}
+use Rattle.text_line.specs.declared.Layout.{Layout}
+use Rattle.text_line.specs.Held.{spelled}
+use Rattle.text_line.specs.Layout.{layoutFor}
+use Rattle.text_grammar.specs.Words.{isIn}
 use Rattle.text_grammar.specs.Reading.{Last, before, after}
 use Rattle.text_grammar.specs.Steps.{need}
 use Rattle.chip_text.specs.declared.ChipWord.{ChipWord}
-use Rattle.chip_text.specs.Words.{chipWords}
+use Rattle.chip_text.specs.Words.{spell, form, chipWords}
 use Rattle.chip_text.specs.Kind.{Counts, counts, followers, room, pinned}
 use Rattle.chip_words.specs.declared.Counts.{Counts as HeldCounts}
-use Rattle.chip_words.specs.declared.ChipFound.{ChipFound}
-use Rattle.chip_words.specs.declared.ChipFound.the-variants as found
 use Rattle.chip_words.specs.declared.ChipLast.{ChipLast}
 use Rattle.chip_words.specs.declared.ChipLast.the-variants as last
-
-abbrev pub foundOf : ChipFound → Found ChipWord
-foundOf (found.Known w) = known w
-foundOf found.Unknown = unknown
 
 abbrev pub lastOf : ChipLast → Last ChipWord
 lastOf last.Before = before
@@ -29,3 +30,14 @@ chipEntry l c w =
     need (isIn chipWords w (followers l)) 5
     (need (room counts c w) 6
     (need (pinned l w) 7 0))
+
+-- ---- the tables of the walk: all words in their order, then blank ones up to eight
+
+abbrev pub chipSpellings : List Spelling
+chipSpellings = filled 8 (spelled []) (map (λ w. spelled (spell w)) (chipWords .all))
+
+abbrev pub chipLayouts : List Layout
+chipLayouts = filled 8 (layoutFor over) (map (λ w. layoutFor (form w)) (chipWords .all))
+
+abbrev pub chipFaults : Last ChipWord → Counts → List ℕ
+chipFaults l c = filled 8 0 (map (chipEntry l c) (chipWords .all))

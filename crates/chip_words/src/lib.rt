@@ -7,21 +7,20 @@ use model::Net;
 use model::Pin;
 use text_line::Layout;
 use text_line::Spelling;
+use text_walk::WORDS;
 ghost use mathlib.Core.Path.{_≡_};
 ghost use mathlib.Core.List.{[], _∷_};
-ghost use Rattle.text_grammar.specs.Words.{isWord, isIn, wordIn};
+ghost use lib.ListN.{getD};
+ghost use Rattle.text_grammar.specs.Words.{isWord, isIn};
 ghost use Rattle.text_grammar.specs.Reading.{isLast};
 ghost use Rattle.text_line.specs.Held.{spelled};
 ghost use Rattle.text_line.specs.Layout.{shortRule, laidOut, layoutFor};
 ghost use Rattle.chip_text.specs.Words.{spell, form, chipWords};
 ghost use Rattle.chip_text.specs.Kind.{followers, counts, room, pinned};
-ghost use Rattle.chip_words.specs.Meant.{foundOf, lastOf, countsIn, chipEntry};
+ghost use Rattle.chip_words.specs.Meant.{chipSpellings, chipLayouts, chipFaults, lastOf, countsIn, chipEntry};
 
-// The word that some bytes spell, or that there is none.
-pub enum ChipFound {
-    Known(ChipWord),
-    Unknown,
-}
+// How many words chips have.
+pub const COUNT: usize = 6;
 
 // The word of the last line, or that there was none yet.
 pub enum ChipLast {
@@ -80,38 +79,39 @@ pub fn same_word(a: ChipWord, b: ChipWord) -> bool
     text_line::same_spelling(first, p.size, other, q.size)
 }
 
-// The first of the words that s spells.
-fn word_in(s: &[u8], words: [ChipWord; 6]) -> ChipFound
-    ensures { λ r. ⌜ foundOf r ≡ wordIn chipWords words (now (s .entry)) ⌝ }
+// The spellings of all words in their order; blank past the last.
+pub fn spellings() -> [Spelling; WORDS]
+    ensures { λ r. ⌜ r ≡ chipSpellings ⌝ }
 {
-    let mut i: usize = 0;
-    while i < 6 {
-        let w = words[i];
-        let p = spelling_of(w);
-        let bytes = p.bytes;
-        if text_line::spells(bytes, p.size, s) {
-            return ChipFound::Known(w);
-        }
-        i += 1;
-    }
-    ChipFound::Unknown
+    let blank = Spelling {
+        bytes: [0; 5],
+        size: 0,
+    };
+    let die = spelling_of(ChipWord::Die);
+    let fix = spelling_of(ChipWord::Fix);
+    let mac = spelling_of(ChipWord::Mac);
+    let net = spelling_of(ChipWord::Net);
+    let pin = spelling_of(ChipWord::Pin);
+    let end = spelling_of(ChipWord::End);
+    [die, fix, mac, net, pin, end, blank, blank]
 }
 
-// The word that s spells.
-pub fn word_of(s: &[u8]) -> ChipFound
-    ensures { λ r. ⌜ foundOf r ≡ wordIn chipWords (chipWords .all) (now (s .entry)) ⌝ }
+// The word with number i; the first past the last.
+pub fn word_at(i: usize) -> ChipWord
+    ensures { λ r. ⌜ r ≡ getD (chipWords .all) i ChipWord.Die ⌝ }
 {
-    word_in(
-        s,
-        [
-            ChipWord::Die,
-            ChipWord::Fix,
-            ChipWord::Mac,
-            ChipWord::Net,
-            ChipWord::Pin,
-            ChipWord::End,
-        ],
-    )
+    let all = [
+        ChipWord::Die,
+        ChipWord::Fix,
+        ChipWord::Mac,
+        ChipWord::Net,
+        ChipWord::Pin,
+        ChipWord::End,
+    ];
+    if 6 <= i {
+        return ChipWord::Die;
+    }
+    all[i]
 }
 
 // Whether w is among the words.
@@ -272,4 +272,31 @@ pub fn layout_of(w: ChipWord) -> Layout
         ChipWord::Pin => pin_fields(),
         ChipWord::End => text_line::no_fields(),
     }
+}
+
+// The layouts of all words in their order; no field past the last.
+pub fn layouts() -> [Layout; WORDS]
+    ensures { λ r. ⌜ r ≡ chipLayouts ⌝ }
+{
+    let blank = text_line::no_fields();
+    let die = layout_of(ChipWord::Die);
+    let fix = layout_of(ChipWord::Fix);
+    let mac = layout_of(ChipWord::Mac);
+    let net = layout_of(ChipWord::Net);
+    let pin = layout_of(ChipWord::Pin);
+    let end = layout_of(ChipWord::End);
+    [die, fix, mac, net, pin, end, blank, blank]
+}
+
+// The first fault before the fields of a line with each word, or 0, in their order.
+pub fn entry_faults(last: ChipLast, held: Counts) -> [usize; WORDS]
+    ensures { λ r. ⌜ r ≡ chipFaults (lastOf last) (countsIn held) ⌝ }
+{
+    let die = entry_fault(last, held, ChipWord::Die);
+    let fix = entry_fault(last, held, ChipWord::Fix);
+    let mac = entry_fault(last, held, ChipWord::Mac);
+    let net = entry_fault(last, held, ChipWord::Net);
+    let pin = entry_fault(last, held, ChipWord::Pin);
+    let end = entry_fault(last, held, ChipWord::End);
+    [die, fix, mac, net, pin, end, 0, 0]
 }

@@ -6,20 +6,19 @@ use record_text::RecordWord;
 use text_line::Layout;
 use text_line::Rule;
 use text_line::Spelling;
+use text_walk::WORDS;
 ghost use mathlib.Core.Path.{_≡_};
-ghost use Rattle.text_grammar.specs.Words.{isWord, isIn, wordIn};
+ghost use lib.ListN.{getD};
+ghost use Rattle.text_grammar.specs.Words.{isWord, isIn};
 ghost use Rattle.text_grammar.specs.Reading.{isLast};
 ghost use Rattle.text_line.specs.Held.{spelled};
 ghost use Rattle.text_line.specs.Layout.{layoutFor};
 ghost use Rattle.record_text.specs.Words.{spell, form, recordWords};
 ghost use Rattle.record_text.specs.Kind.{followers, room};
-ghost use Rattle.record_words.specs.Meant.{foundOf, lastOf, recordEntry};
+ghost use Rattle.record_words.specs.Meant.{recordSpellings, recordLayouts, recordFaults, lastOf, recordEntry};
 
-// The word that some bytes spell, or that there is none.
-pub enum RecordFound {
-    Known(RecordWord),
-    Unknown,
-}
+// How many words records have.
+pub const COUNT: usize = 4;
 
 // The word of the last line, or that there was none yet.
 pub enum RecordLast {
@@ -62,36 +61,35 @@ pub fn same_word(a: RecordWord, b: RecordWord) -> bool
     text_line::same_spelling(first, p.size, other, q.size)
 }
 
-// The first of the words that s spells.
-fn word_in(s: &[u8], words: [RecordWord; 4]) -> RecordFound
-    ensures { λ r. ⌜ foundOf r ≡ wordIn recordWords words (now (s .entry)) ⌝ }
+// The spellings of all words in their order; blank past the last.
+pub fn spellings() -> [Spelling; WORDS]
+    ensures { λ r. ⌜ r ≡ recordSpellings ⌝ }
 {
-    let mut i: usize = 0;
-    while i < 4 {
-        let w = words[i];
-        let p = spelling_of(w);
-        let bytes = p.bytes;
-        if text_line::spells(bytes, p.size, s) {
-            return RecordFound::Known(w);
-        }
-        i += 1;
-    }
-    RecordFound::Unknown
+    let blank = Spelling {
+        bytes: [0; 5],
+        size: 0,
+    };
+    let least = spelling_of(RecordWord::Least);
+    let none_word = spelling_of(RecordWord::None);
+    let at = spelling_of(RecordWord::At);
+    let done = spelling_of(RecordWord::Done);
+    [least, none_word, at, done, blank, blank, blank, blank]
 }
 
-// The word that s spells.
-pub fn word_of(s: &[u8]) -> RecordFound
-    ensures { λ r. ⌜ foundOf r ≡ wordIn recordWords (recordWords .all) (now (s .entry)) ⌝ }
+// The word with number i; the first past the last.
+pub fn word_at(i: usize) -> RecordWord
+    ensures { λ r. ⌜ r ≡ getD (recordWords .all) i RecordWord.Least ⌝ }
 {
-    word_in(
-        s,
-        [
-            RecordWord::Least,
-            RecordWord::None,
-            RecordWord::At,
-            RecordWord::Done,
-        ],
-    )
+    let all = [
+        RecordWord::Least,
+        RecordWord::None,
+        RecordWord::At,
+        RecordWord::Done,
+    ];
+    if 4 <= i {
+        return RecordWord::Least;
+    }
+    all[i]
 }
 
 // Whether w is among the words.
@@ -189,4 +187,27 @@ pub fn layout_of(w: RecordWord) -> Layout
         RecordWord::At => at_fields(),
         RecordWord::Done => text_line::no_fields(),
     }
+}
+
+// The layouts of all words in their order; no field past the last.
+pub fn layouts() -> [Layout; WORDS]
+    ensures { λ r. ⌜ r ≡ recordLayouts ⌝ }
+{
+    let blank = text_line::no_fields();
+    let least = layout_of(RecordWord::Least);
+    let none_word = layout_of(RecordWord::None);
+    let at = layout_of(RecordWord::At);
+    let done = layout_of(RecordWord::Done);
+    [least, none_word, at, done, blank, blank, blank, blank]
+}
+
+// The first fault before the fields of a line with each word, or 0, in their order.
+pub fn entry_faults(last: RecordLast, count: usize) -> [usize; WORDS]
+    ensures { λ r. ⌜ r ≡ recordFaults (lastOf last) count ⌝ }
+{
+    let least = entry_fault(last, count, RecordWord::Least);
+    let none_word = entry_fault(last, count, RecordWord::None);
+    let at = entry_fault(last, count, RecordWord::At);
+    let done = entry_fault(last, count, RecordWord::Done);
+    [least, none_word, at, done, 0, 0, 0, 0]
 }

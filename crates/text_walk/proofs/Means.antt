@@ -16,10 +16,14 @@ use Rattle.text_grammar.proofs.Entry.{foundOr, step-word}
 use Rattle.text_line.specs.declared.Spelling.{Spelling}
 use Rattle.text_line.specs.declared.Layout.{Layout}
 use Rattle.text_line.specs.Held.{textOf, spelled}
-use Rattle.text_line.specs.Layout.{layoutFor, located, readFields}
+use Rattle.model.specs.declared.Refusal.{Refusal}
+use Rattle.text_line.specs.declared.Fault.the-variants as held
+use Rattle.text_line.specs.Layout.{layoutFor, valuesOf, valuesIn, located, readFields}
+use Rattle.text_line.specs.Steps.{LineOk}
+use Rattle.text_walk.specs.declared.LineWalked.{LineWalked}
 use Rattle.text_line.proofs.Find.{spelled-text}
 use Rattle.text_line.proofs.Walk.{Laying}
-use Rattle.text_walk.specs.Walk.{Walk, word, stop, blankLayout, findIn, byFields, unlessFault, ifKnown, walkFields, walkWord, walkBytes, walkLine}
+use Rattle.text_walk.specs.Walk.{Walk, word, stop, blankLayout, findIn, byFields, unlessFault, ifKnown, walkFields, walkWord, walkBytes, walkLine, walkOf, WalkOk}
 
 module _ {W S : Type 0} (k : Kind W S) (z : W) where
   abbrev d : Words W
@@ -129,3 +133,37 @@ module _ {W S : Type 0} (k : Kind W S) (z : W) where
         by : (e : Bool) → Means s (ifKnown e (walkBytes ps ys n fs l (x .bytes))) (check e 2 (stepBytes k s (x .bytes)))
         by true = bytes-mean s ps ys n fs t f l (x .bytes)
         by false = refl
+
+    -- the answer of the program, r, for the line x
+    module _ (x : Line) (r : LineWalked) (ok : WalkOk ys l (walkLine ps ys n fs l x) r) where
+      meant : Means s (walkOf ys (r .fault) (r .word) (r .values)) (stepLine k s x)
+      meant = subst (λ (w : Walk). Means s w (stepLine k s x)) (sym (ok .meant)) (line-means x)
+
+      pub walked-stops : (f : Refusal) → r .fault ≡ held.Refused f → LineOk (held.Refused f) s l (stepLine k s x)
+      walked-stops f q = record { meant = rw q at meant; at = rw q at (ok .at) }
+
+      -- a line without fault, with the word w
+      module _ (q : r .fault ≡ held.Clear) (w : W) (e : w ≡ getD (d .all) (r .word) z) where
+        abbrev vs : List Value
+        vs = valuesIn (d .form w) (r .values)
+
+        abbrev us : List Value
+        us = valuesOf (getD ys (r .word) blankLayout .count) (getD ys (r .word) blankLayout .rules) (r .values)
+
+        clear : WordMeans s (r .word) us (stepLine k s x)
+        clear = rw q at meant
+
+        laid-out : getD ys (r .word) blankLayout ≡ layoutFor (d .form w)
+        laid-out = t .laid (r .word) (clear .inside) ∙ ap (λ (w : W). layoutFor (d .form w)) (sym e)
+
+        its-values : us ≡ vs
+        its-values = ap (λ (y : Layout). valuesOf (y .count) (y .rules) (r .values)) laid-out
+
+        pub walked-entered : Entered k s w
+        walked-entered = subst (λ (w : W). Entered k s w) (sym e) (clear .entered)
+
+        pub walked-read : ReadAs d w vs
+        walked-read = subst (λ (zs : List Value). ReadAs d w zs) its-values (subst (λ (w : W). ReadAs d w us) (sym e) (clear .read))
+
+        pub walked-adds : k .add s w vs ≡ stepLine k s x
+        walked-adds = subst (λ (zs : List Value). k .add s w zs ≡ stepLine k s x) its-values (subst (λ (w : W). k .add s w us ≡ stepLine k s x) (sym e) (clear .adds))

@@ -1,0 +1,68 @@
+-- The tables of the words of chips, as the walk takes them.
+use mathlib.Core.Path.{_≡_, refl, sym, subst, _∙_}
+use mathlib.Core.List.{List, [], _∷_, map}
+use Prim.Native.Nat.{ℕ, zero, suc, _≤_, _<_}
+use native.Mathlib.Omega.{arith}
+use lib.ListN.{length, getD, take}
+use Rattle.text_grammar.specs.Line.{over}
+use Rattle.text_grammar.specs.Steps.{entryFault}
+use Rattle.text_line.specs.declared.Spelling.{Spelling}
+use Rattle.text_line.specs.declared.Layout.{Layout}
+use Rattle.text_line.specs.Held.{spelled}
+use Rattle.text_line.specs.Layout.{layoutFor}
+use Rattle.text_walk.specs.Walk.{blankLayout}
+use Rattle.text_walk.proofs.Means.{TableOf, FaultsOf}
+use Rattle.chip_text.specs.declared.ChipWord.{ChipWord}
+use Rattle.chip_text.specs.declared.ChipWord.the-variants as word
+use Rattle.chip_text.specs.Words.{spell, form, chipWords}
+use Rattle.chip_text.specs.Kind.{Part, Counts, countsOf, chipKind}
+use Rattle.text_grammar.specs.Reading.{Last}
+use Rattle.chip_words.specs.Meant.{chipEntry, chipSpellings, chipLayouts, chipFaults}
+use Rattle.chip_words.proofs.Words.{laying}
+use Rattle.chip_words.proofs.Entry.{entry-is}
+
+pub all-spelled : (z a b c e f g : Spelling) → z ≡ spelled [] → a ≡ spelled (spell word.Die) → b ≡ spelled (spell word.Fix) → c ≡ spelled (spell word.Mac) → e ≡ spelled (spell word.Net) → f ≡ spelled (spell word.Pin) → g ≡ spelled (spell word.End) → (a ∷ b ∷ c ∷ e ∷ f ∷ g ∷ z ∷ z ∷ []) ≡ chipSpellings
+all-spelled z a b c e f g ez ea eb ec ee ef eg = rw (ez, ea, eb, ec, ee, ef, eg)
+
+pub all-laid : (z a b c e f g : Layout) → z ≡ layoutFor over → a ≡ layoutFor (form word.Die) → b ≡ layoutFor (form word.Fix) → c ≡ layoutFor (form word.Mac) → e ≡ layoutFor (form word.Net) → f ≡ layoutFor (form word.Pin) → g ≡ layoutFor (form word.End) → (a ∷ b ∷ c ∷ e ∷ f ∷ g ∷ z ∷ z ∷ []) ≡ chipLayouts
+all-laid z a b c e f g ez ea eb ec ee ef eg = rw (ez, ea, eb, ec, ee, ef, eg)
+
+pub all-tested : (l : Last ChipWord) (c : Counts) (a b k e f g : ℕ) → a ≡ chipEntry l c word.Die → b ≡ chipEntry l c word.Fix → k ≡ chipEntry l c word.Mac → e ≡ chipEntry l c word.Net → f ≡ chipEntry l c word.Pin → g ≡ chipEntry l c word.End → (a ∷ b ∷ k ∷ e ∷ f ∷ g ∷ 0 ∷ 0 ∷ []) ≡ chipFaults l c
+all-tested l c a b k e f g ea eb ec ee ef eg = rw (ea, eb, ec, ee, ef, eg)
+
+-- past the last word stands the first
+pub past-last : (i : ℕ) → 6 ≤ i → word.Die ≡ getD (chipWords .all) i word.Die
+past-last zero h = absurd (omega arith)
+past-last (suc zero) h = absurd (omega arith)
+past-last (suc (suc zero)) h = absurd (omega arith)
+past-last (suc (suc (suc zero))) h = absurd (omega arith)
+past-last (suc (suc (suc (suc zero)))) h = absurd (omega arith)
+past-last (suc (suc (suc (suc (suc zero))))) h = absurd (omega arith)
+past-last (suc (suc (suc (suc (suc (suc i)))))) h = refl
+
+pub table-of : (ps : List Spelling) (ys : List Layout) → ps ≡ chipSpellings → ys ≡ chipLayouts → TableOf chipKind word.Die ps ys 6
+table-of ps ys e q = rw (e, q) (record { spells = refl; laid = by; lays = laying })
+  where
+    by : (i : ℕ) → i < 6 → getD chipLayouts i blankLayout ≡ layoutFor (form (getD (chipWords .all) i word.Die))
+    by zero h = refl
+    by (suc zero) h = refl
+    by (suc (suc zero)) h = refl
+    by (suc (suc (suc zero))) h = refl
+    by (suc (suc (suc (suc zero)))) h = refl
+    by (suc (suc (suc (suc (suc zero))))) h = refl
+    by (suc (suc (suc (suc (suc (suc i)))))) h = absurd (omega arith)
+
+pub faults-of : (s : Part) (l : Last ChipWord) (c : Counts) → l ≡ s .last → c ≡ countsOf (s .chip) → (fs : List ℕ) → fs ≡ chipFaults l c → FaultsOf chipKind word.Die s fs
+faults-of s l c p q fs e = subst (λ (x : List ℕ). FaultsOf chipKind word.Die s x) (sym (e ∙ same)) (record { at = by })
+  where
+    same : chipFaults l c ≡ chipFaults (s .last) (countsOf (s .chip))
+    same = rw (p, q)
+
+    by : (i : ℕ) → i < 6 → getD (chipFaults (s .last) (countsOf (s .chip))) i 0 ≡ entryFault chipKind s (getD (chipWords .all) i word.Die)
+    by zero h = entry-is s word.Die
+    by (suc zero) h = entry-is s word.Fix
+    by (suc (suc zero)) h = entry-is s word.Mac
+    by (suc (suc (suc zero))) h = entry-is s word.Net
+    by (suc (suc (suc (suc zero)))) h = entry-is s word.Pin
+    by (suc (suc (suc (suc (suc zero))))) h = entry-is s word.End
+    by (suc (suc (suc (suc (suc (suc i)))))) h = absurd (omega arith)
