@@ -1,15 +1,14 @@
 -- What a line has that passes the tests before its fields.
 use mathlib.Core.Path.{_≡_, ap, sym, _∙_}
-use Prim.Native.Nat.{ℕ, _≤_, _<_}
+use Prim.Native.Nat.{_≤_, _<_}
 use borrow.Author.Tests.{ltb-true}
 use Rattle.model.specs.Meaning.{chipOf}
-use Rattle.text_grammar.specs.Steps.{entryFault, Entered}
+use Rattle.text_grammar.specs.Steps.{Entered}
 use Rattle.text_grammar.proofs.Entry.{in-place, has-room}
 use Rattle.chip_text.specs.declared.ChipWord.{ChipWord}
 use Rattle.chip_text.specs.declared.ChipWord.the-variants as word
 use Rattle.chip_text.specs.Kind.{Counts, counts, countsOf, room, chipKind}
-use Rattle.chip_words.specs.Meant.{lastOf, chipEntry}
-use Rattle.chip_words.proofs.Entry.{entry-is}
+use Rattle.chip_words.specs.Meant.{lastOf}
 use Rattle.chip_read.specs.declared.State.{State}
 use Rattle.chip_read.specs.State.{partOf, Sound}
 use Rattle.chip_read.proofs.Follow.{after-net}
@@ -18,9 +17,6 @@ use Rattle.chip_read.proofs.Room.{held-counts}
 module _ (s : State) (sound : Sound s) where
   abbrev held : Counts
   held = record { fixes = s .chip .k; macs = s .chip .n; nets = s .chip .t; pins = s .pins }
-
-  pub held-entry : (w : ChipWord) (n : ℕ) → n ≡ chipEntry (lastOf (s .last)) held w → n ≡ entryFault chipKind (partOf s) w
-  held-entry w n e = e ∙ ap (λ (c : Counts). chipEntry (lastOf (s .last)) c w) (held-counts s sound) ∙ entry-is (partOf s) w
 
   spaced : (w : ChipWord) → Entered chipKind (partOf s) w → room counts held w ≡ room counts (countsOf (chipOf (s .chip))) w
   spaced w e = ap (λ (c : Counts). room counts c w) (held-counts s sound)

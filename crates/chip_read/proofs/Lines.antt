@@ -2,8 +2,8 @@
 use mathlib.Core.Path.{_≡_, refl, sym, ap}
 use mathlib.Core.Bool.{Bool, true, false, not, false≢true}
 use mathlib.Core.List.{List}
-use Prim.Native.Nat.{ℕ, _+_, _-_, _≤_, _<_}
-use lib.ListN.{length, take, drop}
+use Prim.Native.Nat.{ℕ, _+_, _≤_, _<_}
+use lib.ListN.{length}
 use borrow.Author.Tests.{not-true, not-false}
 use Rattle.model.specs.declared.Chip.{Chip as HeldChip}
 use Rattle.model.specs.declared.Refusal.{Refusal}
@@ -11,9 +11,8 @@ use Rattle.model.specs.Meaning.{Chip, chipOf, firstOf, netsOf, taken, blankFix,
 use Rattle.model.specs.Limits.{mostFixes, mostMacs, mostNets, mostPins}
 use Rattle.model.proofs.Holding.{holds-none}
 use Rattle.model.proofs.HeldAgain.{held-again}
-use Rattle.text_grammar.specs.Reading.{Reading, refused, isLast, stepBytes, stepLine, ending}
+use Rattle.text_grammar.specs.Reading.{Reading, refused, isLast, stepLine, ending}
 use Rattle.text_grammar.specs.Steps.{lineEnd, lineAt}
-use Rattle.text_grammar.proofs.LineAt.{step-open, step-ended}
 use Rattle.text_grammar.proofs.Left.{Left, text-left, text-fails, text-goes-on, text-ends}
 use Rattle.chip_text.specs.declared.ChipWord.the-variants as word
 use Rattle.chip_text.specs.Words.{chipWords}
@@ -27,7 +26,7 @@ use Rattle.text_line.specs.declared.Fault.the-variants as held
 use Rattle.chip_read.specs.declared.Taken.{Taken}
 use Rattle.chip_read.specs.declared.ChipAnswer.the-variants as answer
 use Rattle.chip_read.specs.declared.ChipRead.{ChipRead}
-use Rattle.chip_read.specs.State.{Sound, partOf, withFault, TakenOk}
+use Rattle.chip_read.specs.State.{Sound, partOf, TakenOk}
 use Rattle.chip_read.specs.Answer.{blankChip, refusedAt, ReadOk}
 
 pub refuses : (r : ChipRead) (f : Refusal) (read : Reading Chip) → r ≡ refusedAt f → refused (f .no) (f .line) ≡ read → ReadOk read r
@@ -61,22 +60,15 @@ module _ (c : HeldChip) (e : c ≡ blankChip) where
 
 -- ---- a line
 
-module _ (text : List ℕ) (a z : ℕ) (end : z ≡ lineEnd text a) (s : State) (t : Taken) (line : ℕ) where
-  pub no-feed : Sound s → z ≡ length text → t ≡ withFault s (record { no = 2; line = line }) → TakenOk t line (stepLine chipKind (partOf s) (lineAt text a z))
-  no-feed sound q e = rw e (record { ok = record { meant = step-open text a z end chipKind (partOf s) q; at = refl }; sound = sound })
+module _ (text : List ℕ) (a : ℕ) (s : State) (t : Taken) (line : ℕ) (h : a < length text) (left : Left chipKind start text (partOf s) a line) (ok : TakenOk t line (stepLine chipKind (partOf s) (lineAt text a (lineEnd text a)))) where
+  pub line-fails : (f : Refusal) → t .fault ≡ held.Refused f → refused (f .no) (f .line) ≡ readChip text
+  unfolding readChip
+  line-fails f g =
+      let own : f .line ≡ line = rw g at (ok .ok .at) in
+      rw own (ap chipRead (text-fails chipKind start text (partOf s) a line left (lineEnd text a) refl h (f .no) (rw g at (ok .ok .meant))))
 
-  pub has-feed : (z ≡ length text → ⊥) → TakenOk t line (stepBytes chipKind (partOf s) (take (z - a) (drop a text))) → TakenOk t line (stepLine chipKind (partOf s) (lineAt text a z))
-  has-feed q ok = rw (← step-ended text a z end chipKind (partOf s) q) ok
-
-  module _ (h : a < length text) (left : Left chipKind start text (partOf s) a line) (ok : TakenOk t line (stepLine chipKind (partOf s) (lineAt text a z))) where
-    pub line-fails : (f : Refusal) → t .fault ≡ held.Refused f → refused (f .no) (f .line) ≡ readChip text
-    unfolding readChip
-    line-fails f g =
-        let own : f .line ≡ line = rw g at (ok .ok .at) in
-        rw own (ap chipRead (text-fails chipKind start text (partOf s) a line left z end h (f .no) (rw g at (ok .ok .meant))))
-
-    pub line-read : t .fault ≡ held.Clear → Left chipKind start text (partOf (t .state)) (z + 1) (line + 1)
-    line-read g = text-goes-on chipKind start text (partOf s) a line left z end h (partOf (t .state)) (rw g at (ok .ok .meant))
+  pub line-read : (z : ℕ) → z ≡ lineEnd text a → t .fault ≡ held.Clear → Left chipKind start text (partOf (t .state)) (z + 1) (line + 1)
+  line-read z e g = rw e (text-goes-on chipKind start text (partOf s) a line left (lineEnd text a) refl h (partOf (t .state)) (rw g at (ok .ok .meant)))
 
 -- ---- after the last line
 

@@ -1,52 +1,45 @@
--- The step of one line: its word, the tests before the fields, the fields, and what it adds.
+-- The step of one line: what the walk tells of it, and what it adds.
 use mathlib.Core.Path.{_≡_, refl}
 use mathlib.Core.List.{List}
-use Prim.Native.Nat.{ℕ, _-_}
-use lib.ListN.{length, take, drop}
+use Prim.Native.Nat.{ℕ}
+use lib.ListN.{getD}
 use Rattle.model.specs.declared.Refusal.{Refusal}
-use Rattle.text_grammar.specs.Line.{comma, upTo, fields}
-use Rattle.text_grammar.specs.Words.{wordIn}
-use Rattle.text_grammar.specs.Reading.{stepFields, stepBytes}
-use Rattle.text_grammar.specs.Steps.{entryFault, ReadAs}
-use Rattle.text_grammar.proofs.OneLine.{step-unknown, step-fails, step-passes}
+use Rattle.text_grammar.specs.Line.{Line}
+use Rattle.text_grammar.specs.Reading.{stepLine}
+use Rattle.text_grammar.specs.Steps.{Entered, ReadAs}
+use Rattle.text_line.specs.declared.Spelling.{Spelling}
 use Rattle.text_line.specs.declared.Layout.{Layout}
-use Rattle.text_line.specs.declared.FieldsRead.{FieldsRead}
-use Rattle.text_line.specs.declared.Fields.the-variants as held
-use Rattle.text_line.specs.Layout.{layoutFor, FieldsOk}
-use Rattle.text_line.proofs.Walk.{read-as, fields-read, fields-refused}
+use Rattle.text_line.specs.declared.Fault.the-variants as fault
+use Rattle.text_walk.specs.declared.LineWalked.{LineWalked}
+use Rattle.text_walk.specs.Walk.{walkLine, WalkOk}
+use Rattle.text_walk.proofs.Means.{TableOf, FaultsOf, walked-stops, walked-entered, walked-read, walked-adds}
 use Rattle.chip_text.specs.declared.ChipWord.{ChipWord}
-use Rattle.chip_text.specs.Words.{form, chipWords}
+use Rattle.chip_text.specs.declared.ChipWord.the-variants as word
+use Rattle.chip_text.specs.Words.{chipWords}
 use Rattle.chip_text.specs.Kind.{chipKind, add}
-use Rattle.chip_words.specs.declared.ChipFound.{ChipFound}
-use Rattle.chip_words.specs.declared.ChipFound.the-variants as found
-use Rattle.chip_words.specs.Meant.{foundOf}
-use Rattle.chip_words.proofs.Words.{laying}
+use Rattle.chip_words.specs.Meant.{lastOf, chipSpellings, chipLayouts, chipFaults}
+use Rattle.chip_words.proofs.Table.{table-of, faults-of}
 use Rattle.chip_read.specs.declared.State.{State}
 use Rattle.chip_read.specs.declared.Taken.{Taken}
 use Rattle.chip_read.specs.State.{Sound, partOf, chipValues, withFault, TakenOk}
+use Rattle.chip_read.proofs.Room.{held-counts}
 
--- ---- the fields
+module _ (s : State) (sound : Sound s) (ps : List Spelling) (ys : List Layout) (fs : List ℕ) (es : ps ≡ chipSpellings) (el : ys ≡ chipLayouts) (ef : fs ≡ chipFaults (lastOf (s .last)) (record { fixes = s .chip .k; macs = s .chip .n; nets = s .chip .t; pins = s .pins })) (l : ℕ) (x : Line) (w : LineWalked) (ok : WalkOk ys l (walkLine ps ys 6 fs l x) w) (r : Taken) where
+  table : TableOf chipKind word.Die ps ys 6
+  table = table-of ps ys es el
 
-module _ (w : ChipWord) (y : Layout) (e : y ≡ layoutFor (form w)) (l : ℕ) (rest : List ℕ) (f : FieldsRead) (ok : FieldsOk (y .count) (y .rules) l rest f) where
-  pub line-read-as : f .answer ≡ held.Got → ReadAs chipWords w (chipValues w (f .values))
-  line-read-as q = read-as chipKind w (laying w) y e l rest f ok q
+  faults : FaultsOf chipKind word.Die (partOf s) fs
+  faults = faults-of (partOf s) (lastOf (s .last)) _ refl (held-counts s sound) fs ef
 
-  module _ (s : State) (r : Taken) where
-    pub fields-fail : Sound s → (g : Refusal) → f .answer ≡ held.Refused g → r ≡ withFault s g → TakenOk r l (stepFields chipKind (partOf s) w (fields (form w) rest))
-    fields-fail sound g q h = rw h (record { ok = fields-refused chipKind w (laying w) y e l rest f ok (partOf s) g q; sound = sound })
+  pub line-stops : (f : Refusal) → w .fault ≡ fault.Refused f → r ≡ withFault s f → TakenOk r l (stepLine chipKind (partOf s) x)
+  line-stops f q e = rw e (record { ok = walked-stops chipKind word.Die (partOf s) ps ys _ fs table faults l x w ok f q; sound = sound })
 
-    pub line-adds : f .answer ≡ held.Got → TakenOk r l (add (partOf s) w (chipValues w (f .values))) → TakenOk r l (stepFields chipKind (partOf s) w (fields (form w) rest))
-    line-adds q t = rw (← fields-read chipKind w (laying w) y e l rest f ok (partOf s) q) t
+  module _ (q : w .fault ≡ fault.Clear) (v : ChipWord) (e : v ≡ getD (chipWords .all) (w .word) word.Die) where
+    pub line-entered : Entered chipKind (partOf s) v
+    line-entered = walked-entered chipKind word.Die (partOf s) ps ys _ fs table faults l x w ok q v e
 
--- ---- the word and the tests before the fields
+    pub line-read-as : ReadAs chipWords v (chipValues v (w .values))
+    line-read-as = walked-read chipKind word.Die (partOf s) ps ys _ fs table faults l x w ok q v e
 
-module _ (bytes : List ℕ) (b : ℕ) (n : b ≡ length (upTo comma bytes)) (s : State) (x : ChipFound) (i : foundOf x ≡ wordIn chipWords (chipWords .all) (take b bytes)) (r : Taken) (l : ℕ) where
-  pub no-word : Sound s → x ≡ found.Unknown → r ≡ withFault s (record { no = 2; line = l }) → TakenOk r l (stepBytes chipKind (partOf s) bytes)
-  no-word sound q e = rw e (record { ok = record { meant = step-unknown bytes b n chipKind (partOf s) (foundOf x) i (rw q); at = refl }; sound = sound })
-
-  module _ (w : ChipWord) (q : x ≡ found.Known w) (no : ℕ) (tests : no ≡ entryFault chipKind (partOf s) w) where
-    pub entry-fails : Sound s → (no ≡ 0 → ⊥) → r ≡ withFault s (record { no = no; line = l }) → TakenOk r l (stepBytes chipKind (partOf s) bytes)
-    entry-fails sound h e = rw e (record { ok = record { meant = step-fails bytes b n chipKind (partOf s) (foundOf x) i w (rw q) no tests h; at = refl }; sound = sound })
-
-    pub entry-passed : no ≡ 0 → TakenOk r l (stepFields chipKind (partOf s) w (fields (form w) (take (length bytes - b) (drop b bytes)))) → TakenOk r l (stepBytes chipKind (partOf s) bytes)
-    entry-passed z t = rw (← step-passes bytes b n chipKind (partOf s) (foundOf x) i w (rw q) no tests z) t
+    pub line-adds : TakenOk r l (add (partOf s) v (chipValues v (w .values))) → TakenOk r l (stepLine chipKind (partOf s) x)
+    line-adds t = rw (← walked-adds chipKind word.Die (partOf s) ps ys _ fs table faults l x w ok q v e) t

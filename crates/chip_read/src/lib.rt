@@ -1,6 +1,5 @@
 // Reading a chip from its text.
 use chip_text::ChipWord;
-use chip_words::ChipFound;
 use chip_words::ChipLast;
 use chip_words::Counts;
 use model::Chip;
@@ -17,16 +16,14 @@ use model::PinMade;
 use model::Refusal;
 use model::TEXT_MOST;
 use text_line::Fault;
-use text_line::Fields;
 ghost use mathlib.Core.Path.{_≡_};
 ghost use Rattle.model.specs.Limits.{mostBytes};
 ghost use Rattle.model.specs.Meaning.{chipOf};
 ghost use Prim.Native.Nat.{_≤_, _<_};
 ghost use lib.ListN.{length};
-ghost use Rattle.text_grammar.specs.Line.{fields};
-ghost use Rattle.text_grammar.specs.Reading.{stepBytes, stepFields, stepLine, ending};
-ghost use Rattle.text_grammar.specs.Steps.{entryFault, Entered, ReadAs, lineEnd, lineAt};
-ghost use Rattle.chip_text.specs.Words.{form, chipWords};
+ghost use Rattle.text_grammar.specs.Reading.{stepLine, ending};
+ghost use Rattle.text_grammar.specs.Steps.{Entered, ReadAs, lineEnd, lineAt};
+ghost use Rattle.chip_text.specs.Words.{chipWords};
 ghost use Rattle.chip_text.specs.Kind.{addFix, add, chipKind};
 ghost use Rattle.chip_text.specs.Text.{chipRead, readChip};
 ghost use Rattle.chip_read.specs.State.{Sound, partOf, chipValues, withFault, withChip, TakenOk};
@@ -80,21 +77,6 @@ fn blank_chip() -> Chip
             yup: 0,
         }; Pin::COUNT],
     }
-}
-
-// The first fault of a line before its fields: place 5, count 6, net without a pin 7; or 0.
-fn entry_fault(s: State, w: ChipWord) -> usize
-    requires { ⌜ Sound s ⌝ }
-    ensures { λ r. ⌜ r ≡ entryFault chipKind (partOf s) w ⌝ }
-{
-    let last = s.last;
-    let held = Counts {
-        fixes: s.chip.k,
-        macs: s.chip.n,
-        nets: s.chip.t,
-        pins: s.pins,
-    };
-    chip_words::entry_fault(last, held, w)
 }
 
 // A faulty line: what was read before it stays.
@@ -256,49 +238,28 @@ fn add_item(s: State, w: ChipWord, v: [u64; 4], line: usize) -> Taken
     }
 }
 
-// What a line leads to whose word passes the tests before the fields, by the bytes after the word.
-fn take_fields(rest: &[u8], s: State, w: ChipWord, line: usize) -> Taken
+// What the line that begins at a leads to.
+fn next_line(text: &[u8], a: usize, s: State, line: usize) -> Taken
     requires { ⌜ Sound s ⌝ }
-    requires { ⌜ Entered chipKind (partOf s) w ⌝ }
-    ensures { λ r. ⌜ TakenOk r line (stepFields chipKind (partOf s) w (fields (form w) (now (rest .entry)))) ⌝ }
+    ensures { λ r. ⌜ TakenOk r line (stepLine chipKind (partOf s) (lineAt (now (text .entry)) a (lineEnd (now (text .entry)) a))) ⌝ }
 {
-    let layout = chip_words::layout_of(w);
-    let fields = text_line::read_fields(rest, layout, line);
-    let answer = fields.answer;
-    let values = fields.values;
-    match answer {
-        Fields::Got => add_item(s, w, values, line),
-        Fields::Refused(f) => with_fault(s, f),
-    }
-}
-
-// What a line with these bytes leads to, where it has its LF.
-fn take_line(bytes: &[u8], s: State, line: usize) -> Taken
-    requires { ⌜ Sound s ⌝ }
-    ensures { λ r. ⌜ TakenOk r line (stepBytes chipKind (partOf s) (now (bytes .entry))) ⌝ }
-{
-    let b = text_line::bytes_before(bytes, 44);
-    let ChipFound::Known(w) = chip_words::word_of(&bytes[..b]) else {
-        return with_fault(s, Refusal { no: 2, line });
+    let last = s.last;
+    let held = Counts {
+        fixes: s.chip.k,
+        macs: s.chip.n,
+        nets: s.chip.t,
+        pins: s.pins,
     };
-    let no = entry_fault(s, w);
-    if no != 0 {
-        return with_fault(s, Refusal { no, line });
+    let faults = chip_words::entry_faults(last, held);
+    let spellings = chip_words::spellings();
+    let layouts = chip_words::layouts();
+    let walked = text_walk::next_line(text, a, spellings, layouts, chip_words::COUNT, faults, line);
+    let fault = walked.fault;
+    let values = walked.values;
+    match fault {
+        Fault::Clear => add_item(s, chip_words::word_at(walked.word), values, line),
+        Fault::Refused(f) => with_fault(s, f),
     }
-    take_fields(&bytes[b..], s, w, line)
-}
-
-// What the line text[a..e] leads to: missing LF 2.
-fn next_line(text: &[u8], a: usize, e: usize, s: State, line: usize) -> Taken
-    requires { ⌜ Sound s ⌝ }
-    requires { ⌜ a ≤ length (now text) ⌝ }
-    requires { ⌜ e ≡ lineEnd (now text) a ⌝ }
-    ensures { λ r. ⌜ TakenOk r line (stepLine chipKind (partOf s) (lineAt (now (text .entry)) a e)) ⌝ }
-{
-    if e == text.len() {
-        return with_fault(s, Refusal { no: 2, line });
-    }
-    take_line(&text[a..e], s, line)
 }
 
 // A refusal, with a blank chip.
@@ -341,7 +302,7 @@ fn read_lines(text: &[u8]) -> ChipRead
     let mut line: usize = 1;
     while a < text.len() {
         let e = text_line::line_end(text, a);
-        let taken = next_line(text, a, e, s, line);
+        let taken = next_line(text, a, s, line);
         let fault = taken.fault;
         s = taken.state;
         match fault {

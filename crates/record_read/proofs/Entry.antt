@@ -1,5 +1,5 @@
 -- What a line has that passes the tests before its fields.
-use mathlib.Core.Path.{_≡_, refl, sym, ap, _∙_}
+use mathlib.Core.Path.{_≡_, refl, sym, _∙_}
 use mathlib.Core.Bool.{Bool, true, false}
 use mathlib.Core.List.{List}
 use Prim.Native.Nat.{ℕ, _≤_, _<_}
@@ -9,13 +9,11 @@ use Rattle.model.specs.declared.Spot.{Spot}
 use Rattle.model.specs.Meaning.{blankSpot}
 use Rattle.model.proofs.Holding.{holds-all}
 use Rattle.model.proofs.FirstOf.{length-first}
-use Rattle.text_grammar.specs.Steps.{entryFault, Entered}
+use Rattle.text_grammar.specs.Steps.{Entered}
 use Rattle.text_grammar.proofs.Entry.{in-place, has-room}
-use Rattle.record_text.specs.declared.RecordWord.{RecordWord}
 use Rattle.record_text.specs.declared.RecordWord.the-variants as word
 use Rattle.record_text.specs.Kind.{recordKind, spotsOf}
-use Rattle.record_words.specs.Meant.{lastOf, recordEntry}
-use Rattle.record_words.proofs.Entry.{entry-is}
+use Rattle.record_words.specs.Meant.{lastOf}
 use Rattle.record_read.specs.declared.State.{State}
 use Rattle.record_read.specs.State.{resultOf, partOf, Sound}
 use Rattle.record_read.proofs.Follow.{after-least}
@@ -28,9 +26,6 @@ spots-count false wl n ps h z = sym (z refl)
 module _ (s : State) (sound : Sound s) where
   pub count-meant : length (spotsOf (partOf s .result)) ≡ s .count
   count-meant = spots-count (s .found) (s .wl) (s .count) (s .spots) (holds-all (sound .spots)) (sound .blank)
-
-  pub held-entry : (w : RecordWord) (n : ℕ) → n ≡ recordEntry (lastOf (s .last)) (s .count) w → n ≡ entryFault recordKind (partOf s) w
-  held-entry w n e = e ∙ ap (λ (k : ℕ). recordEntry (lastOf (s .last)) k w) (sym count-meant) ∙ entry-is (partOf s) w
 
   module _ (entered : Entered recordKind (partOf s) word.At) where
     pub at-fits : s .count < 8

@@ -2,8 +2,8 @@
 use mathlib.Core.Path.{_≡_, refl, sym, ap, ap₂, subst}
 use mathlib.Core.Bool.{Bool, true, false, not, false≢true}
 use mathlib.Core.List.{List}
-use Prim.Native.Nat.{ℕ, _+_, _-_, _≤_, _<_}
-use lib.ListN.{length, take, drop, replicate}
+use Prim.Native.Nat.{ℕ, _+_, _≤_, _<_}
+use lib.ListN.{length, replicate}
 use borrow.Author.Tests.{not-true, not-false}
 use Rattle.model.specs.declared.Spot.{Spot}
 use Rattle.model.specs.declared.Outcome.the-variants as outcome
@@ -14,9 +14,8 @@ use Rattle.model.specs.Limits.{mostMacs}
 use Rattle.model.specs.Held.{filled}
 use Rattle.model.proofs.FirstOf.{length-first}
 use Rattle.model.proofs.Holding.{holds-all, holds-none, filled-again}
-use Rattle.text_grammar.specs.Reading.{Reading, refused, isLast, stepBytes, stepLine, ending}
+use Rattle.text_grammar.specs.Reading.{Reading, refused, isLast, stepLine, ending}
 use Rattle.text_grammar.specs.Steps.{lineEnd, lineAt}
-use Rattle.text_grammar.proofs.LineAt.{step-open, step-ended}
 use Rattle.text_grammar.proofs.Left.{Left, text-fails, text-goes-on, text-ends}
 use Rattle.record_text.specs.declared.RecordWord.the-variants as word
 use Rattle.record_text.specs.Words.{recordWords}
@@ -29,7 +28,7 @@ use Rattle.text_line.specs.declared.Fault.the-variants as held
 use Rattle.record_read.specs.declared.Taken.{Taken}
 use Rattle.record_read.specs.declared.RecordAnswer.the-variants as answer
 use Rattle.record_read.specs.declared.RecordRead.{RecordRead}
-use Rattle.record_read.specs.State.{Sound, partOf, withFault, TakenOk, RecordIs}
+use Rattle.record_read.specs.State.{Sound, partOf, TakenOk, RecordIs}
 use Rattle.record_read.specs.Answer.{refusedAt, ReadOk}
 
 pub refuses : (r : RecordRead) (f : Refusal) (read : Reading Record) → r ≡ refusedAt f → refused (f .no) (f .line) ≡ read → ReadOk read r
@@ -43,22 +42,15 @@ module _ (ps : List Spot) (e : ps ≡ replicate 8 blankSpot) where
 
 -- ---- a line
 
-module _ (text : List ℕ) (a z : ℕ) (end : z ≡ lineEnd text a) (s : State) (t : Taken) (line : ℕ) where
-  pub no-feed : Sound s → z ≡ length text → t ≡ withFault s (record { no = 2; line = line }) → TakenOk t line (stepLine recordKind (partOf s) (lineAt text a z))
-  no-feed sound q e = rw e (record { ok = record { meant = step-open text a z end recordKind (partOf s) q; at = refl }; sound = sound })
+module _ (text : List ℕ) (a : ℕ) (s : State) (t : Taken) (line : ℕ) (h : a < length text) (left : Left recordKind start text (partOf s) a line) (ok : TakenOk t line (stepLine recordKind (partOf s) (lineAt text a (lineEnd text a)))) where
+  pub line-fails : (f : Refusal) → t .fault ≡ held.Refused f → refused (f .no) (f .line) ≡ readRecord text
+  unfolding readRecord
+  line-fails f g =
+      let own : f .line ≡ line = rw g at (ok .ok .at) in
+      rw own (ap recordRead (text-fails recordKind start text (partOf s) a line left (lineEnd text a) refl h (f .no) (rw g at (ok .ok .meant))))
 
-  pub has-feed : (z ≡ length text → ⊥) → TakenOk t line (stepBytes recordKind (partOf s) (take (z - a) (drop a text))) → TakenOk t line (stepLine recordKind (partOf s) (lineAt text a z))
-  has-feed q ok = rw (← step-ended text a z end recordKind (partOf s) q) ok
-
-  module _ (h : a < length text) (left : Left recordKind start text (partOf s) a line) (ok : TakenOk t line (stepLine recordKind (partOf s) (lineAt text a z))) where
-    pub line-fails : (f : Refusal) → t .fault ≡ held.Refused f → refused (f .no) (f .line) ≡ readRecord text
-    unfolding readRecord
-    line-fails f g =
-        let own : f .line ≡ line = rw g at (ok .ok .at) in
-        rw own (ap recordRead (text-fails recordKind start text (partOf s) a line left z end h (f .no) (rw g at (ok .ok .meant))))
-
-    pub line-read : t .fault ≡ held.Clear → Left recordKind start text (partOf (t .state)) (z + 1) (line + 1)
-    line-read g = text-goes-on recordKind start text (partOf s) a line left z end h (partOf (t .state)) (rw g at (ok .ok .meant))
+  pub line-read : (z : ℕ) → z ≡ lineEnd text a → t .fault ≡ held.Clear → Left recordKind start text (partOf (t .state)) (z + 1) (line + 1)
+  line-read z e g = rw e (text-goes-on recordKind start text (partOf s) a line left (lineEnd text a) refl h (partOf (t .state)) (rw g at (ok .ok .meant)))
 
 -- ---- after the last line
 

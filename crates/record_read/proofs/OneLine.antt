@@ -1,52 +1,46 @@
--- The step of one line: its word, the tests before the fields, the fields, and what it adds.
+-- The step of one line: what the walk tells of it, and what it adds.
 use mathlib.Core.Path.{_≡_, refl}
 use mathlib.Core.List.{List}
-use Prim.Native.Nat.{ℕ, _-_}
-use lib.ListN.{length, take, drop}
+use Prim.Native.Nat.{ℕ}
+use lib.ListN.{getD}
 use Rattle.model.specs.declared.Refusal.{Refusal}
-use Rattle.text_grammar.specs.Line.{comma, upTo, fields}
-use Rattle.text_grammar.specs.Words.{wordIn}
-use Rattle.text_grammar.specs.Reading.{stepFields, stepBytes}
-use Rattle.text_grammar.specs.Steps.{entryFault, ReadAs}
-use Rattle.text_grammar.proofs.OneLine.{step-unknown, step-fails, step-passes}
+use Rattle.text_grammar.specs.Line.{Line}
+use Rattle.text_grammar.specs.Reading.{stepLine}
+use Rattle.text_grammar.specs.Steps.{Entered, ReadAs}
+use Rattle.text_line.specs.declared.Spelling.{Spelling}
 use Rattle.text_line.specs.declared.Layout.{Layout}
-use Rattle.text_line.specs.declared.FieldsRead.{FieldsRead}
-use Rattle.text_line.specs.declared.Fields.the-variants as held
-use Rattle.text_line.specs.Layout.{layoutFor, FieldsOk}
-use Rattle.text_line.proofs.Walk.{read-as, fields-read, fields-refused}
+use Rattle.text_line.specs.declared.Fault.the-variants as fault
+use Rattle.text_walk.specs.declared.LineWalked.{LineWalked}
+use Rattle.text_walk.specs.Walk.{walkLine, WalkOk}
+use Rattle.text_walk.proofs.Means.{TableOf, FaultsOf, walked-stops, walked-entered, walked-read, walked-adds}
 use Rattle.record_text.specs.declared.RecordWord.{RecordWord}
-use Rattle.record_text.specs.Words.{form, recordWords}
+use Rattle.record_text.specs.declared.RecordWord.the-variants as word
+use Rattle.record_text.specs.Words.{recordWords}
 use Rattle.record_text.specs.Kind.{recordKind, add}
-use Rattle.record_words.specs.declared.RecordFound.{RecordFound}
-use Rattle.record_words.specs.declared.RecordFound.the-variants as found
-use Rattle.record_words.specs.Meant.{foundOf}
-use Rattle.record_words.proofs.Words.{laying}
+use Rattle.record_words.specs.Meant.{lastOf, recordSpellings, recordLayouts, recordFaults}
+use Rattle.record_words.proofs.Table.{table-of, faults-of}
 use Rattle.record_read.specs.declared.State.{State}
 use Rattle.record_read.specs.declared.Taken.{Taken}
 use Rattle.record_read.specs.State.{Sound, partOf, recordValues, withFault, TakenOk}
+use Rattle.record_read.proofs.Entry.{count-meant}
+use mathlib.Core.Path.{sym}
 
--- ---- the fields
+module _ (s : State) (sound : Sound s) (ps : List Spelling) (ys : List Layout) (fs : List ℕ) (es : ps ≡ recordSpellings) (el : ys ≡ recordLayouts) (ef : fs ≡ recordFaults (lastOf (s .last)) (s .count)) (l : ℕ) (x : Line) (w : LineWalked) (ok : WalkOk ys l (walkLine ps ys 4 fs l x) w) (r : Taken) where
+  table : TableOf recordKind word.Least ps ys 4
+  table = table-of ps ys es el
 
-module _ (w : RecordWord) (y : Layout) (e : y ≡ layoutFor (form w)) (l : ℕ) (rest : List ℕ) (f : FieldsRead) (ok : FieldsOk (y .count) (y .rules) l rest f) where
-  pub line-read-as : f .answer ≡ held.Got → ReadAs recordWords w (recordValues w (f .values))
-  line-read-as q = read-as recordKind w (laying w) y e l rest f ok q
+  faults : FaultsOf recordKind word.Least (partOf s) fs
+  faults = faults-of (partOf s) (lastOf (s .last)) _ refl (sym (count-meant s sound)) fs ef
 
-  module _ (s : State) (r : Taken) where
-    pub fields-fail : Sound s → (g : Refusal) → f .answer ≡ held.Refused g → r ≡ withFault s g → TakenOk r l (stepFields recordKind (partOf s) w (fields (form w) rest))
-    fields-fail sound g q h = rw h (record { ok = fields-refused recordKind w (laying w) y e l rest f ok (partOf s) g q; sound = sound })
+  pub line-stops : (f : Refusal) → w .fault ≡ fault.Refused f → r ≡ withFault s f → TakenOk r l (stepLine recordKind (partOf s) x)
+  line-stops f q e = rw e (record { ok = walked-stops recordKind word.Least (partOf s) ps ys _ fs table faults l x w ok f q; sound = sound })
 
-    pub line-adds : f .answer ≡ held.Got → TakenOk r l (add (partOf s) w (recordValues w (f .values))) → TakenOk r l (stepFields recordKind (partOf s) w (fields (form w) rest))
-    line-adds q t = rw (← fields-read recordKind w (laying w) y e l rest f ok (partOf s) q) t
+  module _ (q : w .fault ≡ fault.Clear) (v : RecordWord) (e : v ≡ getD (recordWords .all) (w .word) word.Least) where
+    pub line-entered : Entered recordKind (partOf s) v
+    line-entered = walked-entered recordKind word.Least (partOf s) ps ys _ fs table faults l x w ok q v e
 
--- ---- the word and the tests before the fields
+    pub line-read-as : ReadAs recordWords v (recordValues v (w .values))
+    line-read-as = walked-read recordKind word.Least (partOf s) ps ys _ fs table faults l x w ok q v e
 
-module _ (bytes : List ℕ) (b : ℕ) (n : b ≡ length (upTo comma bytes)) (s : State) (x : RecordFound) (i : foundOf x ≡ wordIn recordWords (recordWords .all) (take b bytes)) (r : Taken) (l : ℕ) where
-  pub no-word : Sound s → x ≡ found.Unknown → r ≡ withFault s (record { no = 2; line = l }) → TakenOk r l (stepBytes recordKind (partOf s) bytes)
-  no-word sound q e = rw e (record { ok = record { meant = step-unknown bytes b n recordKind (partOf s) (foundOf x) i (rw q); at = refl }; sound = sound })
-
-  module _ (w : RecordWord) (q : x ≡ found.Known w) (no : ℕ) (tests : no ≡ entryFault recordKind (partOf s) w) where
-    pub entry-fails : Sound s → (no ≡ 0 → ⊥) → r ≡ withFault s (record { no = no; line = l }) → TakenOk r l (stepBytes recordKind (partOf s) bytes)
-    entry-fails sound h e = rw e (record { ok = record { meant = step-fails bytes b n recordKind (partOf s) (foundOf x) i w (rw q) no tests h; at = refl }; sound = sound })
-
-    pub entry-passed : no ≡ 0 → TakenOk r l (stepFields recordKind (partOf s) w (fields (form w) (take (length bytes - b) (drop b bytes)))) → TakenOk r l (stepBytes recordKind (partOf s) bytes)
-    entry-passed z t = rw (← step-passes bytes b n recordKind (partOf s) (foundOf x) i w (rw q) no tests z) t
+    pub line-adds : TakenOk r l (add (partOf s) v (recordValues v (w .values))) → TakenOk r l (stepLine recordKind (partOf s) x)
+    line-adds t = rw (← walked-adds recordKind word.Least (partOf s) ps ys _ fs table faults l x w ok q v e) t

@@ -7,19 +7,16 @@ use model::Spot;
 use model::SpotMade;
 use model::TEXT_MOST;
 use record_text::RecordWord;
-use record_words::RecordFound;
 use record_words::RecordLast;
 use text_line::Fault;
-use text_line::Fields;
 ghost use mathlib.Core.Path.{_≡_};
 ghost use Prim.Native.Nat.{_≤_, _<_};
 ghost use lib.ListN.{length, replicate};
 ghost use Rattle.model.specs.Limits.{mostBytes, mostMacs};
 ghost use Rattle.model.specs.Meaning.{blankSpot};
-ghost use Rattle.text_grammar.specs.Line.{fields};
-ghost use Rattle.text_grammar.specs.Reading.{stepBytes, stepFields, stepLine, ending};
-ghost use Rattle.text_grammar.specs.Steps.{entryFault, Entered, ReadAs, lineEnd, lineAt};
-ghost use Rattle.record_text.specs.Words.{form, recordWords};
+ghost use Rattle.text_grammar.specs.Reading.{stepLine, ending};
+ghost use Rattle.text_grammar.specs.Steps.{Entered, ReadAs, lineEnd, lineAt};
+ghost use Rattle.record_text.specs.Words.{recordWords};
 ghost use Rattle.record_text.specs.Kind.{add, recordKind};
 ghost use Rattle.record_text.specs.Text.{recordRead, readRecord};
 ghost use Rattle.record_read.specs.State.{Sound, partOf, recordValues, withFault, TakenOk, RecordIs};
@@ -57,15 +54,6 @@ fn blank_spots() -> [Spot; Mac::COUNT]
     ensures { λ r. ⌜ r ≡ replicate mostMacs blankSpot ⌝ }
 {
     [Spot { x: 0, y: 0 }; Mac::COUNT]
-}
-
-// The first fault of a line before its fields: place 5, count 6; or 0.
-fn entry_fault(s: State, w: RecordWord) -> usize
-    requires { ⌜ Sound s ⌝ }
-    ensures { λ r. ⌜ r ≡ entryFault recordKind (partOf s) w ⌝ }
-{
-    let last = s.last;
-    record_words::entry_fault(last, s.count, w)
 }
 
 // A faulty line: what was read before it stays.
@@ -176,49 +164,30 @@ fn add_item(s: State, w: RecordWord, v: [u64; 4], line: usize) -> Taken
     }
 }
 
-// What a line leads to whose word passes the tests before the fields, by the bytes after the word.
-fn take_fields(rest: &[u8], s: State, w: RecordWord, line: usize) -> Taken
+// What the line that begins at a leads to.
+fn next_line(text: &[u8], a: usize, s: State, line: usize) -> Taken
     requires { ⌜ Sound s ⌝ }
-    requires { ⌜ Entered recordKind (partOf s) w ⌝ }
-    ensures { λ r. ⌜ TakenOk r line (stepFields recordKind (partOf s) w (fields (form w) (now (rest .entry)))) ⌝ }
+    ensures { λ r. ⌜ TakenOk r line (stepLine recordKind (partOf s) (lineAt (now (text .entry)) a (lineEnd (now (text .entry)) a))) ⌝ }
 {
-    let layout = record_words::layout_of(w);
-    let fields = text_line::read_fields(rest, layout, line);
-    let answer = fields.answer;
-    let values = fields.values;
-    match answer {
-        Fields::Got => add_item(s, w, values, line),
-        Fields::Refused(f) => with_fault(s, f),
+    let last = s.last;
+    let faults = record_words::entry_faults(last, s.count);
+    let spellings = record_words::spellings();
+    let layouts = record_words::layouts();
+    let walked = text_walk::next_line(
+        text,
+        a,
+        spellings,
+        layouts,
+        record_words::COUNT,
+        faults,
+        line,
+    );
+    let fault = walked.fault;
+    let values = walked.values;
+    match fault {
+        Fault::Clear => add_item(s, record_words::word_at(walked.word), values, line),
+        Fault::Refused(f) => with_fault(s, f),
     }
-}
-
-// What a line with these bytes leads to, where it has its LF.
-fn take_line(bytes: &[u8], s: State, line: usize) -> Taken
-    requires { ⌜ Sound s ⌝ }
-    ensures { λ r. ⌜ TakenOk r line (stepBytes recordKind (partOf s) (now (bytes .entry))) ⌝ }
-{
-    let b = text_line::bytes_before(bytes, 44);
-    let RecordFound::Known(w) = record_words::word_of(&bytes[..b]) else {
-        return with_fault(s, Refusal { no: 2, line });
-    };
-    let no = entry_fault(s, w);
-    if no != 0 {
-        return with_fault(s, Refusal { no, line });
-    }
-    take_fields(&bytes[b..], s, w, line)
-}
-
-// What the line text[a..e] leads to: missing LF 2.
-fn next_line(text: &[u8], a: usize, e: usize, s: State, line: usize) -> Taken
-    requires { ⌜ Sound s ⌝ }
-    requires { ⌜ a ≤ length (now text) ⌝ }
-    requires { ⌜ e ≡ lineEnd (now text) a ⌝ }
-    ensures { λ r. ⌜ TakenOk r line (stepLine recordKind (partOf s) (lineAt (now (text .entry)) a e)) ⌝ }
-{
-    if e == text.len() {
-        return with_fault(s, Refusal { no: 2, line });
-    }
-    take_line(&text[a..e], s, line)
 }
 
 // A refusal, with a blank record.
@@ -285,7 +254,7 @@ fn read_lines(text: &[u8]) -> RecordRead
     let mut line: usize = 1;
     while a < text.len() {
         let e = text_line::line_end(text, a);
-        let taken = next_line(text, a, e, s, line);
+        let taken = next_line(text, a, s, line);
         let fault = taken.fault;
         s = taken.state;
         match fault {

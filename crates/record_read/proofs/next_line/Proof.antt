@@ -1,37 +1,53 @@
-use Rattle.record_read.proofs.Lines.{no-feed, has-feed}
+use Rattle.record_read.proofs.OneLine.{line-stops, line-entered, line-read-as, line-adds}
 use borrow.Author.Needs.{needs}
 use Rattle.record_read.proofs.next_line.Statement.{statement}
 use Rattle.record_read.proofs.next_line.Tie as tie
+
+entry-faults-requires : tie.Need-entry-faults-requires
+entry-faults-requires c κs = search needs
+
+spellings-requires : tie.Need-spellings-requires
+spellings-requires c κs = search needs
+
+layouts-requires : tie.Need-layouts-requires
+layouts-requires c κs = search needs
+
+next-line-requires : tie.Need-next-line-requires
+next-line-requires c κs = search needs
+
+enum-told : tie.Need-enum-told
+enum-told c = search needs
+
+word-at-requires : tie.Need-word-at-requires
+word-at-requires c κs = search needs
+
+add-item-requires : tie.Need-add-item-requires
+add-item-requires c κs = (search needs, (search line-read-as, search line-entered))
+
+enum-known-fault : tie.Need-enum-known-fault
+enum-known-fault c = search needs
 
 with-fault-requires : tie.Need-with-fault-requires
 with-fault-requires c κs = search needs
 
 returns : tie.Need-returns
-returns c = search no-feed
-
-sub-take-line : tie.Need-sub-take-line
-sub-take-line c = search needs
-
-part-take-line-start : tie.Need-part-take-line-start
-part-take-line-start c = search needs
-
-part-take-line-end : tie.Need-part-take-line-end
-part-take-line-end c = search needs
-
-take-line-requires : tie.Need-take-line-requires
-take-line-requires c κs = search needs
+returns c = search line-adds
 
 returns-2 : tie.Need-returns-2
-returns-2 c = search has-feed
+returns-2 c = search line-stops
 
 pub next-line-spec : {M : Type 1} → statement M
 next-line-spec =
     tie.close
     (tie.spec
+    entry-faults-requires
+    spellings-requires
+    layouts-requires
+    next-line-requires
+    enum-told
+    word-at-requires
+    add-item-requires
+    enum-known-fault
     with-fault-requires
     returns
-    sub-take-line
-    part-take-line-start
-    part-take-line-end
-    take-line-requires
     returns-2)
