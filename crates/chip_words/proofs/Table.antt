@@ -1,9 +1,9 @@
 -- The tables of the words of chips, as the walk takes them.
 use mathlib.Core.Path.{_≡_, refl, sym, subst, _∙_}
-use mathlib.Core.List.{List, [], _∷_, map}
+use mathlib.Core.List.{List, [], _∷_}
 use Prim.Native.Nat.{ℕ, zero, suc, _≤_, _<_}
 use native.Mathlib.Omega.{arith}
-use lib.ListN.{length, getD, take}
+use lib.ListN.{getD}
 use Rattle.text_grammar.specs.Line.{over}
 use Rattle.text_grammar.specs.Steps.{entryFault}
 use Rattle.text_line.specs.declared.Spelling.{Spelling}

@@ -6,7 +6,7 @@ use Rattle.text_line.specs.declared.Rule.{Rule}
 use Rattle.text_line.specs.declared.Layout.{Layout}
 use Rattle.text_line.specs.Held.{spelled}
 use Rattle.text_line.specs.Layout.{chain, allSane, isLayout, formOf, shortRule, laidOut, layoutFor}
-use Rattle.text_line.proofs.Walk.{Laying}
+use Rattle.text_line.proofs.Layouts.{Laying}
 use Rattle.text_grammar.specs.Words.{isWord, isIn}
 use Rattle.text_grammar.specs.Reading.{isLast, before, after}
 use Rattle.chip_text.specs.declared.ChipWord.{ChipWord}

@@ -5,7 +5,7 @@ use mathlib.Core.List.{List, [], _∷_}
 use Rattle.text_line.specs.declared.Layout.{Layout}
 use Rattle.text_line.specs.Held.{spelled}
 use Rattle.text_line.specs.Layout.{chain, allSane, isLayout, formOf, layoutFor}
-use Rattle.text_line.proofs.Walk.{Laying}
+use Rattle.text_line.proofs.Layouts.{Laying}
 use Rattle.text_grammar.specs.Words.{isWord, isIn}
 use Rattle.text_grammar.specs.Reading.{isLast, before, after}
 use Rattle.record_text.specs.declared.RecordWord.{RecordWord}

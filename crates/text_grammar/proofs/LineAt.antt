@@ -10,7 +10,6 @@ use mir.Syntax.{w64}
 use mir.Val.{Fits}
 use borrow.Author.Tests.{le-ltb, lt-ltb}
 use Rattle.text_grammar.specs.Line.{lineFeed, lines, upTo}
-use Rattle.text_grammar.specs.Reading.{Kind, fault, stepBytes, stepLine}
 use Rattle.text_grammar.specs.Steps.{lineEnd, lineAt}
 use Rattle.text_grammar.proofs.Cut.{lines-at, lines-last, up-to-take, up-to-short}
 
@@ -30,16 +29,9 @@ module _ (text : List ℕ) (a : ℕ) (h : a ≤ length text) where
     pub end-fits : length text < 2 ^ 64 → Fits w64 (a + n)
     end-fits f = omega (arith, ends)
 
--- ---- what it leads to, and the lines after it
+-- ---- the lines after it
 
 module _ (text : List ℕ) (a z : ℕ) (end : z ≡ lineEnd text a) where
-  module _ {W S : Type 0} (k : Kind W S) (s : S) where
-    pub step-open : z ≡ length text → fault 2 ≡ stepLine k s (lineAt text a z)
-    step-open q = rw (le-ltb z (length text) (omega arith))
-
-    pub step-ended : (z ≡ length text → ⊥) → stepBytes k s (take (z - a) (drop a text)) ≡ stepLine k s (lineAt text a z)
-    step-ended q = rw (lt-ltb z (length text) (omega arith))
-
   place : a < length text → z ≡ a + length (upTo lineFeed (drop a text))
   place h = omega (arith, end-within text a (omega arith))
 

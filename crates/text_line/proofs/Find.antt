@@ -1,5 +1,5 @@
--- The steps of a search in a list of words: for the word that some bytes spell, and for a word.
-use mathlib.Core.Path.{_≡_, sym, _∙_}
+-- The spelling of a word, and the steps of a search for a word in a list of words.
+use mathlib.Core.Path.{_≡_, _∙_}
 use mathlib.Core.Bool.{Bool, true, false}
 use mathlib.Core.List.{List, _∷_}
 use Prim.Native.Nat.{ℕ, _+_, _≤_, _<_}
@@ -7,7 +7,7 @@ use native.Mathlib.Numerals.{add-one}
 use native.Mathlib.Omega.{arith}
 use lib.ListN.{length, getD, drop, drop-of-length-le}
 use lib.Seq.{drop-cons, take-append-seam}
-use Rattle.text_grammar.specs.Words.{same, Words, known, unknown, isWord, isIn, wordIn}
+use Rattle.text_grammar.specs.Words.{same, Words, isWord, isIn}
 use Rattle.text_line.specs.declared.Spelling.{Spelling}
 use Rattle.text_line.specs.Held.{textOf, spelled}
 
@@ -21,27 +21,6 @@ module _ {W : Type 0} (d : Words W) where
   same-words a b p q r e f h = h ∙ rw (e, f, spelled-text (d .spell a), spelled-text (d .spell b))
 
   module _ (ws : List W) (i : ℕ) where
-    -- ---- for the word that s spells
-
-    module _ (s : List ℕ) (inv : wordIn d ws s ≡ wordIn d (drop i ws) s) where
-      pub none-spelled : (n : ℕ) → length ws ≡ n → n ≤ i → unknown ≡ wordIn d ws s
-      unfolding wordIn
-      none-spelled n l g = let h : length ws ≤ i = omega arith in rw (inv, drop-of-length-le ws {i = i} h)
-
-      module _ (z : W) (h : i < length ws) (p : Spelling) (held : p ≡ spelled (d .spell (getD ws i z))) (r : Bool) (e : r ≡ same (textOf p) s) where
-        tested : same (d .spell (getD ws i z)) s ≡ r
-        tested = sym (e ∙ rw (held, spelled-text (d .spell (getD ws i z))))
-
-        pub this-spelled : r ≡ true → known (getD ws i z) ≡ wordIn d ws s
-        unfolding wordIn
-        this-spelled t = rw (inv, drop-cons ws i z h, tested, t, wordIn)
-
-        pub other-spelled : r ≡ false → wordIn d ws s ≡ wordIn d (drop (i + 1) ws) s
-        unfolding wordIn
-        other-spelled t = rw (inv, add-one, drop-cons ws i z h, tested, t, wordIn)
-
-    -- ---- for the word w
-
     module _ (w : W) (inv : isIn d w ws ≡ isIn d w (drop i ws)) where
       pub none-is : (n : ℕ) → length ws ≡ n → n ≤ i → false ≡ isIn d w ws
       unfolding isIn

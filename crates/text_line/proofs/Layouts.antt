@@ -1,8 +1,10 @@
--- The layouts of lines with no field up to three.
+-- The layouts of forms, and of lines with no field up to four.
 use mathlib.Core.Path.{_≡_}
 use mathlib.Core.List.{[], _∷_}
 use Rattle.text_line.specs.declared.Rule.{Rule as HeldRule}
-use Rattle.text_line.specs.Layout.{noRule, laidOut}
+use mathlib.Core.Bool.{true}
+use Rattle.text_grammar.specs.Line.{Form}
+use Rattle.text_line.specs.Layout.{noRule, laidOut, formOf, isLayout, layoutFor}
 
 module _ (z : HeldRule) (e : z ≡ noRule) where
   pub fields-none : record { count = 0; rules = z ∷ z ∷ z ∷ z ∷ [] } ≡ laidOut []
@@ -19,3 +21,8 @@ module _ (z : HeldRule) (e : z ≡ noRule) where
 
 pub fields-four : (a b c d a′ b′ c′ d′ : HeldRule) → a ≡ a′ → b ≡ b′ → c ≡ c′ → d ≡ d′ → record { count = 4; rules = a ∷ b ∷ c ∷ d ∷ [] } ≡ laidOut (a′ ∷ b′ ∷ c′ ∷ d′ ∷ [])
 fields-four a b c d a′ b′ c′ d′ p q r s = rw (p, q, r, s)
+
+-- a form that a layout holds: the layout means it, and is within the limits
+pub record Laying (f : Form) : Type 0 where
+  pub means : formOf (layoutFor f .count) (layoutFor f .rules) ≡ f
+  pub fine : isLayout (layoutFor f .count) (layoutFor f .rules) ≡ true

@@ -8,4 +8,3 @@ pub mod AllFields
 pub mod Limits
 pub mod Find
 pub mod Layouts
-pub mod Walk

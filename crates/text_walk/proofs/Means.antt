@@ -8,22 +8,22 @@ use native.Mathlib.Omega.{arith}
 use lib.Dec.{ltb}
 use lib.ListN.{length, getD, take, length-map}
 use borrow.Author.Tests.{le-ltb, lt-ltb}
-use Rattle.text_grammar.specs.Line.{Line, comma, upTo, from, Value, Form, Fields, got, faulty, fields}
+use Rattle.text_grammar.specs.Line.{Line, comma, upTo, from, Value, Fields, got, faulty, fields}
 use Rattle.text_grammar.specs.Words.{same, Words, Found, known, unknown, wordIn}
-use Rattle.text_grammar.specs.Reading.{Kind, Step, fault, check, Reading, stepFields, stepFound, stepBytes, stepLine}
+use Rattle.text_grammar.specs.Reading.{Kind, Step, fault, check, stepFields, stepFound, stepBytes, stepLine}
 use Rattle.text_grammar.specs.Steps.{entryFault, Entered, ReadAs}
 use Rattle.text_grammar.proofs.Entry.{foundOr, step-word}
 use Rattle.text_line.specs.declared.Spelling.{Spelling}
 use Rattle.text_line.specs.declared.Layout.{Layout}
-use Rattle.text_line.specs.Held.{textOf, spelled}
+use Rattle.text_line.specs.Held.{spelled}
 use Rattle.model.specs.declared.Refusal.{Refusal}
 use Rattle.text_line.specs.declared.Fault.the-variants as held
 use Rattle.text_line.specs.Layout.{layoutFor, valuesOf, valuesIn, located, readFields}
 use Rattle.text_line.specs.Steps.{LineOk}
 use Rattle.text_walk.specs.declared.LineWalked.{LineWalked}
 use Rattle.text_line.proofs.Find.{spelled-text}
-use Rattle.text_line.proofs.Walk.{Laying}
-use Rattle.text_walk.specs.Walk.{Walk, word, stop, blankLayout, findIn, byFields, unlessFault, ifKnown, walkFields, walkWord, walkBytes, walkLine, walkOf, WalkOk}
+use Rattle.text_line.proofs.Layouts.{Laying}
+use Rattle.text_walk.specs.Walk.{Walk, word, stop, blankLayout, findIn, byFields, unlessFault, ifKnown, walkWord, walkBytes, walkLine, walkOf, WalkOk}
 
 module _ {W S : Type 0} (k : Kind W S) (z : W) where
   abbrev d : Words W

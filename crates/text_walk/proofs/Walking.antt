@@ -8,8 +8,8 @@ use lib.ListN.{length, getD, take, drop, length-take, length-drop}
 use lib.Seq.{take-all}
 use borrow.Author.Tests.{le-ltb, lt-ltb}
 use Rattle.model.specs.declared.Refusal.{Refusal}
-use Rattle.text_grammar.specs.Line.{comma, upTo, from, Value, Fields, got, faulty, fields}
-use Rattle.text_grammar.specs.Reading.{Reading, accepted, refused}
+use Rattle.text_grammar.specs.Line.{comma, upTo, from, Fields, got, faulty, fields}
+use Rattle.text_grammar.specs.Reading.{refused}
 use Rattle.text_grammar.specs.Steps.{lineEnd, lineAt}
 use Rattle.text_grammar.proofs.Cut.{up-to-take, from-drop}
 use Rattle.text_line.specs.declared.Spelling.{Spelling}
