@@ -72,7 +72,7 @@ before-same (suc j) (t ∷ ts) = ap (λ (k : ℕ). t .pins + k) (before-same j t
 -- ---- the axis
 
 module _ (c : HeldChip) (s : List ℕ) (d : Direction) (k : Taken c s) where
-  letters-most : bounds.Fine (axisFor d (chipOf c) (lettersOf s)) → length (lettersOf s) ≡ length (couples (chipOf c)) → length s ≤ 120
+  letters-most : bounds.WellFormed (axisFor d (chipOf c) (lettersOf s)) → length (lettersOf s) ≡ length (couples (chipOf c)) → length s ≤ 120
   unfolding axisFor
   letters-most f e =
       let l : length (lettersOf s) ≡ length s = length-map s letterOf in
@@ -112,7 +112,7 @@ module _ (c : HeldChip) (s : List ℕ) (d : Direction) (k : Taken c s) where
           pairs = letters-most f (omega arith);
           nets = k .fine .netCount;
           pins = rw (en, before-same (c .t) (c .nets)) p;
-          fine = subst bounds.Fine (sym made-axis) f;
+          fine = subst bounds.WellFormed (sym made-axis) f;
         }
 
     axis-made : AxisFor c s d made
