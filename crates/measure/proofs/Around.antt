@@ -11,11 +11,10 @@ use mir.Val.{Fits}
 use Rattle.model.specs.declared.Spot.{Spot}
 use Rattle.model.specs.declared.Pin.{Pin}
 use Rattle.model.specs.Meaning.{blankPin}
-use Rattle.measure_extent.specs.declared.Extent.{Extent}
-use Rattle.measure_extent.specs.Extent.{withPin}
+use Rattle.measure.specs.declared.Extent.{Extent}
 use Rattle.num_laws.specs.Spread.{most, fewest, spread}
 use Rattle.placement.proofs.Spans.{upX, upY}
-use Rattle.measure.specs.Held.{halfPerimeter, PinWithin, PinsWithin}
+use Rattle.measure.specs.Held.{withPin, halfPerimeter, PinWithin, PinsWithin}
 
 -- of the places f of the pins from `from` up to `to`, those before i lie within l..g
 record Seen (f : Pin → ℕ) (hs : List Pin) (from to i l g : ℕ) : Type 0 where
@@ -37,6 +36,9 @@ module _ (f : Pin → ℕ) (hs : List Pin) (from to : ℕ) (few : to ≤ length 
   last-seen i l g h k s = let e : i ≡ to = omega arith in sym (s .so ∙ rw (e, slice-empty to hs))
 
 -- both axes
+pub pin-added : (e : Extent) (p : Spot) (a b c d : ℕ) → a ≡ min (e .left) (p .x) → b ≡ max (e .right) (p .x) → c ≡ min (e .low) (p .y) → d ≡ max (e .high) (p .y) → _≡_ {A = Extent} (record { left = a; right = b; low = c; high = d }) (withPin e p)
+pin-added e p a b c d ea eb ec ed = rw (ea, eb, ec, ed)
+
 pub record Around (ps : List Spot) (hs : List Pin) (from to i : ℕ) (e : Extent) : Type 0 where
   across : Seen (upX ps) hs from to i (e .left) (e .right)
   upward : Seen (upY ps) hs from to i (e .low) (e .high)

@@ -1,6 +1,6 @@
 -- What the helpers of measuring compute and need, over the arrays of a chip.
-use Prim.Native.Nat.{ℕ, zero, suc, _+_, _*_, _≤_, _<_}
-use mathlib.Core.List.{List, map}
+use Prim.Native.Nat.{ℕ, zero, suc, _+_, _*_, _≤_, _<_, min, max}
+use mathlib.Core.List.{List, [], map}
 use lib.ListN.{getD, take}
 use lib.Seq.{slice}
 use lib.IntN.{natAbs}
@@ -16,6 +16,11 @@ use Rattle.chip_text.proofs.Passing.{Whole}
 use Rattle.num_laws.specs.Spread.{spread}
 use Rattle.placement.specs.Length.{origin, CornersWithin}
 use Rattle.placement.proofs.Spans.{upX, upY}
+use Rattle.measure.specs.declared.Extent.{Extent}
+
+-- the least and the greatest places with one place more
+abbrev pub withPin : Extent → Spot → Extent
+withPin e p = record { left = min (e .left) (p .x); right = max (e .right) (p .x); low = min (e .low) (p .y); high = max (e .high) (p .y) }
 
 -- greatest x less least x, plus the same of y, over held pins
 abbrev pub halfPerimeter : List Spot → List HeldPin → ℕ

@@ -1,14 +1,13 @@
 // Measuring a placement: whether positions are legal for a chip, and their wirelength (document 01, "Legal, and how long").
-use measure_extent::Extent;
-use measure_extent::with_pin;
 use model::Chip;
 use model::Mac;
+use model::Net;
 use model::Pin;
 use model::Refusal;
 use model::Spot;
 use model::Tested;
 ghost use mathlib.Core.Path.{_≡_};
-ghost use Prim.Native.Nat.{_+_, _≤_, _<_};
+ghost use Prim.Native.Nat.{_+_, _≤_, _<_, min, max};
 ghost use lib.ListN.{length, take};
 ghost use lib.Seq.{slice};
 ghost use Rattle.model.specs.Meaning.{firstOf, blankSpot, chipOf};
@@ -16,7 +15,7 @@ ghost use Rattle.placement.specs.Legal.{legal};
 ghost use Rattle.placement.specs.Length.{origin, wirelength};
 ghost use Rattle.placement.proofs.Spans.{upX, upY};
 ghost use Rattle.measure.specs.Measuring.{measured as measuredAt, measuredAs, lengthIn, measurePositions};
-ghost use Rattle.measure.specs.Held.{halfPerimeter, lengthTo, PinWithin, PinsWithin, Summable, Measurable};
+ghost use Rattle.measure.specs.Held.{withPin, halfPerimeter, lengthTo, PinWithin, PinsWithin, Summable, Measurable};
 
 // What measuring answers: legal or not and the wirelength, or the refusal.
 pub enum MeasureAnswer {
@@ -44,6 +43,48 @@ fn place_of(spots: [Spot; Mac::COUNT], p: Pin) -> Spot
     let x = o.x + p.xup;
     let y = o.y + p.yup;
     Spot { x, y }
+}
+
+fn lesser(a: u64, b: u64) -> u64
+    ensures { λ r. ⌜ r ≡ min a b ⌝ }
+{
+    if a < b {
+        return a;
+    }
+    b
+}
+
+fn greater(a: u64, b: u64) -> u64
+    ensures { λ r. ⌜ r ≡ max a b ⌝ }
+{
+    if a < b {
+        return b;
+    }
+    a
+}
+
+// The least and the greatest places of some pins.
+struct Extent {
+    left: u64,
+    right: u64,
+    low: u64,
+    high: u64,
+}
+
+// The same with one pin more.
+fn with_pin(e: Extent, p: Spot) -> Extent
+    ensures { λ r. ⌜ r ≡ withPin e p ⌝ }
+{
+    let left = lesser(e.left, p.x);
+    let right = greater(e.right, p.x);
+    let low = lesser(e.low, p.y);
+    let high = greater(e.high, p.y);
+    Extent {
+        left,
+        right,
+        low,
+        high,
+    }
 }
 
 // Greatest x less least x, plus greatest y less least y, over the pins from `from` up to `to`.
