@@ -2,7 +2,7 @@
 use Prim.Native.Nat.{ℕ, _+_, _-_, _≤_, _<_}
 use mathlib.Core.Path.{_≡_, sym, ap, subst, _∙_}
 use mathlib.Core.Bool.{true}
-use mathlib.Core.List.{List, [], _++_, map}
+use mathlib.Core.List.{List, _++_, map}
 use native.Mathlib.Decide.{decLt}
 use native.Mathlib.Omega.{arith}
 use lib.ListN.{length, getD, take, replicate}
@@ -17,7 +17,7 @@ use Rattle.chip_text.specs.Valid.{Valid}
 use Rattle.placement.specs.Legal.{legal}
 use Rattle.placement.specs.Length.{wirelength}
 use Rattle.placement.specs.Letters.{Letter}
-use Rattle.placement.specs.Least.{found, fitOf}
+use Rattle.placement.specs.Least.{found}
 use Rattle.axis_bounds.specs.Axis.{Keeps}
 use Rattle.axis_bounds.specs.Answer.{LeastOn}
 use Rattle.fit_slots.specs.declared.Direction.{Direction}

@@ -5,16 +5,12 @@ use mathlib.Core.List.{List, [], _∷_, map}
 use native.Mathlib.Omega.{arith}
 use lib.IntN.{subℕ, natAbs}
 use lib.ListN.{length, take, drop, length-drop, length-map}
-use Rattle.model.specs.declared.Die.{Die}
-use Rattle.model.specs.declared.Fix.{Fix}
-use Rattle.model.specs.declared.Mac.{Mac}
 use Rattle.model.specs.declared.Net.{Net as HeldNet}
 use Rattle.model.specs.declared.Pin.{Pin as HeldPin}
 use Rattle.model.specs.declared.Chip.{Chip as HeldChip}
-use Rattle.model.specs.Meaning.{firstOf, blankFix, blankMac, blankNet, blankPin, pinOf, pinsOf, chipOf}
+use Rattle.model.specs.Meaning.{firstOf, blankNet, blankPin, pinOf, pinsOf, chipOf}
 use Rattle.model.specs.Meaning as model
 use Rattle.model.proofs.FirstOf.{first-take, length-first}
-use Rattle.chip_text.specs.Valid.{HeldValid}
 use Rattle.chip_text.specs.Valid as chip
 use Rattle.chip_text.proofs.HeldNets.{before-first}
 use Rattle.num_laws.proofs.Differences.{sub-up, add-sub}
@@ -27,7 +23,7 @@ use Rattle.axis_bounds.specs.Axis as bounds
 use Rattle.axis_bounds.specs.Held.{pinsBefore, Held}
 use Rattle.fit_slots.specs.declared.Direction.{Direction}
 use Rattle.fit_slots.specs.declared.Direction.the-variants.{Horizontal as horizontal, Vertical as vertical}
-use Rattle.fit_slots.specs.Slots.{dieSide, macSide, couplesOf, couples}
+use Rattle.fit_slots.specs.Slots.{dieSide, macSide, couples}
 use Rattle.fit_slots.specs.Fit.{letterOf, lettersOf}
 use Rattle.fit_slots.specs.Axes.{raised, axisPin, axisNet, heldSlots, axisFor}
 use Rattle.fit_slots.proofs.Counting.{letters-count, held-count}
@@ -72,7 +68,7 @@ before-same (suc j) (t ∷ ts) = ap (λ (k : ℕ). t .pins + k) (before-same j t
 -- ---- the axis
 
 module _ (c : HeldChip) (s : List ℕ) (d : Direction) (k : Taken c s) where
-  letters-most : bounds.Fine (axisFor d (chipOf c) (lettersOf s)) → length (lettersOf s) ≡ length (couples (chipOf c)) → length s ≤ 120
+  letters-most : bounds.WellFormed (axisFor d (chipOf c) (lettersOf s)) → length (lettersOf s) ≡ length (couples (chipOf c)) → length s ≤ 120
   unfolding axisFor
   letters-most f e =
       let l : length (lettersOf s) ≡ length s = length-map s letterOf in
@@ -112,7 +108,7 @@ module _ (c : HeldChip) (s : List ℕ) (d : Direction) (k : Taken c s) where
           pairs = letters-most f (omega arith);
           nets = k .fine .netCount;
           pins = rw (en, before-same (c .t) (c .nets)) p;
-          fine = subst bounds.Fine (sym made-axis) f;
+          fine = subst bounds.WellFormed (sym made-axis) f;
         }
 
     axis-made : AxisFor c s d made

@@ -3,7 +3,6 @@ use model::Chip;
 use model::Refusal;
 use model::Tested;
 ghost use mathlib.Core.Path.{_≡_};
-ghost use lib.ListN.{length};
 ghost use Rattle.model.specs.Meaning.{chipOf};
 ghost use Rattle.refusals.specs.Tests.{firstFailed};
 ghost use Rattle.chip_text.specs.Valid.{pinsBefore};

@@ -11,12 +11,12 @@ use Rattle.model.specs.declared.Spot.{Spot}
 use Rattle.model.specs.declared.Tested.{Tested}
 use Rattle.model.specs.declared.Tested.the-variants as tested
 use Rattle.model.specs.Meaning.{Chip, chipOf, firstOf, blankSpot}
-use Rattle.refusals.specs.Tests.{firstFailed, unlessFailed}
+use Rattle.refusals.specs.Tests.{firstFailed}
 use Rattle.refusals.proofs.FirstFailed.{first-passes, rest-passes, number-refused, number-none}
 use Rattle.text_grammar.specs.Reading.{Reading, accepted, refused}
 use Rattle.text_grammar.specs.Writing.{testedAs}
 use Rattle.chip_text.specs.Text.{readChip, chipText}
-use Rattle.chip_text.specs.Passed.{Accepted, Passed}
+use Rattle.chip_text.specs.Passed.{Passed}
 use Rattle.chip_text.proofs.TextRead.{text-read}
 use Rattle.chip_text.proofs.Passing.{Whole, passed-by}
 use Rattle.placement.specs.Length.{CornersWithin}

@@ -63,9 +63,9 @@ use Rattle.measure.proofs.MeasureAnswer as S
 use Rattle.measure.proofs.MeasureAnswer.Laws as S′
 use Rattle.measure_list.proofs.measure_list as listed
 use Rattle.measure_list.proofs.measure_list.Symbol as listed-def
-use Rattle.measure_list.proofs.measure_list.Symbol.{name as #measurelist·measure-list}
+use Rattle.measure_list.proofs.measure_list.Symbol.{name as #measure-list·measure-list}
 use Rattle.measure_list.proofs.measure_list.Met as listed-thm
-use Rattle.measure_list.proofs.measure_first.Key.{name as #measurelist·measure-first}
+use Rattle.measure_list.proofs.measure_first.Key.{name as #measure-list·measure-first}
 use Rattle.measure_list.proofs.measure_first as firsts
 use Rattle.measure_list.proofs.measure_first.Statement as stated
 use Rattle.measure_list.proofs.measure_first.Code as code
@@ -175,7 +175,7 @@ module _ {M : Type 1} (𝓤 : URA M) (H : Heap 𝓤) (A : Atoms 𝓤) (W : Given
     said : (r : MeasureAnswer) → ent 𝓤 (ensured 𝓤 H A listed.ended (listed.clauses 𝓤 H A at-mem run) (κ, tt) (c, (lent, tt)) tt r) (fact 𝓤 (Said r))
     said r = exE 𝓤 _ (λ ws. snd∗ 𝓤 (sem 𝓤 H A (lasts listed.ended (κ, tt) (c, (lent, tt)) ws)) (fact 𝓤 (Said r)))
 
-  module _ (CC : Calls 𝓤 H) (Λ : Loops 𝓤 H) (fm : FmC 𝓤 H (W .laws) CC) (known : Triple 𝓤 (CC #measurelist·measure-list) (Listed 𝓤 H A at-mem run)) where
+  module _ (CC : Calls 𝓤 H) (Λ : Loops 𝓤 H) (fm : FmC 𝓤 H (W .laws) CC) (known : Triple 𝓤 (CC #measure-list·measure-list) (Listed 𝓤 H A at-mem run)) where
     walk : n ≤ 8 → ent 𝓤 (onEntry 𝓤 H A firsts.signature tt tt args vals) (WpFn 𝓤 H CC Λ code.function (mach c ∷ vint w64 n ∷ machs s ∷ []) Post)
     walk few =
         let l : length s ≡ 8 = gs .1 .0 .1 in let m : length (take n s) ≡ n = length-take-le n s (omega arith) in
@@ -205,12 +205,12 @@ module _ {M : Type 1} (𝓤 : URA M) (H : Heap 𝓤) (A : Atoms 𝓤) (W : Given
         keep ! (1 ∷ []) $ by ! (exits r z e)))))))))))))))
 
 module _ {M : Type 1} (𝓤 : URA M) (H : Heap 𝓤) (A : Atoms 𝓤) (W : Given 𝓤 H A) (mem : Memory → SProp 𝓤) (run : Routine → Fun 𝓤) where
-  first-walks : (CC : Calls 𝓤 H) (Λ : Loops 𝓤 H) → FmC 𝓤 H (W .laws) CC → Triple 𝓤 (CC #measurelist·measure-list) (Listed 𝓤 H A mem run) → Walks 𝓤 H A firsts.ended stayed (WpFn 𝓤 H CC Λ code.function) (firsts.clauses 𝓤 H A mem run)
+  first-walks : (CC : Calls 𝓤 H) (Λ : Loops 𝓤 H) → FmC 𝓤 H (W .laws) CC → Triple 𝓤 (CC #measure-list·measure-list) (Listed 𝓤 H A mem run) → Walks 𝓤 H A firsts.ended stayed (WpFn 𝓤 H CC Λ code.function) (firsts.clauses 𝓤 H A mem run)
   first-walks CC Λ fm known = walked 𝓤 H A firsts.ended stayed (firsts.clauses 𝓤 H A mem run) (WpFn 𝓤 H CC Λ code.function) (λ κs. (LL.vals C.the-type C′.the-laws, (uint-vals w64, (array-vals (LL.vals T.the-type T′.the-laws), tt))))
       (λ κs. (LL.tells C.the-type C′.the-laws, (uint-tells w64, (array-tells T.the-row (LL.vals T.the-type T′.the-laws) (LL.tells T.the-type T′.the-laws) 8, tt))))
       (λ κs qs bounds a g are. needs 𝓤 (a .1 .0 ≤ 8) _ (walk 𝓤 H A W mem run (a .0) (are .0) (a .1 .0) (are .1 .0 .1) (a .1 .1 .0) (are .1 .1 .0) CC Λ fm known))
 
-first-meets : {M : Type 1} (𝓤 : URA M) (H : Heap 𝓤) (A : Atoms 𝓤) → Given 𝓤 H A → (mem : Memory → SProp 𝓤) (run : Routine → Fun 𝓤) (𝓣 : Tables 𝓤 H) → Triple 𝓤 (𝓣 .C #measurelist·measure-list) (Listed 𝓤 H A mem run)
+first-meets : {M : Type 1} (𝓤 : URA M) (H : Heap 𝓤) (A : Atoms 𝓤) → Given 𝓤 H A → (mem : Memory → SProp 𝓤) (run : Routine → Fun 𝓤) (𝓣 : Tables 𝓤 H) → Triple 𝓤 (𝓣 .C #measure-list·measure-list) (Listed 𝓤 H A mem run)
     → Meets 𝓤 H A firsts.signature (WpFn 𝓤 H (𝓣 .C) (𝓣 .Λ) code.function) (firsts.spec 𝓤 H A mem run)
 first-meets 𝓤 H A W mem run 𝓣 known =
     walk-meets 𝓤 H A firsts.ended stayed W (goes-none 𝓤 H A W 0 (λ _. C.the-row) yes (λ κs x f. refl), (goes-none 𝓤 H A W 0 (λ _. usize) yes (λ κs x f. refl), (goes-none 𝓤 H A W 0 (λ _. Eight) yes (λ κs x f. refl), tt))) (firsts.clauses 𝓤 H A mem run)
@@ -220,6 +220,6 @@ pub measure-first-spec : {M : Type 1} → stated.statement M
 unfolding code.routine tablesOf
 measure-first-spec 𝓤 H 𝓜 𝓖 𝓡 =
     entered 𝓤 H (tripleOf 𝓤 H (𝓖 .A) firsts.signature (firsts.spec 𝓤 H (𝓖 .A) (𝓜 .mem) (𝓡 .run)))
-    (tables 𝓤 H 𝓜 𝓡 code.env .C) (tables 𝓤 H 𝓜 𝓡 code.env .Λ) #measurelist·measure-first code.function (code.unfolded 𝓤 H 𝓜 𝓡)
+    (tables 𝓤 H 𝓜 𝓡 code.env .C) (tables 𝓤 H 𝓜 𝓡 code.env .Λ) #measure-list·measure-first code.function (code.unfolded 𝓤 H 𝓜 𝓡)
     (first-meets 𝓤 H (𝓖 .A) (givenOf 𝓤 H 𝓜 𝓖) (𝓜 .mem) (𝓡 .run) (tablesOf 𝓤 H 𝓜 (tables 𝓤 H 𝓜 𝓡 code.env))
-    (cited 𝓤 H (Listed 𝓤 H (𝓖 .A) (𝓜 .mem) (𝓡 .run)) 𝓜 𝓡 code.env #measurelist·measure-list listed-def.routine code.calls-measurelist·measure-list (listed-thm.met 𝓤 H 𝓜 𝓖 𝓡)))
+    (cited 𝓤 H (Listed 𝓤 H (𝓖 .A) (𝓜 .mem) (𝓡 .run)) 𝓜 𝓡 code.env #measure-list·measure-list listed-def.routine code.calls-measure-list·measure-list (listed-thm.met 𝓤 H 𝓜 𝓖 𝓡)))

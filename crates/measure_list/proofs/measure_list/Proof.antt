@@ -53,13 +53,13 @@ use Rattle.measure.proofs.MeasureAnswer.Laws as S′
 use Rattle.measure_list.proofs.Lists.{eight-measured}
 use Rattle.measure_list.proofs.spot_or as spot-or
 use Rattle.measure_list.proofs.spot_or.Symbol as spot-or-def
-use Rattle.measure_list.proofs.spot_or.Symbol.{name as #measurelist·spot-or}
+use Rattle.measure_list.proofs.spot_or.Symbol.{name as #measure-list·spot-or}
 use Rattle.measure_list.proofs.spot_or.Met as spot-or-thm
 use Rattle.measure_list.proofs.measure_eight as eight
 use Rattle.measure_list.proofs.measure_eight.Symbol as eight-def
-use Rattle.measure_list.proofs.measure_eight.Symbol.{name as #measurelist·measure-eight}
+use Rattle.measure_list.proofs.measure_eight.Symbol.{name as #measure-list·measure-eight}
 use Rattle.measure_list.proofs.measure_eight.Met as eight-thm
-use Rattle.measure_list.proofs.measure_list.Key.{name as #measurelist·measure-list}
+use Rattle.measure_list.proofs.measure_list.Key.{name as #measure-list·measure-list}
 use Rattle.measure_list.proofs.measure_list as listed
 use Rattle.measure_list.proofs.measure_list.Statement as stated
 use Rattle.measure_list.proofs.measure_list.Code as code
@@ -163,11 +163,11 @@ module _ {M : Type 1} (𝓤 : URA M) (H : Heap 𝓤) (A : Atoms 𝓤) (W : Given
       suffices ! _ (ends-at 𝓤 H A listed.ended stayed (listed.clauses 𝓤 H A mem run) W (((κ, tt), (q, tt), tt, (c, (x, tt)), at), tt) u r (tt, (tt, tt)) (tt, (tt, tt))) $ says ! e $
       move ! (1 ∷ []) $ frame ! $ nothing ! $ move ! (2 ∷ 0 ∷ []) $ fjoin ! $ owned ! C.the-row (Is C.the-row) (LL.makes C.the-type C′.the-plain 𝓤 H A) c _ gc $ fjoin ! $ frame ! $ done !
 
-  module _ (CC : Calls 𝓤 H) (Λ : Loops 𝓤 H) (fm : FmC 𝓤 H (W .laws) CC) (known : Triple 𝓤 (CC #measurelist·spot-or) (SpotOr 𝓤 H A mem run)) (known-eight : Triple 𝓤 (CC #measurelist·measure-eight) (Eight 𝓤 H A mem run)) where
+  module _ (CC : Calls 𝓤 H) (Λ : Loops 𝓤 H) (fm : FmC 𝓤 H (W .laws) CC) (known : Triple 𝓤 (CC #measure-list·spot-or) (SpotOr 𝓤 H A mem run)) (known-eight : Triple 𝓤 (CC #measure-list·measure-eight) (Eight 𝓤 H A mem run)) where
     -- the call of `spot_or` at i: the token and what spots owns are had again, in front of them the position read
     asks : {Γ : List (Item 𝓤)} {E : Env 𝓤 H} {xs : List Opd} {d : Place} {rest : Body} {p : AtEnd 𝓤 H} → Go {0} → (i : ℕ) → i < 2 ^ 64 → Opds (Go {0}) W (raw (SpotOr 𝓤 H A mem run .pre (to i)) ∷ ‵ Own ∷ Γ) E xs (SpotOr 𝓤 H A mem run .args (to i))
         → ((u : Val) (r : Spot) → Said i r → Is T.the-row r (u ∷ []) → Sq W (‵ (T.the-row .own r (u ∷ [])) ∷ (‵ (flft κ q) ⊛ ‵ ftrue) ∷ ‵ Own ∷ Γ) (lands CC Λ E d u rest p))
-        → Sq W ((‵ (flft κ q) ⊛ ‵ ftrue) ∷ ‵ Own ∷ Γ) (runs CC Λ E (seq (call #measurelist·spot-or xs d) rest) p)
+        → Sq W ((‵ (flft κ q) ⊛ ‵ ftrue) ∷ ‵ Own ∷ Γ) (runs CC Λ E (seq (call #measure-list·spot-or xs d) rest) p)
     asks t i fits reads k =
         use2 W (raw (SpotOr 𝓤 H A mem run .pre (to i)) ⊛ ‵ Own) (lend i fits) $ split ! $ calls-at ! fm (SpotOr 𝓤 H A mem run) known (to i) reads (λ u.
         use1 W (Got i u) (id⊢ 𝓤 _) $ await ! tt $ pick ! (λ r. split ! $ move ! (1 ∷ []) $ use1 W (raw (fact 𝓤 (Said i r))) (said i r) $ heard ! (Said i r) (λ e. split ! $ move ! (1 ∷ []) $
@@ -202,13 +202,13 @@ module _ {M : Type 1} (𝓤 : URA M) (H : Heap 𝓤) (A : Atoms 𝓤) (W : Given
         keep ! (0 ∷ 1 ∷ 2 ∷ []) $ by ! (exits r z (eight-measured (chipOf c) (x .now) (measuredAs r) r0 r1 r2 r3 r4 r5 r6 r7 e0 e1 e2 e3 e4 e5 e6 e7 e))))))))))))))))))))))))))
 
 module _ {M : Type 1} (𝓤 : URA M) (H : Heap 𝓤) (A : Atoms 𝓤) (W : Given 𝓤 H A) (mem : Memory → SProp 𝓤) (run : Routine → Fun 𝓤) where
-  list-walks : (CC : Calls 𝓤 H) (Λ : Loops 𝓤 H) → FmC 𝓤 H (W .laws) CC → Triple 𝓤 (CC #measurelist·spot-or) (SpotOr 𝓤 H A mem run) → Triple 𝓤 (CC #measurelist·measure-eight) (Eight 𝓤 H A mem run)
+  list-walks : (CC : Calls 𝓤 H) (Λ : Loops 𝓤 H) → FmC 𝓤 H (W .laws) CC → Triple 𝓤 (CC #measure-list·spot-or) (SpotOr 𝓤 H A mem run) → Triple 𝓤 (CC #measure-list·measure-eight) (Eight 𝓤 H A mem run)
       → Walks 𝓤 H A listed.ended stayed (WpFn 𝓤 H CC Λ code.function) (listed.clauses 𝓤 H A mem run)
   list-walks CC Λ fm known known-eight = walked 𝓤 H A listed.ended stayed (listed.clauses 𝓤 H A mem run) (WpFn 𝓤 H CC Λ code.function) (λ κs. (LL.vals C.the-type C′.the-laws, (slice-vals, tt))) (λ κs. (LL.tells C.the-type C′.the-laws, (shr-slice-tells (named 0) (κs .0) T.the-row, tt)))
       (λ κs qs bounds a g are. via 𝓤 _ (fst∗ 𝓤 _ (emp 𝓤)) (walk 𝓤 H A W mem run (κs .0) (qs .0) (a .0) (are .0) (a .1 .0) CC Λ fm known known-eight (are .1 .0 .0 .1)))
 
 list-meets : {M : Type 1} (𝓤 : URA M) (H : Heap 𝓤) (A : Atoms 𝓤) → Given 𝓤 H A → (mem : Memory → SProp 𝓤) (run : Routine → Fun 𝓤) (𝓣 : Tables 𝓤 H)
-    → Triple 𝓤 (𝓣 .C #measurelist·spot-or) (SpotOr 𝓤 H A mem run) → Triple 𝓤 (𝓣 .C #measurelist·measure-eight) (Eight 𝓤 H A mem run) → Meets 𝓤 H A listed.signature (WpFn 𝓤 H (𝓣 .C) (𝓣 .Λ) code.function) (listed.spec 𝓤 H A mem run)
+    → Triple 𝓤 (𝓣 .C #measure-list·spot-or) (SpotOr 𝓤 H A mem run) → Triple 𝓤 (𝓣 .C #measure-list·measure-eight) (Eight 𝓤 H A mem run) → Meets 𝓤 H A listed.signature (WpFn 𝓤 H (𝓣 .C) (𝓣 .Λ) code.function) (listed.spec 𝓤 H A mem run)
 list-meets 𝓤 H A W mem run 𝓣 known known-eight =
     walk-meets 𝓤 H A listed.ended stayed W (goes-none 𝓤 H A W 1 (λ _. C.the-row) yes (λ κs x f. refl), (goes-none-slice 𝓤 H A W 1 (0 ∷ []) tt (plain (λ _. T.the-row)) yes, tt)) (listed.clauses 𝓤 H A mem run)
     (WpFn 𝓤 H (𝓣 .C) (𝓣 .Λ) code.function) (WpFn-mono 𝓤 H (W .laws) 𝓣 code.function) (list-walks 𝓤 H A W mem run (𝓣 .C) (𝓣 .Λ) (fmOf 𝓤 H (W .laws) 𝓣) known known-eight)
@@ -217,7 +217,7 @@ pub measure-list-spec : {M : Type 1} → stated.statement M
 unfolding code.routine tablesOf
 measure-list-spec 𝓤 H 𝓜 𝓖 𝓡 =
     entered 𝓤 H (tripleOf 𝓤 H (𝓖 .A) listed.signature (listed.spec 𝓤 H (𝓖 .A) (𝓜 .mem) (𝓡 .run)))
-    (tables 𝓤 H 𝓜 𝓡 code.env .C) (tables 𝓤 H 𝓜 𝓡 code.env .Λ) #measurelist·measure-list code.function (code.unfolded 𝓤 H 𝓜 𝓡)
+    (tables 𝓤 H 𝓜 𝓡 code.env .C) (tables 𝓤 H 𝓜 𝓡 code.env .Λ) #measure-list·measure-list code.function (code.unfolded 𝓤 H 𝓜 𝓡)
     (list-meets 𝓤 H (𝓖 .A) (givenOf 𝓤 H 𝓜 𝓖) (𝓜 .mem) (𝓡 .run) (tablesOf 𝓤 H 𝓜 (tables 𝓤 H 𝓜 𝓡 code.env))
-    (cited 𝓤 H (SpotOr 𝓤 H (𝓖 .A) (𝓜 .mem) (𝓡 .run)) 𝓜 𝓡 code.env #measurelist·spot-or spot-or-def.routine code.calls-measurelist·spot-or (spot-or-thm.met 𝓤 H 𝓜 𝓖 𝓡))
-    (cited 𝓤 H (Eight 𝓤 H (𝓖 .A) (𝓜 .mem) (𝓡 .run)) 𝓜 𝓡 code.env #measurelist·measure-eight eight-def.routine code.calls-measurelist·measure-eight (eight-thm.met 𝓤 H 𝓜 𝓖 𝓡)))
+    (cited 𝓤 H (SpotOr 𝓤 H (𝓖 .A) (𝓜 .mem) (𝓡 .run)) 𝓜 𝓡 code.env #measure-list·spot-or spot-or-def.routine code.calls-measure-list·spot-or (spot-or-thm.met 𝓤 H 𝓜 𝓖 𝓡))
+    (cited 𝓤 H (Eight 𝓤 H (𝓖 .A) (𝓜 .mem) (𝓡 .run)) 𝓜 𝓡 code.env #measure-list·measure-eight eight-def.routine code.calls-measure-list·measure-eight (eight-thm.met 𝓤 H 𝓜 𝓖 𝓡)))

@@ -42,7 +42,7 @@ use Rattle.model.specs.declared.Spot.{Spot}
 use Rattle.model.specs.Meaning.{blankSpot}
 use Rattle.model.proofs.Spot as T
 use Rattle.model.proofs.Spot.Laws as T′
-use Rattle.measure_list.proofs.spot_or.Key.{name as #measurelist·spot-or}
+use Rattle.measure_list.proofs.spot_or.Key.{name as #measure-list·spot-or}
 use Rattle.measure_list.proofs.spot_or as spot-or
 use Rattle.measure_list.proofs.spot_or.Statement as stated
 use Rattle.measure_list.proofs.spot_or.Code as code
@@ -135,5 +135,5 @@ pub spot-or-spec : {M : Type 1} → stated.statement M
 unfolding code.routine tablesOf
 spot-or-spec 𝓤 H 𝓜 𝓖 𝓡 =
     entered 𝓤 H (tripleOf 𝓤 H (𝓖 .A) spot-or.signature (spot-or.spec 𝓤 H (𝓖 .A) (𝓜 .mem) (𝓡 .run)))
-    (tables 𝓤 H 𝓜 𝓡 code.env .C) (tables 𝓤 H 𝓜 𝓡 code.env .Λ) #measurelist·spot-or code.function (code.unfolded 𝓤 H 𝓜 𝓡)
+    (tables 𝓤 H 𝓜 𝓡 code.env .C) (tables 𝓤 H 𝓜 𝓡 code.env .Λ) #measure-list·spot-or code.function (code.unfolded 𝓤 H 𝓜 𝓡)
     (spot-meets 𝓤 H (𝓖 .A) (givenOf 𝓤 H 𝓜 𝓖) (𝓜 .mem) (𝓡 .run) (tablesOf 𝓤 H 𝓜 (tables 𝓤 H 𝓜 𝓡 code.env)))

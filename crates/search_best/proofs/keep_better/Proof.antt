@@ -43,9 +43,9 @@ use Rattle.model.proofs.Record as T
 use Rattle.model.proofs.Record.Laws as T′
 use Rattle.search_best.proofs.better_record as better-record
 use Rattle.search_best.proofs.better_record.Symbol as better-record-def
-use Rattle.search_best.proofs.better_record.Symbol.{name as #best·better-record}
+use Rattle.search_best.proofs.better_record.Symbol.{name as #search-best·better-record}
 use Rattle.search_best.proofs.better_record.Met as better-record-thm
-use Rattle.search_best.proofs.keep_better.Key.{name as #best·keep-better}
+use Rattle.search_best.proofs.keep_better.Key.{name as #search-best·keep-better}
 use Rattle.search_best.proofs.keep_better as keep-better
 use Rattle.search_best.proofs.keep_better.Statement as stated
 use Rattle.search_best.proofs.keep_better.Code as code
@@ -95,7 +95,7 @@ module _ {M : Type 1} (𝓤 : URA M) (H : Heap 𝓤) (A : Atoms 𝓤) (W : Given
       qed W (‵ ftrue ∷ []) ∵ owned ! T.the-row (Is T.the-row) (LL.makes T.the-type T′.the-plain 𝓤 H A) k _ gk $ fjoin ! $
       owned ! T.the-row (Is T.the-row) (LL.makes T.the-type T′.the-plain 𝓤 H A) h _ gh $ fjoin ! $ nothing ! $ join ! $ frame ! $ done !
 
-  module _ (C : Calls 𝓤 H) (Λ : Loops 𝓤 H) (fm : FmC 𝓤 H (W .laws) C) (known : Triple 𝓤 (C #best·better-record) (BetterRecord 𝓤 H A at-mem run)) where
+  module _ (C : Calls 𝓤 H) (Λ : Loops 𝓤 H) (fm : FmC 𝓤 H (W .laws) C) (known : Triple 𝓤 (C #search-best·better-record) (BetterRecord 𝓤 H A at-mem run)) where
     walk : ent 𝓤 (onEntry 𝓤 H A keep-better.signature (κ, tt) (q, tt) x at) (WpFn 𝓤 H C Λ code.function (vptr b o ∷ mach k ∷ []) Post)
     walk =
         qed W ((‵ (flft κ q) ⊛ ‵ ftrue) ∷ ‵ (owns (MutRef (named 0) κ (T.the-row) ∷ T.the-row ∷ []) x at) ∷ []) ∵ split ! $ move ! (2 ∷ []) $ fsplit ! $ fsplit3 ! $ drop ! $ move ! (0 ∷ 1 ∷ 3 ∷ []) $
@@ -121,11 +121,11 @@ module _ {M : Type 1} (𝓤 : URA M) (H : Heap 𝓤) (A : Atoms 𝓤) (W : Given
         keep ! (0 ∷ 1 ∷ 2 ∷ []) $ by ! (exits r e))))))))))))
 
 module _ {M : Type 1} (𝓤 : URA M) (H : Heap 𝓤) (A : Atoms 𝓤) (W : Given 𝓤 H A) (mem : Memory → SProp 𝓤) (run : Routine → Fun 𝓤) where
-  keep-walks : (C : Calls 𝓤 H) (Λ : Loops 𝓤 H) → FmC 𝓤 H (W .laws) C → Triple 𝓤 (C #best·better-record) (BetterRecord 𝓤 H A mem run) → Walks 𝓤 H A keep-better.ended stayed (WpFn 𝓤 H C Λ code.function) (keep-better.clauses 𝓤 H A mem run)
+  keep-walks : (C : Calls 𝓤 H) (Λ : Loops 𝓤 H) → FmC 𝓤 H (W .laws) C → Triple 𝓤 (C #search-best·better-record) (BetterRecord 𝓤 H A mem run) → Walks 𝓤 H A keep-better.ended stayed (WpFn 𝓤 H C Λ code.function) (keep-better.clauses 𝓤 H A mem run)
   keep-walks C Λ fm known = walked 𝓤 H A keep-better.ended stayed (keep-better.clauses 𝓤 H A mem run) (WpFn 𝓤 H C Λ code.function) (λ κs. (ptr-vals, (LL.vals T.the-type T′.the-laws, tt))) (λ κs. (mut-tells (named 0) (κs .0) (T.the-row), (LL.tells T.the-type T′.the-laws, tt)))
       (λ κs qs bounds a g are. via 𝓤 _ (fst∗ 𝓤 _ (emp 𝓤)) (walk 𝓤 H A W mem run (κs .0) (qs .0) (a .0 .ptr .0) (a .0 .ptr .1) (a .0 .name) (a .0 .now) (a .1 .0) (are .1 .0) C Λ fm known))
 
-keep-meets : {M : Type 1} (𝓤 : URA M) (H : Heap 𝓤) (A : Atoms 𝓤) → Given 𝓤 H A → (mem : Memory → SProp 𝓤) (run : Routine → Fun 𝓤) (𝓣 : Tables 𝓤 H) → Triple 𝓤 (𝓣 .C #best·better-record) (BetterRecord 𝓤 H A mem run)
+keep-meets : {M : Type 1} (𝓤 : URA M) (H : Heap 𝓤) (A : Atoms 𝓤) → Given 𝓤 H A → (mem : Memory → SProp 𝓤) (run : Routine → Fun 𝓤) (𝓣 : Tables 𝓤 H) → Triple 𝓤 (𝓣 .C #search-best·better-record) (BetterRecord 𝓤 H A mem run)
     → Meets 𝓤 H A keep-better.signature (WpFn 𝓤 H (𝓣 .C) (𝓣 .Λ) code.function) (keep-better.spec 𝓤 H A mem run)
 keep-meets 𝓤 H A W mem run 𝓣 known =
     walk-meets 𝓤 H A keep-better.ended stayed W (goes-ref 𝓤 H A W 1 0 tt (plain (λ _. T.the-row)), (goes-none 𝓤 H A W 1 (λ _. T.the-row) yes (λ κs x f. refl), tt)) (keep-better.clauses 𝓤 H A mem run)
@@ -135,6 +135,6 @@ pub keep-better-spec : {M : Type 1} → stated.statement M
 unfolding code.routine tablesOf
 keep-better-spec 𝓤 H 𝓜 𝓖 𝓡 =
     entered 𝓤 H (tripleOf 𝓤 H (𝓖 .A) keep-better.signature (keep-better.spec 𝓤 H (𝓖 .A) (𝓜 .mem) (𝓡 .run)))
-    (tables 𝓤 H 𝓜 𝓡 code.env .C) (tables 𝓤 H 𝓜 𝓡 code.env .Λ) #best·keep-better code.function (code.unfolded 𝓤 H 𝓜 𝓡)
+    (tables 𝓤 H 𝓜 𝓡 code.env .C) (tables 𝓤 H 𝓜 𝓡 code.env .Λ) #search-best·keep-better code.function (code.unfolded 𝓤 H 𝓜 𝓡)
     (keep-meets 𝓤 H (𝓖 .A) (givenOf 𝓤 H 𝓜 𝓖) (𝓜 .mem) (𝓡 .run) (tablesOf 𝓤 H 𝓜 (tables 𝓤 H 𝓜 𝓡 code.env))
-    (cited 𝓤 H (BetterRecord 𝓤 H (𝓖 .A) (𝓜 .mem) (𝓡 .run)) 𝓜 𝓡 code.env #best·better-record better-record-def.routine code.calls-best·better-record (better-record-thm.met 𝓤 H 𝓜 𝓖 𝓡)))
+    (cited 𝓤 H (BetterRecord 𝓤 H (𝓖 .A) (𝓜 .mem) (𝓡 .run)) 𝓜 𝓡 code.env #search-best·better-record better-record-def.routine code.calls-search-best·better-record (better-record-thm.met 𝓤 H 𝓜 𝓖 𝓡)))

@@ -45,9 +45,9 @@ use Rattle.model.proofs.Record as T
 use Rattle.model.proofs.Record.Laws as T′
 use Rattle.search_best.proofs.keep_better as keep-better
 use Rattle.search_best.proofs.keep_better.Symbol as keep-better-def
-use Rattle.search_best.proofs.keep_better.Symbol.{name as #best·keep-better}
+use Rattle.search_best.proofs.keep_better.Symbol.{name as #search-best·keep-better}
 use Rattle.search_best.proofs.keep_better.Met as keep-better-thm
-use Rattle.search_best.proofs.replaced.Key.{name as #best·replaced}
+use Rattle.search_best.proofs.replaced.Key.{name as #search-best·replaced}
 use Rattle.search_best.proofs.replaced as replaced
 use Rattle.search_best.proofs.replaced.Statement as stated
 use Rattle.search_best.proofs.replaced.Code as code
@@ -113,7 +113,7 @@ module _ {M : Type 1} (𝓤 : URA M) (H : Heap 𝓤) (A : Atoms 𝓤) (W : Given
       qed W (‵ (flft (α ∷ []) fullShare) ∷ ‵ (MutRef (named 0) (α ∷ []) T.the-row .own (lent l δ) (vptr l 0 ∷ [])) ∷ []) ∵
       nothing ! $ owned ! T.the-row (Is T.the-row) (LL.makes T.the-type T′.the-plain 𝓤 H A) k _ gk $ fjoin ! $ move ! (2 ∷ 0 ∷ []) $ fjoin ! $ nothing ! $ move ! (2 ∷ 0 ∷ []) $ join ! $ join ! $ frame ! $ done !
 
-  module _ (C : Calls 𝓤 H) (Λ : Loops 𝓤 H) (fm : FmC 𝓤 H (W .laws) C) (known : Triple 𝓤 (C #best·keep-better) (KeepBetter 𝓤 H A at-mem run)) where
+  module _ (C : Calls 𝓤 H) (Λ : Loops 𝓤 H) (fm : FmC 𝓤 H (W .laws) C) (known : Triple 𝓤 (C #search-best·keep-better) (KeepBetter 𝓤 H A at-mem run)) where
     walk : ent 𝓤 (onEntry 𝓤 H A replaced.signature tt tt x at) (WpFn 𝓤 H C Λ code.function (mach h ∷ mach k ∷ []) Post)
     walk =
         qed W (‵ ftrue ∷ ‵ (owns (T.the-row ∷ T.the-row ∷ []) x at) ∷ []) ∵ keep ! [] $
@@ -145,11 +145,11 @@ module _ {M : Type 1} (𝓤 : URA M) (H : Heap 𝓤) (A : Atoms 𝓤) (W : Given
         keep ! [] $ by ! (exits (ws .0) is e)))))))))))))))
 
 module _ {M : Type 1} (𝓤 : URA M) (H : Heap 𝓤) (A : Atoms 𝓤) (W : Given 𝓤 H A) (at-mem : Memory → SProp 𝓤) (run : Routine → Fun 𝓤) where
-  replaced-walks : (C : Calls 𝓤 H) (Λ : Loops 𝓤 H) → FmC 𝓤 H (W .laws) C → Triple 𝓤 (C #best·keep-better) (KeepBetter 𝓤 H A at-mem run) → Walks 𝓤 H A replaced.ended stayed (WpFn 𝓤 H C Λ code.function) (replaced.clauses 𝓤 H A at-mem run)
+  replaced-walks : (C : Calls 𝓤 H) (Λ : Loops 𝓤 H) → FmC 𝓤 H (W .laws) C → Triple 𝓤 (C #search-best·keep-better) (KeepBetter 𝓤 H A at-mem run) → Walks 𝓤 H A replaced.ended stayed (WpFn 𝓤 H C Λ code.function) (replaced.clauses 𝓤 H A at-mem run)
   replaced-walks C Λ fm known = walked 𝓤 H A replaced.ended stayed (replaced.clauses 𝓤 H A at-mem run) (WpFn 𝓤 H C Λ code.function) (λ κs. (LL.vals T.the-type T′.the-laws, (LL.vals T.the-type T′.the-laws, tt))) (λ κs. (LL.tells T.the-type T′.the-laws, (LL.tells T.the-type T′.the-laws, tt)))
       (λ κs qs bounds a g are. via 𝓤 _ (fst∗ 𝓤 _ (emp 𝓤)) (walk 𝓤 H A W at-mem run (a .0) (a .1 .0) (are .0) (are .1 .0) C Λ fm known))
 
-replaced-meets : {M : Type 1} (𝓤 : URA M) (H : Heap 𝓤) (A : Atoms 𝓤) → Given 𝓤 H A → (at-mem : Memory → SProp 𝓤) (run : Routine → Fun 𝓤) (𝓣 : Tables 𝓤 H) → Triple 𝓤 (𝓣 .C #best·keep-better) (KeepBetter 𝓤 H A at-mem run)
+replaced-meets : {M : Type 1} (𝓤 : URA M) (H : Heap 𝓤) (A : Atoms 𝓤) → Given 𝓤 H A → (at-mem : Memory → SProp 𝓤) (run : Routine → Fun 𝓤) (𝓣 : Tables 𝓤 H) → Triple 𝓤 (𝓣 .C #search-best·keep-better) (KeepBetter 𝓤 H A at-mem run)
     → Meets 𝓤 H A replaced.signature (WpFn 𝓤 H (𝓣 .C) (𝓣 .Λ) code.function) (replaced.spec 𝓤 H A at-mem run)
 replaced-meets 𝓤 H A W at-mem run 𝓣 known =
     walk-meets 𝓤 H A replaced.ended stayed W (goes-none 𝓤 H A W 0 (λ _. T.the-row) yes (λ κs x f. refl), (goes-none 𝓤 H A W 0 (λ _. T.the-row) yes (λ κs x f. refl), tt)) (replaced.clauses 𝓤 H A at-mem run)
@@ -159,6 +159,6 @@ pub replaced-spec : {M : Type 1} → stated.statement M
 unfolding code.routine tablesOf
 replaced-spec 𝓤 H 𝓜 𝓖 𝓡 =
     entered 𝓤 H (tripleOf 𝓤 H (𝓖 .A) replaced.signature (replaced.spec 𝓤 H (𝓖 .A) (𝓜 .mem) (𝓡 .run)))
-    (tables 𝓤 H 𝓜 𝓡 code.env .C) (tables 𝓤 H 𝓜 𝓡 code.env .Λ) #best·replaced code.function (code.unfolded 𝓤 H 𝓜 𝓡)
+    (tables 𝓤 H 𝓜 𝓡 code.env .C) (tables 𝓤 H 𝓜 𝓡 code.env .Λ) #search-best·replaced code.function (code.unfolded 𝓤 H 𝓜 𝓡)
     (replaced-meets 𝓤 H (𝓖 .A) (givenOf 𝓤 H 𝓜 𝓖) (𝓜 .mem) (𝓡 .run) (tablesOf 𝓤 H 𝓜 (tables 𝓤 H 𝓜 𝓡 code.env))
-    (cited 𝓤 H (KeepBetter 𝓤 H (𝓖 .A) (𝓜 .mem) (𝓡 .run)) 𝓜 𝓡 code.env #best·keep-better keep-better-def.routine code.calls-best·keep-better (keep-better-thm.met 𝓤 H 𝓜 𝓖 𝓡)))
+    (cited 𝓤 H (KeepBetter 𝓤 H (𝓖 .A) (𝓜 .mem) (𝓡 .run)) 𝓜 𝓡 code.env #search-best·keep-better keep-better-def.routine code.calls-search-best·keep-better (keep-better-thm.met 𝓤 H 𝓜 𝓖 𝓡)))
