@@ -16,8 +16,8 @@ pub fn test_chip(c: Chip) -> Tested
     let Tested::Refused(f) = tested else {
         return Tested::Passed;
     };
-    let mut none = [0u8; 1];
-    if TEXT_MOST < chip_print::put_chip(&mut none, 0, c) {
+    let mut scratch = [0u8; 1];
+    if TEXT_MOST < chip_print::put_chip(&mut scratch, 0, c) {
         return Tested::Refused(Refusal { no: 1, line: 0 });
     }
     Tested::Refused(f)

@@ -16,8 +16,8 @@ pub fn write_chip(c: Chip, out: &mut [u8]) -> WriteAnswer
     if let Tested::Refused(f) = tested {
         return WriteAnswer::Refused(f);
     }
-    let mut none = [0u8; 1];
-    if out.len() < chip_print::put_chip(&mut none, 0, c) {
+    let mut scratch = [0u8; 1];
+    if out.len() < chip_print::put_chip(&mut scratch, 0, c) {
         return WriteAnswer::Refused(Refusal { no: 15, line: 0 });
     }
     WriteAnswer::Text(chip_print::put_chip(out, 0, c))

@@ -61,8 +61,8 @@ fn test_lines(r: Record) -> Tested
 pub fn test_record(r: Record) -> Tested
     ensures { λ t. ⌜ testedAs (recordOf r) t ≡ readRecord (recordText (recordOf r)) ⌝ }
 {
-    let mut none = [0u8; 1];
-    if TEXT_MOST < record_print::put_record(&mut none, 0, r) {
+    let mut scratch = [0u8; 1];
+    if TEXT_MOST < record_print::put_record(&mut scratch, 0, r) {
         return Tested::Refused(Refusal { no: 1, line: 0 });
     }
     test_lines(r)

@@ -16,8 +16,8 @@ pub fn write_record(r: Record, out: &mut [u8]) -> WriteAnswer
     if let Tested::Refused(f) = tested {
         return WriteAnswer::Refused(f);
     }
-    let mut none = [0u8; 1];
-    if out.len() < record_print::put_record(&mut none, 0, r) {
+    let mut scratch = [0u8; 1];
+    if out.len() < record_print::put_record(&mut scratch, 0, r) {
         return WriteAnswer::Refused(Refusal { no: 15, line: 0 });
     }
     WriteAnswer::Text(record_print::put_record(out, 0, r))

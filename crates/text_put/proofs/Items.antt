@@ -13,7 +13,7 @@ use Rattle.text_line.specs.declared.Layout.{Layout}
 use Rattle.text_line.specs.Held.{spelled}
 use Rattle.text_line.specs.Layout.{layoutFor, valuesIn}
 use Rattle.text_line.proofs.Find.{spelled-text}
-use Rattle.text_line.proofs.Walk.{Laying}
+use Rattle.text_line.proofs.Layouts.{Laying}
 use Rattle.text_put.specs.LineText.{lineText}
 use Rattle.text_put.specs.Run.{run}
 

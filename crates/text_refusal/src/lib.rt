@@ -31,8 +31,8 @@ fn put_refusal(out: &mut [u8], at: usize, f: Refusal) -> usize
 pub fn write_refusal(f: Refusal, out: &mut [u8]) -> WriteAnswer
     ensures { λ a. ⌜ record { answer = answerOf a; buffer = now (out .exit) } ≡ ifRoom (leb (length (refusalLine (f .no) (f .line))) (length (now (out .entry)))) (refusalLine (f .no) (f .line)) (now (out .entry)) ⌝ }
 {
-    let mut none = [0u8; 1];
-    let n = put_refusal(&mut none, 0, f);
+    let mut scratch = [0u8; 1];
+    let n = put_refusal(&mut scratch, 0, f);
     if out.len() < n {
         return WriteAnswer::Refused(Refusal { no: 15, line: 0 });
     }
