@@ -1,4 +1,4 @@
-// The words of chips in code: which word some bytes spell, which word may follow which, and how a line is spelled and laid out.
+// The words of chip files in code: how each is spelled and its line laid out, which may follow which, the tests before the fields, and the tables of the walk.
 use chip_text::ChipWord;
 use model::Die;
 use model::Fix;
@@ -19,7 +19,7 @@ ghost use Rattle.chip_text.specs.Words.{spell, form, chipWords};
 ghost use Rattle.chip_text.specs.Kind.{followers, counts, room, pinned};
 ghost use Rattle.chip_words.specs.Meant.{chipSpellings, chipLayouts, chipFaults, lastOf, countsIn, chipEntry};
 
-// How many words chips have.
+// How many words chip files have.
 pub const COUNT: usize = 6;
 
 // The word of the last line, or that there was none yet.
@@ -108,7 +108,7 @@ pub fn word_at(i: usize) -> ChipWord
         ChipWord::Pin,
         ChipWord::End,
     ];
-    if 6 <= i {
+    if COUNT <= i {
         return ChipWord::Die;
     }
     all[i]

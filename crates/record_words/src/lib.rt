@@ -1,4 +1,4 @@
-// The words of records in code: which word some bytes spell, which word may follow which, and how a line is spelled and laid out.
+// The words of records in code: how each is spelled and its line laid out, which may follow which, the tests before the fields, and the tables of the walk.
 use model::Mac;
 use model::Record;
 use model::Spot;
@@ -86,7 +86,7 @@ pub fn word_at(i: usize) -> RecordWord
         RecordWord::At,
         RecordWord::Done,
     ];
-    if 4 <= i {
+    if COUNT <= i {
         return RecordWord::Least;
     }
     all[i]
