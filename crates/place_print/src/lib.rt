@@ -9,13 +9,5 @@ pub fn print_text(text: &[u8], out: &mut [u8]) -> WriteAnswer
     ensures { λ a. ⌜ record { answer = answerOf a; buffer = now (out .exit) } ≡ printText (now (text .entry)) (now (out .entry)) ⌝ }
 {
     let answer = search::service::place_text(text, out);
-    match answer {
-        WriteAnswer::Text(n) => WriteAnswer::Text(n),
-        WriteAnswer::Refused(f) => {
-            if f.no == 15 {
-                return WriteAnswer::Refused(f);
-            }
-            text_refusal::write_refusal(f, out)
-        }
-    }
+    text_refusal::show_answer(answer, out)
 }

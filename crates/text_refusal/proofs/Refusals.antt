@@ -1,6 +1,6 @@
 -- The line of a refusal: how it is written, and that it is short.
 use Prim.Native.Nat.{ℕ, _≤_, _<_, _^_}
-use mathlib.Core.Path.{_≡_}
+use mathlib.Core.Path.{_≡_, _∙_}
 use mathlib.Core.List.{List, [], _∷_, _++_}
 use native.Mathlib.Omega.{arith}
 use lib.Dec.{leb}
@@ -9,11 +9,15 @@ use Rattle.num_text.specs.Number.{digits}
 use Rattle.num_text.specs.Held.{Wrote}
 use Rattle.num_text.proofs.Wrote.{wrote-then, wrote-length}
 use Rattle.text_grammar.specs.Line.{lineFeed}
-use Rattle.text_grammar.specs.Writing.{wrote, refuse, ifRoom}
+use borrow.Author.Tests.{ne-eqb}
+use Rattle.model.specs.declared.Refusal.{Refusal}
+use Rattle.model.specs.declared.WriteAnswer.{WriteAnswer}
+use Rattle.model.specs.declared.WriteAnswer.the-variants as write
+use Rattle.text_grammar.specs.Writing.{wrote, notWritten, answerOf, refuse, ifRoom}
 use Rattle.text_grammar.proofs.Fit.{too-short, all-fits}
 use Rattle.text_grammar.proofs.Lengths.{digits-short}
 use Rattle.text_grammar.proofs.Numbers.{Numbered}
-use Rattle.text_refusal.specs.Refusal.{refusedNo, inLine, refusalLine}
+use Rattle.text_refusal.specs.Refusal.{refusedNo, inLine, refusalLine, shown}
 
 pub line-written : (n l : ℕ) (b m k a : List ℕ) (at i j r : ℕ) → length b < 2 ^ 64 → Wrote b m (refusedNo ++ digits n) at i → Wrote m k (inLine ++ digits l) i j → Wrote k a (lineFeed ∷ []) j r → Wrote b a (refusalLine n l) at r
 unfolding refusalLine
@@ -44,3 +48,15 @@ refusal-short n l h g =
     let a = digits-short n 1 (omega arith) in
     let b = digits-short l 4 (omega arith) in
     simp length-append (omega arith)
+
+-- what is shown, by the answer
+module _ (a : WriteAnswer) (b : List ℕ) where
+  pub text-shown : (n : ℕ) → a ≡ write.Text n → record { answer = wrote n; buffer = b } ≡ shown (answerOf a) b
+  text-shown n q = rw q
+
+  module _ (f : Refusal) (q : a ≡ write.Refused f) where
+    pub room-shown : f .no ≡ 15 → record { answer = notWritten (f .no) (f .line); buffer = b } ≡ shown (answerOf a) b
+    room-shown z = rw (q, z)
+
+    pub line-shown : (f .no ≡ 15 → ⊥) → (w : WriteAnswer) (m : List ℕ) → record { answer = answerOf w; buffer = m } ≡ ifRoom (leb (length (refusalLine (f .no) (f .line))) (length b)) (refusalLine (f .no) (f .line)) b → record { answer = answerOf w; buffer = m } ≡ shown (answerOf a) b
+    line-shown z w m p = p ∙ rw (q, ne-eqb (f .no) 15 z)

@@ -1,8 +1,12 @@
 -- The line of a refusal. Document 01, "The search and its record": the program prints `refused,no,4,line,1` (number, line). Lines end with LF.
 use Prim.Native.Nat.{ℕ}
+use mathlib.Core.Bool.{Bool, true, false}
 use mathlib.Core.List.{List, [], _∷_, _++_}
+use lib.Dec.{leb, eqb}
+use lib.ListN.{length}
 use Rattle.num_text.specs.Number.{digits}
 use Rattle.text_grammar.specs.Line.{lineFeed}
+use Rattle.text_grammar.specs.Writing.{Answer, wrote, notWritten, Written, refuse, ifRoom}
 
 -- `refused,no,`
 abbrev pub refusedNo : List ℕ
@@ -15,3 +19,17 @@ inLine = 44 ∷ 108 ∷ 105 ∷ 110 ∷ 101 ∷ 44 ∷ []
 -- the line of refusal number n, found in line l
 unfoldable pub refusalLine : ℕ → ℕ → List ℕ
 refusalLine n l = refusedNo ++ (digits n ++ (inLine ++ (digits l ++ (lineFeed ∷ []))))
+
+-- the line of a refusal in a lent buffer: in its first bytes, and the rest as it was; 15 where the buffer is shorter, and all of it as it was
+abbrev pub writeRefusal : ℕ → ℕ → List ℕ → Written
+writeRefusal n l out = ifRoom (leb (length (refusalLine n l)) (length out)) (refusalLine n l) out
+
+-- a refusal as it is, or its line
+abbrev pub lineUnless : Bool → ℕ → ℕ → List ℕ → Written
+lineUnless true n l out = refuse n l out
+lineUnless false n l out = writeRefusal n l out
+
+-- what is shown for an answer: the text that was written, or the line of the refusal; 15 is that of the buffer and stays
+abbrev pub shown : Answer → List ℕ → Written
+shown (wrote n) out = record { answer = wrote n; buffer = out }
+shown (notWritten n l) out = lineUnless (eqb n 15) n l out

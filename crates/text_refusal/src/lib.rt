@@ -8,7 +8,7 @@ ghost use lib.ListN.{length};
 ghost use Rattle.num_text.specs.Number.{digits};
 ghost use Rattle.num_text.specs.Held.{Wrote};
 ghost use Rattle.text_grammar.specs.Writing.{answerOf, ifRoom};
-ghost use Rattle.text_refusal.specs.Refusal.{refusalLine};
+ghost use Rattle.text_refusal.specs.Refusal.{refusalLine, shown};
 
 // Writes a mark and the decimal digits of n from `at` on, as far as the buffer goes, and answers the place after them.
 fn put_marked(out: &mut [u8], at: usize, mark: &[u8], n: u64) -> usize
@@ -28,7 +28,7 @@ fn put_refusal(out: &mut [u8], at: usize, f: Refusal) -> usize
 }
 
 // The line of a refusal: 15 where the buffer is shorter.
-pub fn write_refusal(f: Refusal, out: &mut [u8]) -> WriteAnswer
+fn write_refusal(f: Refusal, out: &mut [u8]) -> WriteAnswer
     ensures { λ a. ⌜ record { answer = answerOf a; buffer = now (out .exit) } ≡ ifRoom (leb (length (refusalLine (f .no) (f .line))) (length (now (out .entry)))) (refusalLine (f .no) (f .line)) (now (out .entry)) ⌝ }
 {
     let mut scratch = [0u8; 1];
@@ -37,4 +37,19 @@ pub fn write_refusal(f: Refusal, out: &mut [u8]) -> WriteAnswer
         return WriteAnswer::Refused(Refusal { no: 15, line: 0 });
     }
     WriteAnswer::Text(put_refusal(out, 0, f))
+}
+
+// What is shown for an answer: the text that was written, or the line of the refusal; 15 is that of the buffer and stays.
+pub fn show_answer(answer: WriteAnswer, out: &mut [u8]) -> WriteAnswer
+    ensures { λ a. ⌜ record { answer = answerOf a; buffer = now (out .exit) } ≡ shown (answerOf answer) (now (out .entry)) ⌝ }
+{
+    match answer {
+        WriteAnswer::Text(n) => WriteAnswer::Text(n),
+        WriteAnswer::Refused(f) => {
+            if f.no == 15 {
+                return WriteAnswer::Refused(f);
+            }
+            write_refusal(f, out)
+        }
+    }
 }
