@@ -63,24 +63,31 @@ fn tell(what: &[u8]) {
     os::fail(what);
 }
 
-// Writes to standard output. A write that fails, and an output that can't be closed, are told.
-fn write_out(text: &[u8]) {
+// Writes to standard output, and says whether it was written; a write that fails is told.
+fn write_out(text: &[u8]) -> bool {
     if !io::write_all(libc::STDOUT_FILENO, text) {
         tell(b"standard output");
-        return;
+        return false;
     }
+    true
+}
+
+// Closes standard output; where that fails, it is told.
+fn close_out() {
     if libc::close(libc::STDOUT_FILENO) < 0 {
         tell(b"standard output");
     }
 }
 
 // A call that is never made, by what stands under `requires`.
-fn never()
+fn never() -> bool
     requires { ⌜ ⊥ ⌝ }
-{}
+{
+    false
+}
 
-// Prints what belongs to a text. A buffer of 192 bytes is long enough for it.
-fn print(text: &[u8]) {
+// Prints what belongs to a text, and says whether it was written. A buffer of 192 bytes is long enough for it.
+fn print(text: &[u8]) -> bool {
     let mut out = [0u8; 192];
     let answer = place_print::print_text(text, &mut out);
     match answer {
@@ -90,25 +97,26 @@ fn print(text: &[u8]) {
 }
 
 // Reads a text and prints what belongs to it; nothing where a read fails. A text of 16,385 bytes is too long, so more of it is not read.
-fn place_from(fd: i32, name: &[u8]) {
+fn place_from(fd: i32, name: &[u8]) -> bool {
     let mut text = [0u8; model::TEXT_MOST + 1];
     let came = read_text(fd, &mut text);
     if came.failed {
         tell(name);
-        return;
+        return false;
     }
     let n = came.count;
-    print(&text[..n]);
+    print(&text[..n])
 }
 
-fn place_file(path: &[u8]) {
+fn place_file(path: &[u8]) -> bool {
     let fd = os::open_read(path);
     if fd < 0 {
         tell(path);
-        return;
+        return false;
     }
-    place_from(fd, path);
+    let wrote = place_from(fd, path);
     libc::close(fd);
+    wrote
 }
 
 // A file's name does not begin with `-` here; `./-name` is such a file.
@@ -127,25 +135,36 @@ fn tell_use() {
 }
 
 // With one argument, the file of that name; with none, standard input.
-pub fn run() {
+fn place_arguments() -> bool {
     let count = os::arg_count();
     if count < 2 {
-        place_from(libc::STDIN_FILENO, b"standard input");
-        return;
+        return place_from(libc::STDIN_FILENO, b"standard input");
     }
     if 2 < count {
         tell_use();
-        return;
+        return false;
     }
     let mut arg = io::buffer();
     let length = os::arg(1, &mut arg);
     if os::errno() != 0 {
         tell(b"argument");
-        return;
+        return false;
     }
     if is_option(&arg[..length]) {
         tell_use();
-        return;
+        return false;
     }
-    place_file(&arg[..length]);
+    place_file(&arg[..length])
+}
+
+// Prints what belongs to the text of a file, and leaves standard output open for more.
+pub fn print_file(path: &[u8]) {
+    place_file(path);
+}
+
+// The program: what its arguments ask, and standard output closed at the end.
+pub fn run() {
+    if place_arguments() {
+        close_out();
+    }
 }

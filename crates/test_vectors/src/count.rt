@@ -27,7 +27,7 @@ struct Pair {
 }
 
 // No sum comes near the limit.
-fn sum(a: u64, b: u64) -> u64 {
+pub(crate) fn sum(a: u64, b: u64) -> u64 {
     if a < 4611686018427387904 {
         if b < 4611686018427387904 {
             return a + b;
@@ -36,13 +36,19 @@ fn sum(a: u64, b: u64) -> u64 {
     4611686018427387904
 }
 
-// The factor is below 65,536.
-fn product(factor: u64, amount: u16) -> u64 {
-    let times = amount as u64;
-    if factor < 65536 {
-        return factor * times;
+// Both factors are below 65,536.
+pub(crate) fn product(a: u64, b: u64) -> u64 {
+    if a < 65536 {
+        if b < 65536 {
+            return a * b;
+        }
     }
     4611686018427387904
+}
+
+// A bound's length times the amount on it.
+fn carried(factor: u64, amount: u16) -> u64 {
+    product(factor, amount as u64)
 }
 
 fn no_bound() -> Slot {
@@ -344,7 +350,7 @@ fn part_sum(c: Chip, letters: &[u8], part: &[u16], vertical: bool, of_up: bool) 
     while s < part.len() {
         let at = slot_at(c, letters, s, vertical);
         let factor = if of_up { at.up } else { at.down };
-        total = sum(total, product(factor, part[s]));
+        total = sum(total, carried(factor, part[s]));
         s += 1;
     }
     total

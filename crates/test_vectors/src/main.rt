@@ -19,17 +19,22 @@
 //     print NAME ROOM                what the program prints for the text
 //     place NAME ROOM                the record of the text
 //     search NAME ROOM               the record of the chip as a value
+//     every NAME N K T W H SIDE FROM TO  small chips made by a rule: the search's records beside those found by trying every position
+mod blocks;
 mod chips;
 mod count;
+mod every;
 mod fields;
 mod fitting;
 mod measuring;
 mod reading;
 mod report;
+mod rule;
 mod searching;
 mod unfold;
 mod values;
 mod verbs;
+mod written;
 
 fn main() {
     let mut input = io::large_buffer();

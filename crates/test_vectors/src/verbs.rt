@@ -1,4 +1,5 @@
 // The lines of standard input, each by its verb.
+use crate::blocks;
 use crate::chips;
 use crate::fields::index_of;
 use crate::fields::is_at;
@@ -129,6 +130,10 @@ fn about_records(s: &[u8], text: &[u8], c: Chip) {
     }
     if is_at(s, 0, b"search") {
         searching::search(s, c);
+        return;
+    }
+    if is_at(s, 0, b"every") {
+        blocks::every(s);
         return;
     }
     io::write_all(1, b"unknown verb\n");

@@ -16,14 +16,14 @@ loop-holds c = search needs
 slot-at-requires : tie.Need-slot-at-requires Inv-loop μ-loop
 slot-at-requires c κs = search needs
 
-mul-product : tie.Need-mul-product Inv-loop μ-loop
-mul-product c = search needs
+mul-carried : tie.Need-mul-carried Inv-loop μ-loop
+mul-carried c = search needs
 
-shared-slice-read-product : tie.Need-shared-slice-read-product Inv-loop μ-loop
-shared-slice-read-product c = search needs
+shared-slice-read-carried : tie.Need-shared-slice-read-carried Inv-loop μ-loop
+shared-slice-read-carried c = search needs
 
-product-requires : tie.Need-product-requires Inv-loop μ-loop
-product-requires c κs = search needs
+carried-requires : tie.Need-carried-requires Inv-loop μ-loop
+carried-requires c κs = search needs
 
 sum-requires : tie.Need-sum-requires Inv-loop μ-loop
 sum-requires c κs = search needs
@@ -48,9 +48,9 @@ part-sum-spec =
     μ-loop
     loop-holds
     slot-at-requires
-    mul-product
-    shared-slice-read-product
-    product-requires
+    mul-carried
+    shared-slice-read-carried
+    carried-requires
     sum-requires
     add-s
     loop-less

@@ -12,5 +12,8 @@ returns c = search needs
 returns-2 : tie.Need-returns-2
 returns-2 c = search needs
 
+returns-3 : tie.Need-returns-3
+returns-3 c = search needs
+
 pub product-spec : {M : Type 1} → statement M
-product-spec = tie.close (tie.spec mul-result returns returns-2)
+product-spec = tie.close (tie.spec mul-result returns returns-2 returns-3)

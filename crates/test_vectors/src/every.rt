@@ -1,0 +1,327 @@
+// A chip solved by trying every position of every macro, in document 01's order.
+use crate::count::product;
+use crate::count::sum;
+use model::Chip;
+use model::Die;
+use model::Fix;
+use model::Mac;
+use model::Net;
+use model::Pin;
+use model::Spot;
+
+// The first of the least legal placements, and how many are as short; `whole` says that all positions were tried.
+pub(crate) struct Found {
+    pub any: bool,
+    pub length: u64,
+    pub spots: [Spot; Mac::COUNT],
+    pub count: u64,
+    pub whole: bool,
+}
+
+// Positions, or that there are no later ones.
+struct Turn {
+    over: bool,
+    spots: [Spot; Mac::COUNT],
+}
+
+// What a is above b.
+fn above(a: u64, b: u64) -> u64 {
+    if b < a {
+        return a - b;
+    }
+    0
+}
+
+// Of two boxes one is left of, right of, below or above the other.
+fn apart(a: Fix, b: Fix) -> bool {
+    if sum(a.x, a.w) <= b.x {
+        return true;
+    }
+    if sum(b.x, b.w) <= a.x {
+        return true;
+    }
+    if sum(a.y, a.h) <= b.y {
+        return true;
+    }
+    sum(b.y, b.h) <= a.y
+}
+
+fn in_die(die: Die, b: Fix) -> bool {
+    if die.w < sum(b.x, b.w) {
+        return false;
+    }
+    sum(b.y, b.h) <= die.h
+}
+
+// Whether a box is apart from each of the first count boxes.
+pub(crate) fn clear(b: Fix, boxes: [Fix; Fix::COUNT], count: usize) -> bool {
+    let mut i: usize = 0;
+    while i < Mac::COUNT {
+        if count <= i {
+            return true;
+        }
+        if !apart(b, boxes[i]) {
+            return false;
+        }
+        i += 1;
+    }
+    true
+}
+
+fn box_of(m: Mac, s: Spot) -> Fix {
+    Fix {
+        x: s.x,
+        y: s.y,
+        w: m.w,
+        h: m.h,
+    }
+}
+
+fn boxes_of(macs: [Mac; Mac::COUNT], spots: [Spot; Mac::COUNT]) -> [Fix; Fix::COUNT] {
+    let mut boxes = [Fix {
+        x: 0,
+        y: 0,
+        w: 0,
+        h: 0,
+    }; Mac::COUNT];
+    let mut i: usize = 0;
+    while i < Mac::COUNT {
+        boxes[i] = box_of(macs[i], spots[i]);
+        i += 1;
+    }
+    boxes
+}
+
+fn legal_box(
+    die: Die,
+    fixes: [Fix; Fix::COUNT],
+    k: usize,
+    boxes: [Fix; Fix::COUNT],
+    i: usize,
+) -> bool {
+    if Mac::COUNT <= i {
+        return true;
+    }
+    let b = boxes[i];
+    if !in_die(die, b) {
+        return false;
+    }
+    if !clear(b, fixes, k) {
+        return false;
+    }
+    clear(b, boxes, i)
+}
+
+fn legal_boxes(
+    die: Die,
+    fixes: [Fix; Fix::COUNT],
+    k: usize,
+    boxes: [Fix; Fix::COUNT],
+    n: usize,
+) -> bool {
+    let mut i: usize = 0;
+    while i < Mac::COUNT {
+        if n <= i {
+            return true;
+        }
+        if !legal_box(die, fixes, k, boxes, i) {
+            return false;
+        }
+        i += 1;
+    }
+    true
+}
+
+fn legal(c: Chip, spots: [Spot; Mac::COUNT]) -> bool {
+    let die = c.die;
+    let fixes = c.fixes;
+    let macs = c.macs;
+    legal_boxes(die, fixes, c.k, boxes_of(macs, spots), c.n)
+}
+
+// Where a pin lies, 4,096 higher.
+fn place_of(spots: [Spot; Mac::COUNT], p: Pin) -> Spot {
+    let m = p.m;
+    if m == 0 {
+        return Spot { x: p.xup, y: p.yup };
+    }
+    if Mac::COUNT < m {
+        return Spot { x: p.xup, y: p.yup };
+    }
+    let s = spots[m - 1];
+    Spot {
+        x: sum(s.x, p.xup),
+        y: sum(s.y, p.yup),
+    }
+}
+
+pub(crate) fn lesser(a: u64, b: u64) -> u64 {
+    if a < b {
+        return a;
+    }
+    b
+}
+
+fn greater(a: u64, b: u64) -> u64 {
+    if a < b {
+        return b;
+    }
+    a
+}
+
+// The least and the greatest coordinates of some pins.
+struct Extent {
+    least: Spot,
+    most: Spot,
+}
+
+fn wider(e: Extent, p: Spot) -> Extent {
+    let least = e.least;
+    let most = e.most;
+    Extent {
+        least: Spot {
+            x: lesser(least.x, p.x),
+            y: lesser(least.y, p.y),
+        },
+        most: Spot {
+            x: greater(most.x, p.x),
+            y: greater(most.y, p.y),
+        },
+    }
+}
+
+// Greatest less least x, plus greatest less least y, of count pins from `from` on.
+fn half_perimeter(
+    spots: [Spot; Mac::COUNT],
+    pins: [Pin; Pin::COUNT],
+    from: usize,
+    count: usize,
+) -> u64 {
+    let mut e = Extent {
+        least: Spot { x: 65535, y: 65535 },
+        most: Spot { x: 0, y: 0 },
+    };
+    let mut i: usize = 0;
+    while i < Pin::COUNT {
+        if from <= i {
+            if i - from < count {
+                e = wider(e, place_of(spots, pins[i]));
+            }
+        }
+        i += 1;
+    }
+    sum(above(e.most.x, e.least.x), above(e.most.y, e.least.y))
+}
+
+// The place after a net's pins.
+fn after(from: usize, net: Net) -> usize {
+    if from <= Pin::COUNT {
+        if net.pins <= Pin::COUNT {
+            return from + net.pins;
+        }
+    }
+    Pin::COUNT
+}
+
+fn length_of(c: Chip, spots: [Spot; Mac::COUNT]) -> u64 {
+    let nets = c.nets;
+    let pins = c.pins;
+    let t = c.t;
+    let mut total: u64 = 0;
+    let mut from: usize = 0;
+    let mut j: usize = 0;
+    while j < Net::COUNT {
+        if t <= j {
+            return total;
+        }
+        let net = nets[j];
+        let half = half_perimeter(spots, pins, from, net.pins);
+        total = sum(total, product(net.weight, half));
+        from = after(from, net);
+        j += 1;
+    }
+    total
+}
+
+// The positions that come next: the last macro's y first, up to the die's sides.
+fn next(spots: [Spot; Mac::COUNT], n: usize, die: Die) -> Turn {
+    let mut spots = spots;
+    let mut i: usize = Mac::COUNT;
+    while 0 < i {
+        i -= 1;
+        if i < n {
+            let s = spots[i];
+            if s.y < die.h {
+                spots[i] = Spot { x: s.x, y: s.y + 1 };
+                return Turn { over: false, spots };
+            }
+            if s.x < die.w {
+                spots[i] = Spot { x: s.x + 1, y: 0 };
+                return Turn { over: false, spots };
+            }
+            spots[i] = Spot { x: 0, y: 0 };
+        }
+    }
+    Turn { over: true, spots }
+}
+
+fn nothing() -> Found {
+    Found {
+        any: false,
+        length: 0,
+        spots: [Spot { x: 0, y: 0 }; Mac::COUNT],
+        count: 0,
+        whole: true,
+    }
+}
+
+fn first(spots: [Spot; Mac::COUNT], length: u64) -> Found {
+    Found {
+        any: true,
+        length,
+        spots,
+        count: 1,
+        whole: true,
+    }
+}
+
+// With one legal placement more, which comes later.
+fn with_legal(found: Found, spots: [Spot; Mac::COUNT], length: u64) -> Found {
+    if !found.any {
+        return first(spots, length);
+    }
+    if length < found.length {
+        return first(spots, length);
+    }
+    let mut found = found;
+    if length == found.length {
+        found.count = sum(found.count, 1);
+    }
+    found
+}
+
+fn tried(c: Chip, spots: [Spot; Mac::COUNT], found: Found) -> Found {
+    if !legal(c, spots) {
+        return found;
+    }
+    with_legal(found, spots, length_of(c, spots))
+}
+
+// Tries every position of every macro, up to a million placements.
+pub(crate) fn try_every(c: Chip) -> Found {
+    let die = c.die;
+    let mut found = nothing();
+    let mut spots = [Spot { x: 0, y: 0 }; Mac::COUNT];
+    let mut i: usize = 0;
+    while i < 1000000 {
+        found = tried(c, spots, found);
+        let turn = next(spots, c.n, die);
+        if turn.over {
+            return found;
+        }
+        spots = turn.spots;
+        i += 1;
+    }
+    found.whole = false;
+    found
+}
