@@ -5,9 +5,10 @@ use mathlib.Core.Bool.{Bool, true, false}
 use Prim.{Unit, tt}
 use mathlib.Core.List.{List, [], _∷_, _++_}
 use native.Mathlib.Omega.{arith}
-use lib.Dec.{eqb, leb}
-use lib.ListN.{length, take}
-use borrow.Author.Tests.{le-leb, lt-leb}
+use lib.Dec.{eqb, leb, ltb}
+use lib.ListN.{length, take, drop}
+use lib.Seq.{sets, sets-eq}
+use borrow.Author.Tests.{le-leb, lt-leb, ltb-true, ltb-false}
 use Rattle.model.specs.declared.Chip.{Chip as HeldChip}
 use Rattle.model.specs.declared.Refusal.{Refusal}
 use Rattle.model.specs.declared.Spot.{Spot}
@@ -17,6 +18,7 @@ use Rattle.refusals.proofs.FirstFailed.{passes-last}
 use Rattle.text_grammar.specs.Reading.{Reading, accepted, refused}
 use Rattle.chip_text.specs.Text.{readChip}
 use Rattle.chip_text.specs.Passed.{Passed}
+use Rattle.placement.specs.Order.{keys}
 use Rattle.placement.specs.Least.{Best, nothing, found, fitOf}
 use Rattle.fit_slots.specs.Fit.{Fit, refusedBy, noFit, placed, areLetters, lettersOf, letterCount, slotCount, bestFit, fitTests, fitChip, fitLetters, Filled}
 use Rattle.search_branches.proofs.Betters.{Sized}
@@ -27,10 +29,11 @@ use Rattle.fit.specs.declared.FitOutcome.the-variants as outcome
 use Rattle.fit.specs.declared.FitAnswer.{FitAnswer}
 use Rattle.fit.specs.Answer.{outcomeOf, positionsOf, answerFor}
 use Rattle.fit.proofs.Outcomes.{take-padded, is-placed, is-none, is-refused}
+use Rattle.host_lists.proofs.Numbers.{length-keys}
 use Rattle.host_codes.specs.declared.Code.{Code}
 use Rattle.host_codes.specs.Code.{code, refused as refusedCode, ofFit, ofOutcome}
-use Rattle.host_codes.specs.Lists.{numbersOf}
-use Rattle.host_fit.specs.FitText.{over, fitRead, placesAfter, FitDone, Refusing}
+use Rattle.host_fit.specs.FitText.{over, fitRead, placesAfter, FitDone}
+use Rattle.host_fit.specs.Refusing.{Refusing}
 
 outcome-fit : (f : Fit) → ofOutcome (outcomeOf f) ≡ ofFit f
 outcome-fit (refusedBy number line) = refl
@@ -157,8 +160,8 @@ module _ (c : HeldChip) (ok : Passed c) (s : List ℕ) where
     coded : (o : FitOutcome) → a .outcome ≡ o → r ≡ code (ofOutcome o) → r ≡ code (ofFit F)
     coded o k e = e ∙ (ap (λ (t : FitOutcome). code (ofOutcome t)) (sym k ∙ outcome-is) ∙ ap code (outcome-fit F))
 
-    pub long-placed : (f : Fitted) → a .outcome ≡ outcome.Placed f → r ≡ code (ofOutcome (outcome.Placed f)) → (placesThen : List ℕ) → placesThen ≡ over (numbersOf (take (c .n) (a .spots))) places → FitDone (accepted C) s r slots slotsAfter places placesThen
-    long-placed f k e placesThen p = done-by placesThen (coded (outcome.Placed f) k e) (p ∙ (ap (λ (t : List Spot). over (numbersOf t) places) spots ∙ ap (λ (g : Fit). placesAfter g places) (sym is)))
+    pub long-placed : (f : Fitted) → a .outcome ≡ outcome.Placed f → r ≡ code (ofOutcome (outcome.Placed f)) → (placesThen : List ℕ) → placesThen ≡ sets places 0 (keys (take (c .n) (a .spots))) → FitDone (accepted C) s r slots slotsAfter places placesThen
+    long-placed f k e placesThen p = done-by placesThen (coded (outcome.Placed f) k e) (p ∙ (ap (λ (t : List Spot). sets places 0 (keys t)) spots ∙ (front ∙ ap (λ (g : Fit). placesAfter g places) (sym is))))
       where
         is : F ≡ placed (f .length) (f .slots) (positionsOf F)
         is = is-placed (a .outcome) F outcome-is f k
@@ -169,11 +172,28 @@ module _ (c : HeldChip) (ok : Passed c) (s : List ℕ) where
         spots : take (c .n) (a .spots) ≡ positionsOf F
         spots = ap (λ (t : FitAnswer). take (c .n) (t .spots)) q ∙ take-padded (c .n) (positionsOf F) sized
 
+        -- the numbers stand at the front of the list, which is long enough
+        front : sets places 0 (keys (positionsOf F)) ≡ over (keys (positionsOf F)) places
+        front =
+            let N : List ℕ = keys (positionsOf F) in
+            let k = length-keys (positionsOf F) in
+            let m = sized in
+            let z : 0 + length N ≡ length N = omega arith in
+            sets-eq N places 0 (omega arith) ∙ ap (λ (i : ℕ). N ++ drop i places) z
+
     pub long-none : a .outcome ≡ outcome.NoFit → r ≡ code (ofOutcome outcome.NoFit) → FitDone (accepted C) s r slots slotsAfter places places
     long-none k e = done-by places (coded outcome.NoFit k e) (ap (λ (f : Fit). placesAfter f places) (sym (is-none (a .outcome) F outcome-is k)))
 
     pub long-refused : (f : Refusal) → a .outcome ≡ outcome.Refused f → r ≡ code (refusedCode (f .no) (f .line)) → FitDone (accepted C) s r slots slotsAfter places places
     long-refused f k e = done-by places (coded (outcome.Refused f) k e) (ap (λ (g : Fit). placesAfter g places) (sym (is-refused (a .outcome) F outcome-is f k)))
+
+module _ (room n : ℕ) (b : Bool) (q : b ≡ ltb room (2 * n)) where
+  -- the test of the list's length
+  pub is-less : b ≡ true → room < n + n
+  is-less t = let h = ltb-true room (2 * n) (sym q ∙ t) in omega arith
+
+  pub is-enough : b ≡ false → n + n ≤ room
+  is-enough t = let h = ltb-false room (2 * n) (sym q ∙ t) in omega arith
 
 pub refused-done : (c : HeldChip) (s : List ℕ) (room : ℕ) (r : Code) → Refusing c s room r → room < c .n + c .n → (slots places : List ℕ) → room ≡ length places → FitDone (accepted (chipOf c)) s r slots slots places places
 refused-done c s room r d l slots places e = d .done l slots places (sym e)

@@ -1,2 +1,1 @@
-pub mod CornersStored
 pub mod FitDone

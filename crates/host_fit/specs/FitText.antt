@@ -1,19 +1,18 @@
 -- What a fit answers and leaves in the two lent lists, over the bytes and numbers that a host hands over.
-use Prim.Native.Nat.{ℕ, _+_, _*_, _<_}
+use Prim.Native.Nat.{ℕ, _*_}
 use mathlib.Core.Path.{_≡_}
 use mathlib.Core.List.{List, [], _∷_, _++_}
 use lib.Dec.{leb}
 use lib.ListN.{length, drop}
-use Rattle.model.specs.declared.Chip.{Chip as HeldChip}
-use Rattle.model.specs.Meaning.{Chip, chipOf}
+use Rattle.model.specs.Meaning.{Chip}
 use Rattle.refusals.specs.Tests.{test, firstFailed, unlessFailed}
 use Rattle.text_grammar.specs.Reading.{Reading, accepted, refused}
 use Rattle.chip_text.specs.Text.{readChip}
+use Rattle.placement.specs.Order.{keys}
 use Rattle.placement.specs.Least.{fitOf}
 use Rattle.fit_slots.specs.Fit.{Fit, refusedBy, noFit, placed, lettersOf, slotCount, bestFit, fitTests, Filled}
 use Rattle.host_codes.specs.declared.Code.{Code}
 use Rattle.host_codes.specs.Code.{code, ofFit}
-use Rattle.host_codes.specs.Lists.{numbersOf}
 
 -- the text is read first; then the tests of a fit, the last being 15 for the slots, and 15 for the positions, by the lengths of the two lists
 abbrev pub fitRead : Reading Chip → List ℕ → ℕ → ℕ → Fit
@@ -36,7 +35,7 @@ over xs before = xs ++ drop (length xs) before
 
 -- the list of positions: the corners of a placement, and the rest as it was
 abbrev pub placesAfter : Fit → List ℕ → List ℕ
-placesAfter (placed wl slots ps) before = over (numbersOf ps) before
+placesAfter (placed wl slots ps) before = over (keys ps) before
 placesAfter noFit before = before
 placesAfter (refusedBy number line) before = before
 
@@ -45,7 +44,3 @@ pub record FitDone (read : Reading Chip) (s : List ℕ) (r : Code) (slots slotsA
   pub answer : r ≡ code (ofFit (fitRead read s (length slots) (length places)))
   pub filled : SlotsFilled read s (fitRead read s (length slots) (length places)) slots slotsAfter
   pub corners : placesThen ≡ placesAfter (fitRead read s (length slots) (length places)) places
-
--- the answer where the list of positions is too short: a refusal, whatever list of slots is lent
-pub record Refusing (c : HeldChip) (s : List ℕ) (room : ℕ) (r : Code) : Type 0 where
-  pub done : room < c .n + c .n → (slots places : List ℕ) → length places ≡ room → FitDone (accepted (chipOf c)) s r slots slots places places

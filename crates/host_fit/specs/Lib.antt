@@ -1,1 +1,2 @@
 pub mod FitText
+pub mod Refusing

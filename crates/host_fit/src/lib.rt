@@ -4,33 +4,17 @@ use fit::FitOutcome;
 use host_codes::Code;
 use host_codes::fit_code;
 use host_codes::refusal_code;
+use host_lists::is_short;
+use host_lists::put_corners;
 use model::Chip;
-use model::Mac;
-use model::Spot;
-ghost use mathlib.Core.Path.{_≡_};
 ghost use Prim.Native.Nat.{_+_, _≤_};
-ghost use lib.ListN.{length, take};
+ghost use lib.ListN.{length};
 ghost use Rattle.model.specs.Meaning.{chipOf};
 ghost use Rattle.text_grammar.specs.Reading.{accepted};
 ghost use Rattle.chip_text.specs.Text.{readChip};
 ghost use Rattle.chip_text.specs.Passed.{Passed};
-ghost use Rattle.host_codes.specs.Lists.{numbersOf};
-ghost use Rattle.host_fit.specs.FitText.{over, FitDone, Refusing};
-
-// The first n corners as numbers x1, y1, x2, y2 ..
-fn put_corners(list: &mut [u64], spots: [Spot; Mac::COUNT], n: usize)
-    requires { ⌜ n ≤ 8 ⌝ }
-    requires { ⌜ n + n ≤ length (now list) ⌝ }
-    ensures { λ _. ⌜ now (list .exit) ≡ over (numbersOf (take n spots)) (now (list .entry)) ⌝ }
-{
-    let mut i: usize = 0;
-    while i < n {
-        let p = spots[i];
-        list[i + i] = p.x;
-        list[i + i + 1] = p.y;
-        i += 1;
-    }
-}
+ghost use Rattle.host_fit.specs.FitText.{FitDone};
+ghost use Rattle.host_fit.specs.Refusing.{Refusing};
 
 // The refusal where the list of positions is too short: with one slot lent, no fit of a macro is made, so 11, 12 or 15 is answered.
 fn short_code(c: Chip, letters: &[u8], room: usize) -> Code
@@ -70,7 +54,7 @@ fn fit_chip(c: Chip, letters: &[u8], slots: &mut [u16], positions: &mut [u64]) -
 {
     let n = c.n;
     let room = positions.len();
-    if room < n + n {
+    if is_short(room, n) {
         return short_code(c, letters, room);
     }
     long_code(c, letters, slots, positions)

@@ -7,22 +7,22 @@ use native.Mathlib.Omega.{arith}
 use lib.ListN.{length, getD, take, set, length-set}
 use lib.Seq.{take-suc, take-suc-set, take-all}
 use Rattle.model.specs.declared.Spot.{Spot}
-use Rattle.host_codes.specs.Lists.{numbersOf}
-use Rattle.host_codes.proofs.Numbers.{numbers-snoc}
+use Rattle.placement.specs.Order.{keys}
+use Rattle.host_lists.proofs.Numbers.{keys-snoc}
 use Rattle.host_measure.specs.MeasureText.{cornersOf}
 
-corners-numbers : (ps : List Spot) → cornersOf (numbersOf ps) ≡ ps
-unfolding cornersOf numbersOf
-corners-numbers [] = refl
-corners-numbers (p ∷ ps) = ap (λ (t : List Spot). p ∷ t) (corners-numbers ps)
+corners-keys : (ps : List Spot) → cornersOf (keys ps) ≡ ps
+unfolding cornersOf keys
+corners-keys [] = refl
+corners-keys (p ∷ ps) = ap (λ (t : List Spot). p ∷ t) (corners-keys ps)
 
 -- the first i corners are the first numbers of the list
 pub record CornersTo (list : List ℕ) (spots : List Spot) (i : ℕ) : Type 0 where
   pub long : length spots ≡ 8
-  pub are : numbersOf (take i spots) ≡ take (i + i) list
+  pub are : keys (take i spots) ≡ take (i + i) list
 
 pub corners-none : (list : List ℕ) (spots : List Spot) → length spots ≡ 8 → CornersTo list spots 0
-unfolding numbersOf
+unfolding keys
 corners-none list spots l = record { long = l; are = refl }
 
 module _ (list : List ℕ) (n : ℕ) (e : length list ≡ n + n) where
@@ -42,14 +42,14 @@ module _ (list : List ℕ) (n : ℕ) (e : length list ≡ n + n) where
       let l = s .long in
       record {
         long = length-set spots i v ∙ l;
-        are = ap (λ (k : ℕ). numbersOf (take k (set spots i v))) (add-one i)
-            ∙ (ap numbersOf (take-suc-set spots i v (omega arith))
-            ∙ (numbers-snoc (take i spots) v
+        are = ap (λ (k : ℕ). keys (take k (set spots i v))) (add-one i)
+            ∙ (ap keys (take-suc-set spots i v (omega arith))
+            ∙ (keys-snoc (take i spots) v
             ∙ (ap (λ (t : List ℕ). t ++ (v .x ∷ v .y ∷ [])) (s .are) ∙ sym (two-more i h))));
       }
 
   pub corners-all : (spots : List Spot) (i : ℕ) → i ≤ n → n ≤ i → CornersTo list spots i → take n spots ≡ cornersOf list
   corners-all spots i h o s =
       let q : i ≡ n = omega arith in
-      sym (corners-numbers (take n spots))
-      ∙ ap cornersOf (ap (λ (k : ℕ). numbersOf (take k spots)) (sym q) ∙ (s .are ∙ (ap (λ (k : ℕ). take (k + k) list) q ∙ take-all (n + n) list (omega arith))))
+      sym (corners-keys (take n spots))
+      ∙ ap cornersOf (ap (λ (k : ℕ). keys (take k spots)) (sym q) ∙ (s .are ∙ (ap (λ (k : ℕ). take (k + k) list) q ∙ take-all (n + n) list (omega arith))))

@@ -1,16 +1,18 @@
 -- From the reading of a chip text to what measuring answers, in the form of the needs.
 use Prim.Native.Nat.{ℕ, _+_, _*_}
 use mathlib.Core.Path.{_≡_, sym, ap, _∙_}
-use mathlib.Core.List.{List}
+use mathlib.Core.List.{List, [], _∷_}
 use native.Mathlib.Omega.{arith}
 use lib.ListN.{length, take}
-use borrow.Author.Tests.{eq-eqb, ne-eqb}
+use lib.Dec.{eqb}
+use borrow.Author.Tests.{eqb-true}
 use Rattle.model.specs.declared.Chip.{Chip as HeldChip}
 use Rattle.model.specs.declared.Refusal.{Refusal}
 use Rattle.model.specs.declared.Spot.{Spot}
 use Rattle.model.specs.Meaning.{Chip, chipOf, firstOf, blankSpot}
 use Rattle.model.proofs.FirstOf.{first-take}
-use Rattle.refusals.specs.Tests.{firstFailed}
+use Rattle.refusals.specs.Tests.{test, firstFailed}
+use Rattle.refusals.proofs.FirstFailed.{first-passes, number-refused, number-none}
 use Rattle.text_grammar.specs.Reading.{Reading, accepted, refused}
 use Rattle.chip_text.specs.Text.{readChip}
 use Rattle.chip_text.specs.Passed.{Passed}
@@ -19,22 +21,24 @@ use Rattle.host_codes.specs.declared.Code.{Code}
 use Rattle.host_codes.specs.Code.{code, refused as refusedCode, ofMeasure}
 use Rattle.host_measure.specs.MeasureText.{cornersOf, measureRead, measureText}
 
-module _ (c : HeldChip) (ok : Passed c) (list : List ℕ) where
-  twice : c .n + c .n ≡ 2 * length (chipOf c .macs)
-  twice = let e = ok .macs in omega arith
+module _ (c : HeldChip) (ok : Passed c) (list : List ℕ) (no : ℕ) (q : no ≡ firstFailed (test 13 (eqb (length list) (2 * c .n)) ∷ [])) where
+  -- the number of the chip's macros
+  here : no ≡ firstFailed (test 13 (eqb (length list) (2 * length (chipOf c .macs))) ∷ [])
+  here = q ∙ ap (λ (m : ℕ). firstFailed (test 13 (eqb (length list) (2 * m)) ∷ [])) (sym (ok .macs))
 
   -- not two numbers for each macro
-  pub wrong-count : (length list ≡ c .n + c .n → ⊥) → notMeasured 13 0 ≡ measureRead (accepted (chipOf c)) list
-  unfolding firstFailed
-  wrong-count o = rw (ne-eqb (length list) (2 * length (chipOf c .macs)) (λ e. o (e ∙ sym twice)))
+  pub wrong-count : (no ≡ 0 → ⊥) → notMeasured no 0 ≡ measureRead (accepted (chipOf c)) list
+  wrong-count h = rw (← here) (number-refused notMeasured (measurePassed (chipOf c) (cornersOf list)) no h)
 
-  pub two-each : length list ≡ c .n + c .n → (spots : List Spot) → length spots ≡ 8 → take (c .n) spots ≡ cornersOf list → (m : Measure) → m ≡ measurePositions (chipOf c) (firstOf blankSpot (c .n) spots) → m ≡ measureRead (accepted (chipOf c)) list
-  unfolding firstFailed
-  two-each e spots l are m q =
+  pub two-each : no ≡ 0 → length list ≡ c .n + c .n
+  two-each z = let e = eqb-true (length list) (2 * c .n) (first-passes 12 [] (eqb (length list) (2 * c .n)) (sym q ∙ z)) in omega arith
+
+  pub right-count : no ≡ 0 → (spots : List Spot) → length spots ≡ 8 → take (c .n) spots ≡ cornersOf list → (m : Measure) → m ≡ measurePositions (chipOf c) (firstOf blankSpot (c .n) spots) → m ≡ measureRead (accepted (chipOf c)) list
+  right-count z spots l are m e =
       let few = ok .fine .macCount in
-      q ∙ (ap (λ (t : Reading Chip). afterReading t (measurePassed (chipOf c) (firstOf blankSpot (c .n) spots))) (sym (ok .read))
+      e ∙ (ap (λ (t : Reading Chip). afterReading t (measurePassed (chipOf c) (firstOf blankSpot (c .n) spots))) (sym (ok .read))
       ∙ (ap (measurePassed (chipOf c)) (first-take blankSpot (c .n) spots (omega arith) ∙ are)
-      ∙ sym (rw (eq-eqb (length list) (2 * length (chipOf c .macs)) (e ∙ twice)))))
+      ∙ rw (← here) (number-none notMeasured (measurePassed (chipOf c) (cornersOf list)) no z)))
 
 module _ (text list : List ℕ) where
   pub measure-read : (c : HeldChip) (m : Measure) (r : Code) → readChip text ≡ accepted (chipOf c) → m ≡ measureRead (accepted (chipOf c)) list → r ≡ code (ofMeasure m) → r ≡ code (ofMeasure (measureText text list))

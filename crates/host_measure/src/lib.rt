@@ -3,6 +3,7 @@ use chip_read::ChipAnswer;
 use host_codes::Code;
 use host_codes::measure_code;
 use host_codes::refusal_code;
+use host_lists::count_fault;
 use measure::MeasureAnswer;
 use model::Chip;
 use model::Mac;
@@ -42,8 +43,9 @@ fn measure_chip(c: Chip, list: &[u64]) -> MeasureAnswer
     ensures { λ r. ⌜ measuredAs r ≡ measureRead (accepted (chipOf c)) (now (list .entry)) ⌝ }
 {
     let n = c.n;
-    if list.len() != n + n {
-        return MeasureAnswer::Refused(Refusal { no: 13, line: 0 });
+    let no = count_fault(list.len(), n);
+    if no != 0 {
+        return MeasureAnswer::Refused(Refusal { no, line: 0 });
     }
     measure_list::measure_spots(c, n, corners(list, n))
 }

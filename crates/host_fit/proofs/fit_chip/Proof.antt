@@ -1,19 +1,19 @@
-use Rattle.host_fit.proofs.FitDone.{refused-done}
+use Rattle.host_fit.proofs.FitDone.{is-less, is-enough, refused-done}
 use borrow.Author.Needs.{needs}
 use Rattle.host_fit.proofs.fit_chip.Statement.{statement}
 use Rattle.host_fit.proofs.fit_chip.Tie as tie
 
-add-if1 : tie.Need-add-if1
-add-if1 c = search needs
+is-short-requires : tie.Need-is-short-requires
+is-short-requires c κs = search needs
 
 short-code-requires : tie.Need-short-code-requires
 short-code-requires c κs = search needs
 
 returns : tie.Need-returns
-returns c = search (needs, refused-done)
+returns c = search (needs, refused-done, is-less)
 
 long-code-requires : tie.Need-long-code-requires
-long-code-requires c κs = search needs
+long-code-requires c κs = (search needs, search (needs, is-enough))
 
 same-length : tie.Need-same-length
 same-length c = search needs
@@ -28,7 +28,7 @@ pub fit-chip-spec : {M : Type 1} → statement M
 fit-chip-spec =
     tie.close
     (tie.spec
-    add-if1
+    is-short-requires
     short-code-requires
     returns
     long-code-requires
