@@ -17,14 +17,11 @@ use Rattle.record_read.specs.Answer.{meant as meantRec}
 use Rattle.measure.specs.declared.MeasureAnswer.{MeasureAnswer}
 use Rattle.measure.specs.declared.MeasureAnswer.the-variants as measured
 use Rattle.measure.specs.Measuring.{measured as measuredAt, measuredAs}
-use Rattle.fit.specs.declared.Fitted.{Fitted}
-use Rattle.fit.specs.declared.FitOutcome.{FitOutcome}
-use Rattle.fit.specs.declared.FitOutcome.the-variants as outcome
 use Rattle.host_codes.specs.declared.Code.{Code}
-use Rattle.host_codes.specs.Code.{Outcome, granted, denied, refused, code, ofReading, ofAnswer, ofMeasure, ofOutcome}
+use Rattle.host_codes.specs.Code.{Outcome, granted, denied, refused, code, ofReading, ofAnswer, ofMeasure}
 
 -- an answer of any type that is encoded by f: the code of the case that it is
-coded : {A : Type 0} (f : A → Outcome) (a b : A) → a ≡ b → (r : Code) → r ≡ code (f b) → r ≡ code (f a)
+pub coded : {A : Type 0} (f : A → Outcome) (a b : A) → a ≡ b → (r : Code) → r ≡ code (f b) → r ≡ code (f a)
 coded f a b e r q = q ∙ ap (λ t. code (f t)) (sym e)
 
 module _ (c : HeldChip) (a : ChipAnswer) (r : Code) where
@@ -61,13 +58,3 @@ module _ (a : MeasureAnswer) (r : Code) where
 
   pub measure-refused : (f : Refusal) → a ≡ measured.Refused f → r ≡ code (refused (f .no) (f .line)) → r ≡ code (ofMeasure (measuredAs a))
   measure-refused f e q = coded (λ (t : MeasureAnswer). ofMeasure (measuredAs t)) a (measured.Refused f) e r q
-
-module _ (o : FitOutcome) (r : Code) where
-  pub fit-placed : (f : Fitted) → o ≡ outcome.Placed f → r ≡ code (granted (f .length)) → r ≡ code (ofOutcome o)
-  fit-placed f e q = coded ofOutcome o (outcome.Placed f) e r q
-
-  pub fit-none : o ≡ outcome.NoFit → r ≡ code (denied 0) → r ≡ code (ofOutcome o)
-  fit-none e q = coded ofOutcome o outcome.NoFit e r q
-
-  pub fit-refused : (f : Refusal) → o ≡ outcome.Refused f → r ≡ code (refused (f .no) (f .line)) → r ≡ code (ofOutcome o)
-  fit-refused f e q = coded ofOutcome o (outcome.Refused f) e r q

@@ -5,8 +5,6 @@ use Rattle.text_grammar.specs.Reading.{Reading, accepted, refused as notRead}
 use Rattle.text_grammar.specs.Writing.{Answer, wrote, notWritten}
 use Rattle.measure.specs.Measuring.{Measure, measured, refused as notMeasured}
 use Rattle.fit_slots.specs.Fit.{Fit, refusedBy, noFit, placed}
-use Rattle.fit.specs.declared.FitOutcome.{FitOutcome}
-use Rattle.fit.specs.declared.FitOutcome.the-variants as outcome
 use Rattle.host_codes.specs.declared.Code.{Code}
 
 -- what there is to say: yes or no, with a value, or a refusal with its number and line
@@ -42,9 +40,3 @@ abbrev pub ofFit : Fit → Outcome
 ofFit (placed wl slots ps) = granted wl
 ofFit noFit = denied 0
 ofFit (refusedBy number line) = refused number line
-
--- document 01's number and values for each case of the program's answer of a fit
-abbrev pub ofOutcome : FitOutcome → Outcome
-ofOutcome (outcome.Placed f) = granted (f .length)
-ofOutcome outcome.NoFit = denied 0
-ofOutcome (outcome.Refused f) = refused (f .no) (f .line)

@@ -1,7 +1,6 @@
 // The one encoding of answers: a number, and a value beside it.
 use chip_read::ChipAnswer;
 use chip_read::ChipRead;
-use fit::FitOutcome;
 use measure::MeasureAnswer;
 use model::Refusal;
 use model::WriteAnswer;
@@ -12,7 +11,7 @@ ghost use Rattle.text_grammar.specs.Writing.{answerOf};
 ghost use Rattle.chip_read.specs.Answer.{meantChip};
 ghost use Rattle.record_read.specs.Answer.{meantRecord};
 ghost use Rattle.measure.specs.Measuring.{measured, measuredAs};
-ghost use Rattle.host_codes.specs.Code.{code, refused, ofReading, ofAnswer, ofMeasure, ofOutcome};
+ghost use Rattle.host_codes.specs.Code.{code, refused, ofReading, ofAnswer, ofMeasure};
 
 // What an exported function answers.
 pub struct Code {
@@ -21,9 +20,9 @@ pub struct Code {
 }
 
 // The numbers that are no refusal.
-const YES: u64 = 0;
+pub const YES: u64 = 0;
 
-const NO: u64 = 255;
+pub const NO: u64 = 255;
 
 // Document 01's number and line.
 pub fn refusal_code(f: Refusal) -> Code
@@ -95,21 +94,5 @@ pub fn measure_code(answer: MeasureAnswer) -> Code
     match answer {
         MeasureAnswer::Measured(legal, wl) => legal_code(legal, wl),
         MeasureAnswer::Refused(f) => refusal_code(f),
-    }
-}
-
-pub fn fit_code(outcome: FitOutcome) -> Code
-    ensures { λ r. ⌜ r ≡ code (ofOutcome outcome) ⌝ }
-{
-    match outcome {
-        FitOutcome::Placed(f) => Code {
-            number: YES,
-            value: f.length,
-        },
-        FitOutcome::NoFit => Code {
-            number: NO,
-            value: 0,
-        },
-        FitOutcome::Refused(f) => refusal_code(f),
     }
 }

@@ -31,8 +31,8 @@ use Rattle.fit.specs.Answer.{outcomeOf, positionsOf, answerFor}
 use Rattle.fit.proofs.Outcomes.{take-padded, is-placed, is-none, is-refused}
 use Rattle.host_lists.proofs.Numbers.{length-keys}
 use Rattle.host_codes.specs.declared.Code.{Code}
-use Rattle.host_codes.specs.Code.{code, refused as refusedCode, ofFit, ofOutcome}
-use Rattle.host_fit.specs.FitText.{over, fitRead, placesAfter, FitDone}
+use Rattle.host_codes.specs.Code.{code, refused as refusedCode, ofFit}
+use Rattle.host_fit.specs.FitText.{ofOutcome, over, fitRead, placesAfter, FitDone}
 use Rattle.host_fit.specs.Refusing.{Refusing}
 
 outcome-fit : (f : Fit) → ofOutcome (outcomeOf f) ≡ ofFit f

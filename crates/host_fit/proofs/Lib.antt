@@ -1,1 +1,2 @@
 pub mod FitDone
+pub mod Coding

@@ -12,7 +12,10 @@ use Rattle.placement.specs.Order.{keys}
 use Rattle.placement.specs.Least.{fitOf}
 use Rattle.fit_slots.specs.Fit.{Fit, refusedBy, noFit, placed, lettersOf, slotCount, bestFit, fitTests, Filled}
 use Rattle.host_codes.specs.declared.Code.{Code}
-use Rattle.host_codes.specs.Code.{code, ofFit}
+use Rattle.fit.specs.declared.FitOutcome.{FitOutcome}
+use Rattle.fit.specs.declared.FitOutcome.the-variants as outcome
+use Rattle.host_codes.specs.Code.{Outcome, granted, denied, code, ofFit}
+use Rattle.host_codes.specs.Code as coded
 
 -- the text is read first; then the tests of a fit, the last being 15 for the slots, and 15 for the positions, by the lengths of the two lists
 abbrev pub fitRead : Reading Chip → List ℕ → ℕ → ℕ → Fit
@@ -23,6 +26,12 @@ fitRead (refused number line) s slots places = refusedBy number line
 
 abbrev pub fitText : List ℕ → List ℕ → ℕ → ℕ → Fit
 fitText text s slots places = fitRead (readChip text) s slots places
+
+-- document 01's number and values for each case of the program's answer of a fit
+abbrev pub ofOutcome : FitOutcome → Outcome
+ofOutcome (outcome.Placed f) = granted (f .length)
+ofOutcome outcome.NoFit = denied 0
+ofOutcome (outcome.Refused f) = coded.refused (f .no) (f .line)
 
 -- the list of slots: before was in it at entry, after at exit
 abbrev pub SlotsFilled : Reading Chip → List ℕ → Fit → List ℕ → List ℕ → Type 0

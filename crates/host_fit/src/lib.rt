@@ -2,19 +2,39 @@
 use chip_read::ChipAnswer;
 use fit::FitOutcome;
 use host_codes::Code;
-use host_codes::fit_code;
+use host_codes::NO;
+use host_codes::YES;
 use host_codes::refusal_code;
 use host_lists::is_short;
 use host_lists::put_corners;
 use model::Chip;
+ghost use mathlib.Core.Path.{_≡_};
 ghost use Prim.Native.Nat.{_+_, _≤_};
 ghost use lib.ListN.{length};
 ghost use Rattle.model.specs.Meaning.{chipOf};
 ghost use Rattle.text_grammar.specs.Reading.{accepted};
 ghost use Rattle.chip_text.specs.Text.{readChip};
 ghost use Rattle.chip_text.specs.Passed.{Passed};
-ghost use Rattle.host_fit.specs.FitText.{FitDone};
+ghost use Rattle.host_codes.specs.Code.{code};
+ghost use Rattle.host_fit.specs.FitText.{ofOutcome, FitDone};
 ghost use Rattle.host_fit.specs.Refusing.{Refusing};
+
+// Yes with the wirelength, no, or the refusal.
+fn fit_code(outcome: FitOutcome) -> Code
+    ensures { λ r. ⌜ r ≡ code (ofOutcome outcome) ⌝ }
+{
+    match outcome {
+        FitOutcome::Placed(f) => Code {
+            number: YES,
+            value: f.length,
+        },
+        FitOutcome::NoFit => Code {
+            number: NO,
+            value: 0,
+        },
+        FitOutcome::Refused(f) => refusal_code(f),
+    }
+}
 
 // The refusal where the list of positions is too short: with one slot lent, no fit of a macro is made, so 11, 12 or 15 is answered.
 fn short_code(c: Chip, letters: &[u8], room: usize) -> Code

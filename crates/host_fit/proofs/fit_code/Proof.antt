@@ -1,7 +1,7 @@
-use Rattle.host_codes.proofs.Coding.{fit-placed, fit-none, fit-refused}
+use Rattle.host_fit.proofs.Coding.{fit-placed, fit-none, fit-refused}
 use borrow.Author.Needs.{needs}
-use Rattle.host_codes.proofs.fit_code.Statement.{statement}
-use Rattle.host_codes.proofs.fit_code.Tie as tie
+use Rattle.host_fit.proofs.fit_code.Statement.{statement}
+use Rattle.host_fit.proofs.fit_code.Tie as tie
 
 enum-known-outcome : tie.Need-enum-known-outcome
 enum-known-outcome c = search needs
