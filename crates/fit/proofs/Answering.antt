@@ -21,7 +21,7 @@ use Rattle.fit_tests.specs.Entry.{Asking, fitting, Ready, Entered}
 use Rattle.fit.specs.declared.FitAnswer.{FitAnswer}
 use Rattle.fit.specs.declared.FitOutcome.the-variants as outcome
 use Rattle.fit.specs.Answer.{padded, answerFor}
-use Rattle.fit.specs.Results.{Answered}
+use Rattle.fit.specs.Results.{Second, Answered}
 use Rattle.fit.proofs.Asked.{taken, no-fitting}
 use Rattle.fit.proofs.Filling.{slots-filled}
 
@@ -45,17 +45,36 @@ module _ (c : HeldChip) (s : List ℕ) (d : Direction) (at f : List ℕ) where
     pub no-coordinates : (m : ℕ) → Asking c s m → not b ≡ true → (r : FitAnswer) → r ≡ record { outcome = outcome.NoFit; spots = padded [] } → r ≡ answerFor (fitting c s)
     no-coordinates m ask h r q = q ∙ no-fit m ask v told (sym (not-true b h) ∙ e)
 
+-- ---- the vertical direction beside the horizontal one
+
+module _ (c : HeldChip) (s : List ℕ) (v : Verdict) (b : Bool) (e : b ≡ isSolved v) where
+  pub second-idle : not b ≡ true → (w : Verdict) (at f : List ℕ) → Second c s v w at f
+  second-idle h w at f = record { told = λ t q. absurd (false≢true (sym (not-true b h) ∙ (e ∙ q))) }
+
+  pub second-solved : (w : Verdict) (at f : List ℕ) → Solves c s vertical w at f → Second c s v w at f
+  second-solved w at f o = record { told = λ t q. o .told t }
+
+  module _ (h : not b ≡ false) (w : Verdict) (at f : List ℕ) (o : Second c s v w at f) (m : ℕ) (ask : Asking c s m) (k : Bool) (g : k ≡ isSolved w) where
+    told : Directed c s vertical w at f
+    told = o .told (taken c s m ask) (sym e ∙ not-false b h)
+
+    pub second-coordinates : not k ≡ false → SolvedBy c s vertical at f
+    second-coordinates i = has-coordinates c s vertical at f w told k g i
+
+    pub no-second : not k ≡ true → (r : FitAnswer) → r ≡ record { outcome = outcome.NoFit; spots = padded [] } → r ≡ answerFor (fitting c s)
+    no-second i r q = no-coordinates c s vertical at f w told k g m ask i r q
+
 -- ---- a chip and letters that pass every test
 
 pub direction-told : (c : HeldChip) (s : List ℕ) (room m : ℕ) → Ready c s room m → (d : Direction) (v : Verdict) (at f : List ℕ) → Solves c s d v at f → Directed c s d v at f
 direction-told c s room m ready d v at f o = o .told (taken c s m (ready .asking))
 
 module _ (c : HeldChip) (s : List ℕ) (m : ℕ) (before : List ℕ) (ready : Ready c s (length before) m) where
-  pub ready-answered : (v w : Verdict) (ax ay fx fy : List ℕ) → Solves c s horizontal v ax fx → Solves c s vertical w ay fy → (after : List ℕ) → after ≡ slotsPut m v fx w fy before → (r : FitAnswer) → r ≡ answerFor (fitting c s) → Answered c s (fitting c s) r before after
+  pub ready-answered : (v w : Verdict) (ax ay fx fy : List ℕ) → Solves c s horizontal v ax fx → Second c s v w ay fy → (after : List ℕ) → after ≡ slotsPut m v fx w fy before → (r : FitAnswer) → r ≡ answerFor (fitting c s) → Answered c s (fitting c s) r before after
   ready-answered v w ax ay fx fy a b after e r q =
       record {
         answer = q;
-        list = slots-filled c s m (ready .asking) before (ready .enough) ax ay fx fy v w (direction-told c s (length before) m ready horizontal v ax fx a) (direction-told c s (length before) m ready vertical w ay fy b) after e;
+        list = slots-filled c s m (ready .asking) before (ready .enough) ax ay fx fy v w (direction-told c s (length before) m ready horizontal v ax fx a) b after e;
       }
 
 -- ---- the tests before the fit

@@ -27,7 +27,8 @@ use Rattle.fit_slots.proofs.Whole.{Lists, AllZero, other, whole-flow, whole-cha
 use Rattle.fit_axes.specs.Axes.{SolvedBy, UnsolvedBy, Directed}
 use Rattle.fit_lists.specs.Lists.{low16, isSolved, showsAcross, shown, bothLists, putIf, slotsPut}
 use Rattle.fit_tests.specs.Entry.{Asking, fitting}
-use Rattle.fit.proofs.Asked.{ended, each-m, past-m, no-fitting}
+use Rattle.fit.specs.Results.{Second}
+use Rattle.fit.proofs.Asked.{taken, ended, each-m, past-m, no-fitting}
 use Rattle.fit.proofs.Listing.{putBoth, both-kept, across-agrees, up-agrees}
 use Rattle.fit.proofs.Placing.{ps, on, corners-on, the-fitting}
 
@@ -153,16 +154,17 @@ module _ (c : HeldChip) (s : List ℕ) (m : ℕ) (ask : Asking c s m) (entry : L
     put : (f g : List ℕ) (sf : Small f) (sg : Small g) → Filled C s (fitting c s) entry (putBoth m f g entry) → Put f g
     put f g sf sg h = subst (λ (t : List ℕ). Filled C s (fitting c s) entry t) (sym (as-put f g sf sg)) h
 
-    by : (v w : Verdict) → Directed c s horizontal v ax fx → Directed c s vertical w ay fy → Filled C s (fitting c s) entry (putIf true (bothLists m (shown (showsAcross v w) fx) (shown (isSolved v) fy) entry) entry)
+    by : (v w : Verdict) → Directed c s horizontal v ax fx → (isSolved v ≡ true → Directed c s vertical w ay fy) → Filled C s (fitting c s) entry (putIf true (bothLists m (shown (showsAcross v w) fx) (shown (isSolved v) fy) entry) entry)
     unfolding zeros
     by verdict.Malformed w a b = absurd a
     by verdict.Unsolvable w a b = let f = chain-small horizontal fx a in put fx zeros f zeros-small (across-chain fx zeros f zeros-small a (zeros-at 456))
-    by verdict.Solved verdict.Malformed a b = absurd b
-    by verdict.Solved verdict.Unsolvable a b = let g = chain-small vertical fy b in put zeros fy zeros-small g (up-chain zeros fy zeros-small g b (zeros-at 456))
+    by verdict.Solved verdict.Malformed a b = absurd (b refl)
+    by verdict.Solved verdict.Unsolvable a b = let u = b refl in let g = chain-small vertical fy u in put zeros fy zeros-small g (up-chain zeros fy zeros-small g u (zeros-at 456))
     by verdict.Solved verdict.Solved a b =
         let f = solved-small horizontal ax fx a in
-        let g = solved-small vertical ay fy b in
-        put fx fy f g (flow-list fx fy f g ax ay a b)
+        let u = b refl in
+        let g = solved-small vertical ay fy u in
+        put fx fy f g (flow-list fx fy f g ax ay a u)
 
-    pub slots-filled : (v w : Verdict) → Directed c s horizontal v ax fx → Directed c s vertical w ay fy → (exit : List ℕ) → exit ≡ slotsPut m v fx w fy entry → Filled C s (fitting c s) entry exit
-    slots-filled v w a b exit e = rw (e, le-leb m 456 (ask .slots .few), le-leb (m + m) (length entry) room) (by v w a b)
+    pub slots-filled : (v w : Verdict) → Directed c s horizontal v ax fx → Second c s v w ay fy → (exit : List ℕ) → exit ≡ slotsPut m v fx w fy entry → Filled C s (fitting c s) entry exit
+    slots-filled v w a b exit e = rw (e, le-leb m 456 (ask .slots .few), le-leb (m + m) (length entry) room) (by v w a (b .told (taken c s m ask)))

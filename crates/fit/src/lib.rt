@@ -18,7 +18,7 @@ ghost use Rattle.fit_slots.specs.Fit.{fitLetters, Filled};
 ghost use Rattle.fit_axes.specs.Axes.{SolvedBy, Directed};
 ghost use Rattle.fit_tests.specs.Entry.{Asking, fitting, Ready};
 ghost use Rattle.fit.specs.Answer.{padded, answerFor};
-ghost use Rattle.fit.specs.Results.{Answered};
+ghost use Rattle.fit.specs.Results.{Second, Answered};
 
 // The wirelength of the placement, and the number of slots that its flow takes.
 pub struct Fitted {
@@ -73,7 +73,7 @@ fn placed(c: Chip, letters: &[u8], a: Solution, b: Solution, m: usize) -> FitAns
 fn answer_of(c: Chip, letters: &[u8], a: Solution, b: Solution, m: usize) -> FitAnswer
     requires { ⌜ Asking c (now letters) m ⌝ }
     requires { ⌜ Directed c (now letters) Direction.Horizontal (a .verdict) (a .at) (a .amounts) ⌝ }
-    requires { ⌜ Directed c (now letters) Direction.Vertical (b .verdict) (b .at) (b .amounts) ⌝ }
+    requires { ⌜ Second c (now letters) (a .verdict) (b .verdict) (b .at) (b .amounts) ⌝ }
     ensures { λ r. ⌜ r ≡ answerFor (fitting c (now (letters .entry))) ⌝ }
 {
     let v = a.verdict;
@@ -87,13 +87,24 @@ fn answer_of(c: Chip, letters: &[u8], a: Solution, b: Solution, m: usize) -> Fit
     placed(c, letters, a, b, m)
 }
 
+// The vertical direction, where the horizontal one, a, has coordinates; else a, since there is no fit whatever the vertical one says.
+fn second(c: Chip, letters: &[u8], a: Solution) -> Solution
+    ensures { λ r. ⌜ Second c (now (letters .entry)) (a .verdict) (r .verdict) (r .at) (r .amounts) ⌝ }
+{
+    let v = a.verdict;
+    if !is_solved(v) {
+        return a;
+    }
+    solve_on(c, letters, Direction::Vertical)
+}
+
 // A chip and letters that pass every test, and room for m slots of each direction.
 fn fit_ready(c: Chip, letters: &[u8], m: usize, flow: &mut [u16]) -> FitAnswer
     requires { ⌜ Ready c (now letters) (length (now flow)) m ⌝ }
     ensures { λ r. ⌜ Answered c (now (letters .entry)) (fitting c (now (letters .entry))) r (now (flow .entry)) (now (flow .exit)) ⌝ }
 {
     let a = solve_on(c, letters, Direction::Horizontal);
-    let b = solve_on(c, letters, Direction::Vertical);
+    let b = second(c, letters, a);
     put_slots(flow, a, b, m);
     answer_of(c, letters, a, b, m)
 }

@@ -1,4 +1,4 @@
-use Rattle.fit.proofs.Answering.{has-coordinates, no-coordinates}
+use Rattle.fit.proofs.Answering.{has-coordinates, no-coordinates, second-coordinates, no-second}
 use borrow.Author.Needs.{needs}
 use Rattle.fit.proofs.answer_of.Statement.{statement}
 use Rattle.fit.proofs.answer_of.Tie as tie
@@ -19,10 +19,10 @@ bare-requires-2 : tie.Need-bare-requires-2
 bare-requires-2 c κs = search needs
 
 returns-2 : tie.Need-returns-2
-returns-2 c = search no-coordinates
+returns-2 c = search no-second
 
 placed-requires : tie.Need-placed-requires
-placed-requires c κs = (search needs, (search has-coordinates, search has-coordinates))
+placed-requires c κs = (search needs, (search has-coordinates, search second-coordinates))
 
 returns-3 : tie.Need-returns-3
 returns-3 c = search needs

@@ -6,14 +6,14 @@ use Rattle.fit.proofs.fit_ready.Tie as tie
 solve-on-requires : tie.Need-solve-on-requires
 solve-on-requires c κs = search needs
 
-solve-on-requires-2 : tie.Need-solve-on-requires-2
-solve-on-requires-2 c κs = search needs
+second-requires : tie.Need-second-requires
+second-requires c κs = search needs
 
 put-slots-requires : tie.Need-put-slots-requires
 put-slots-requires c κs = search needs
 
 answer-of-requires : tie.Need-answer-of-requires
-answer-of-requires c κs = (search needs, (search direction-told, search direction-told))
+answer-of-requires c κs = (search needs, (search direction-told, search needs))
 
 same-length : tie.Need-same-length
 same-length c = search needs
@@ -26,7 +26,7 @@ fit-ready-spec =
     tie.close
     (tie.spec
     solve-on-requires
-    solve-on-requires-2
+    second-requires
     put-slots-requires
     answer-of-requires
     same-length
