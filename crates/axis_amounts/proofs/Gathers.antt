@@ -23,7 +23,8 @@ use Rattle.axis_graph.specs.declared.Span.{Span}
 use Rattle.axis_graph.specs.Limits.{nodeRoom, slotRoom, netRoom, sideMost, weightMost, amountMost}
 use Rattle.axis_graph.specs.Graph.{at, GraphWithin, Shows}
 use Rattle.axis_graph.specs.Solved.{Refuted, los, his, weights, NetEnds}
-use Rattle.axis_amounts.specs.Amounts.{Within, Idle, Gathered, Modest, SlotSums, NetSums, Even, SpansWithin, Spanned, Outweighs, Flow}
+use Rattle.axis_amounts.specs.Amounts.{noSums, addedAt, sumMost, RoomFor, Within, Idle, Gathered, Summed, Modest, SpansWithin, Spanned, Outweighs, Flow}
+use Rattle.axis_tie.specs.Even.{Even}
 use Rattle.axis_graph.proofs.Zeros.{zero-at}
 use Rattle.axis_graph.proofs.Answers.{shown-by}
 
@@ -68,48 +69,65 @@ module _ (end f : ℕ → ℕ) where
           let w : when (eqb (end i) k) (f i) ≡ 0 = ap (λ (t : Bool). when t (f i)) (ne-eqb (end i) k (λ e. n (sym e))) in
           omega arith
 
--- no sums yet
-abbrev pub zeros : List ℕ
-zeros = replicate nodeRoom 0
+-- amounts that may be added in turn: their ends are nodes, and no sum is above the limit
+pub record Addable (into₀ out₀ : List ℕ) (to from f : ℕ → ℕ) (c : ℕ) : Type 0 where
+  pub long-into : length into₀ ≡ nodeRoom
+  pub long-out : length out₀ ≡ nodeRoom
+  pub to-node : (i : ℕ) → i < c → to i < nodeRoom
+  pub from-node : (i : ℕ) → i < c → from i < nodeRoom
+  pub into-most : (i k : ℕ) → i < c → k < nodeRoom → at into₀ k + atNode to f i k + f i ≤ sumMost
+  pub out-most : (i k : ℕ) → i < c → k < nodeRoom → at out₀ k + atNode from f i k + f i ≤ sumMost
+
+module _ (into₀ out₀ : List ℕ) (to from f : ℕ → ℕ) (c : ℕ) (ok : Addable into₀ out₀ to from f c) where
+  pub summed-none : Summed into₀ out₀ to from f 0 into₀ out₀
+  summed-none = record { into-at = gathered-none to f into₀ (ok .long-into); out-at = gathered-none from f out₀ (ok .long-out) }
+
+  module _ (i : ℕ) (into out : List ℕ) (s : Summed into₀ out₀ to from f i into out) where
+    module _ (l : i < c) where
+      room-here : RoomFor into out (from i) (to i) (f i)
+      room-here = record {
+        from-node = ok .from-node i l;
+        to-node = ok .to-node i l;
+        into-most = let a = s .into-at .is (to i) (ok .to-node i l) in let b = ok .into-most i (to i) l (ok .to-node i l) in omega arith;
+        out-most = let a = s .out-at .is (from i) (ok .from-node i l) in let b = ok .out-most i (from i) l (ok .from-node i l) in omega arith;
+      }
+
+      pub summed-more : (into′ out′ : List ℕ) → into′ ≡ addedAt into (to i) (f i) → out′ ≡ addedAt out (from i) (f i) → Summed into₀ out₀ to from f (i + 1) into′ out′
+      summed-more into′ out′ p q = rw (p, q) (record { into-at = gathered-more to f into₀ i into (s .into-at) (ok .to-node i l); out-at = gathered-more from f out₀ i out (s .out-at) (ok .from-node i l) })
+
+    pub summed-all : i ≤ c → c ≤ i → Summed into₀ out₀ to from f c into out
+    summed-all a b = subst (λ (j : ℕ). Summed into₀ out₀ to from f j into out) (let e : i ≡ c = omega arith in e) s
 
 -- ---- the slots
 
-module _ (f : List ℕ) where
-  pub sums-none : (end : ℕ → ℕ) → Gathered zeros end (at f) 0 zeros
-  sums-none end = gathered-none end (at f) zeros (length-replicate {A = ℕ} nodeRoom 0)
+module _ (g : Graph) (fine : GraphWithin g) (f : List ℕ) (w : Within f amountMost) where
+  slots-most : (end : ℕ → ℕ) (i k : ℕ) → i ≤ g .m → atNode end (at f) i k ≤ slotRoom * amountMost
+  slots-most end i k l = let a = node-most end (at f) amountMost (w .most) i k in let b = fine .slots in omega arith
 
-  module _ (w : Within f amountMost) where
-    sum-most : (end : ℕ → ℕ) (i : ℕ) → i ≤ slotRoom → (r : List ℕ) → Gathered zeros end (at f) i r → (k : ℕ) → k < nodeRoom → at r k ≤ slotRoom * amountMost
-    sum-most end i l r h k m = let a = node-most end (at f) amountMost (w .most) i k in let b = h .is k m in let z = zero-at nodeRoom k in omega arith
+  pub slots-addable : Addable noSums noSums (heads (g .slots)) (tails (g .slots)) (at f) (g .m)
+  slots-addable = record {
+    long-into = length-replicate {A = ℕ} nodeRoom 0;
+    long-out = length-replicate {A = ℕ} nodeRoom 0;
+    to-node = λ i l. fine .fine i l .head;
+    from-node = λ i l. fine .fine i l .tail;
+    into-most = within (heads (g .slots));
+    out-most = within (tails (g .slots));
+  }
+    where
+      within : (end : ℕ → ℕ) (i k : ℕ) → i < g .m → k < nodeRoom → at noSums k + atNode end (at f) i k + at f i ≤ sumMost
+      within end i k l o = let a = slots-most end i k (omega arith) in let b = w .most i in let z = zero-at nodeRoom k in omega arith
 
-    module _ (g : Graph) (fine : GraphWithin g) (i : ℕ) (l : i < g .m) (r : List ℕ) where
-      pub into-fits : Gathered zeros (heads (g .slots)) (at f) i r → Fits w64 (at r (heads (g .slots) i) + at f i)
-      into-fits h = let a = sum-most (heads (g .slots)) i (let o = fine .slots in omega arith) r h (heads (g .slots) i) (fine .fine i l .head) in let b = w .most i in omega arith
+  pub slot-room : (i : ℕ) (into out : List ℕ) → Summed noSums noSums (heads (g .slots)) (tails (g .slots)) (at f) i into out → i < g .m → RoomFor into out (tails (g .slots) i) (heads (g .slots) i) (at f i)
+  slot-room = room-here noSums noSums (heads (g .slots)) (tails (g .slots)) (at f) (g .m) slots-addable
 
-      pub out-fits : Gathered zeros (tails (g .slots)) (at f) i r → Fits w64 (at r (tails (g .slots) i) + at f i)
-      out-fits h = let a = sum-most (tails (g .slots)) i (let o = fine .slots in omega arith) r h (tails (g .slots) i) (fine .fine i l .tail) in let b = w .most i in omega arith
-
-      pub into-more : Gathered zeros (heads (g .slots)) (at f) i r → Gathered zeros (heads (g .slots)) (at f) (i + 1) (set r (heads (g .slots) i) (at r (heads (g .slots) i) + at f i))
-      into-more h = gathered-more (heads (g .slots)) (at f) zeros i r h (fine .fine i l .head)
-
-      pub out-more : Gathered zeros (tails (g .slots)) (at f) i r → Gathered zeros (tails (g .slots)) (at f) (i + 1) (set r (tails (g .slots) i) (at r (tails (g .slots) i) + at f i))
-      out-more h = gathered-more (tails (g .slots)) (at f) zeros i r h (fine .fine i l .tail)
-
-    pub sums-all : (g : Graph) → GraphWithin g → (i : ℕ) (into out : List ℕ) → Gathered zeros (heads (g .slots)) (at f) i into → Gathered zeros (tails (g .slots)) (at f) i out → i ≤ g .m → g .m ≤ i → SlotSums g f into out
-    sums-all g fine i into out p q a b =
-        let e : i ≡ g .m = omega arith in
-        let u = subst (λ (j : ℕ). Gathered zeros (heads (g .slots)) (at f) j into) e p in
-        let v = subst (λ (j : ℕ). Gathered zeros (tails (g .slots)) (at f) j out) e q in
-        record {
-          modest = record {
-            long-into = p .long;
-            long-out = q .long;
-            into-most = sum-most (heads (g .slots)) (g .m) (fine .slots) into u;
-            out-most = sum-most (tails (g .slots)) (g .m) (fine .slots) out v;
-          };
-          into-at = λ k l. let s = u .is k l in let z = zero-at nodeRoom k in omega arith;
-          out-at = λ k l. let s = v .is k l in let z = zero-at nodeRoom k in omega arith;
-        }
+  module _ (into out : List ℕ) (s : Summed noSums noSums (heads (g .slots)) (tails (g .slots)) (at f) (g .m) into out) where
+    pub slots-modest : Modest into out
+    slots-modest = record {
+      long-into = s .into-at .long;
+      long-out = s .out-at .long;
+      into-most = λ k l. let a = slots-most (heads (g .slots)) (g .m) k (omega arith) in let b = s .into-at .is k l in let z = zero-at nodeRoom k in omega arith;
+      out-most = λ k l. let a = slots-most (tails (g .slots)) (g .m) k (omega arith) in let b = s .out-at .is k l in let z = zero-at nodeRoom k in omega arith;
+    }
 
 -- ---- the nets
 
@@ -132,38 +150,12 @@ module _ (nets : List Span) (c : ℕ) (sp : Spanned nets c) (i : ℕ) (l : i < c
   unfolding sum
   weight-room = let a = sum-grows (weights nets) (suc i) c l in let b = sp .total in omega arith
 
-  pub lo-node : los nets i < nodeRoom
-  lo-node = sp .lo i l
-
-  pub hi-node : his nets i < nodeRoom
-  hi-node = sp .hi i l
-
-  pub lo-fits : Fits w64 (los nets i * 8)
-  lo-fits = let a = lo-node in omega arith
-
-  pub hi-fits : Fits w64 (his nets i * 8)
-  hi-fits = let a = hi-node in omega arith
-
   pub weight-fits : (w : ℕ) → w ≡ sum (weights nets) i → Fits w64 (w + weights nets i)
   weight-fits w e = let a = weight-room in omega arith
 
   pub weight-more : (w : ℕ) → w ≡ sum (weights nets) i → w + weights nets i ≡ sum (weights nets) (i + 1)
   unfolding sum
   weight-more w e = rw (add-one i) (ap (λ (u : ℕ). u + weights nets i) e)
-
-  module _ (into₀ out₀ : List ℕ) (mo : Modest into₀ out₀) (r : List ℕ) where
-    pub enter-fits : Gathered into₀ (los nets) (weights nets) i r → Fits w64 (at r (los nets i) + weights nets i)
-    enter-fits h = let a = h .is (los nets i) lo-node in let b = mo .into-most (los nets i) lo-node in let d = node-sum (los nets) (weights nets) i (los nets i) in let e = weight-room in omega arith
-
-    pub leave-fits : Gathered out₀ (his nets) (weights nets) i r → Fits w64 (at r (his nets i) + weights nets i)
-    leave-fits h = let a = h .is (his nets i) hi-node in let b = mo .out-most (his nets i) hi-node in let d = node-sum (his nets) (weights nets) i (his nets i) in let e = weight-room in omega arith
-
-  module _ (b r : List ℕ) where
-    pub enter-more : Gathered b (los nets) (weights nets) i r → Gathered b (los nets) (weights nets) (i + 1) (set r (los nets i) (at r (los nets i) + weights nets i))
-    enter-more h = gathered-more (los nets) (weights nets) b i r h lo-node
-
-    pub leave-more : Gathered b (his nets) (weights nets) i r → Gathered b (his nets) (weights nets) (i + 1) (set r (his nets i) (at r (his nets i) + weights nets i))
-    leave-more h = gathered-more (his nets) (weights nets) b i r h hi-node
 
 module _ (nets : List Span) where
   pub total-none : _≡_ {A = ℕ} 0 (sum (weights nets) 0)
@@ -173,17 +165,20 @@ module _ (nets : List Span) where
   pub total-all : (c i w : ℕ) → w ≡ sum (weights nets) i → i ≤ c → c ≤ i → w ≡ sum (weights nets) c
   total-all c i w e p q = e ∙ ap (sum (weights nets)) (let z : i ≡ c = omega arith in z)
 
-  module _ (into₀ out₀ : List ℕ) where
-    pub enter-none : Modest into₀ out₀ → Gathered into₀ (los nets) (weights nets) 0 into₀
-    enter-none mo = gathered-none (los nets) (weights nets) into₀ (mo .long-into)
+  module _ (into₀ out₀ : List ℕ) (mo : Modest into₀ out₀) (c : ℕ) (sp : Spanned nets c) where
+    -- the weights may be added to sums of the slots
+    pub nets-addable : Addable into₀ out₀ (los nets) (his nets) (weights nets) c
+    nets-addable = record {
+      long-into = mo .long-into;
+      long-out = mo .long-out;
+      to-node = sp .lo;
+      from-node = sp .hi;
+      into-most = λ i k l o. let a = mo .into-most k o in let b = node-sum (los nets) (weights nets) i k in let d = weight-room nets c sp i l in omega arith;
+      out-most = λ i k l o. let a = mo .out-most k o in let b = node-sum (his nets) (weights nets) i k in let d = weight-room nets c sp i l in omega arith;
+    }
 
-    pub leave-none : Modest into₀ out₀ → Gathered out₀ (his nets) (weights nets) 0 out₀
-    leave-none mo = gathered-none (his nets) (weights nets) out₀ (mo .long-out)
-
-    pub net-sums-all : (c i : ℕ) (into out : List ℕ) → Gathered into₀ (los nets) (weights nets) i into → Gathered out₀ (his nets) (weights nets) i out → i ≤ c → c ≤ i → NetSums nets c into₀ out₀ into out
-    net-sums-all c i into out p q a b =
-        let e : i ≡ c = omega arith in
-        record { into-at = subst (λ (j : ℕ). Gathered into₀ (los nets) (weights nets) j into) e p; out-at = subst (λ (j : ℕ). Gathered out₀ (his nets) (weights nets) j out) e q }
+    pub net-room : (i : ℕ) (into out : List ℕ) → Summed into₀ out₀ (los nets) (his nets) (weights nets) i into out → i < c → RoomFor into out (his nets i) (los nets i) (weights nets i)
+    net-room = room-here into₀ out₀ (los nets) (his nets) (weights nets) c nets-addable
 
 -- ---- the chain
 
@@ -240,16 +235,22 @@ module _ (g : Graph) (f : List ℕ) (fine : GraphWithin g) (wi : Within f 1) (i 
   pub minus-fits : w ≡ weigh (minuses (g .slots)) (at f) i → Fits w64 (w + minuses (g .slots) i)
   minus-fits e = let a = weigh-most (minuses (g .slots)) (at f) sideMost i (λ s k. fine .fine s (omega arith) .minus) (wi .most) in let b = fine .fine i l .minus in let o = fine .slots in omega arith
 
-pub outweighs-all : (g : Graph) (f : List ℕ) (i p q : ℕ) → p ≡ weigh (pluses (g .slots)) (at f) i → q ≡ weigh (minuses (g .slots)) (at f) i → i ≤ g .m → g .m ≤ i → Shows (ltb q p) (Outweighs g f)
-outweighs-all g f i p q ep eq a b =
+pub outweighs-all : (g : Graph) (f : List ℕ) (i p q : ℕ) → p ≡ weigh (pluses (g .slots)) (at f) i → q ≡ weigh (minuses (g .slots)) (at f) i → i ≤ g .m → g .m ≤ i → (r : Bool) → r ≡ ltb q p → Shows r (Outweighs g f)
+outweighs-all g f i p q ep eq a b r e =
     let z : i ≡ g .m = omega arith in
     let u : weigh (pluses (g .slots)) (at f) i ≡ weigh (pluses (g .slots)) (at f) (g .m) = ap (weigh (pluses (g .slots)) (at f)) z in
     let v : weigh (minuses (g .slots)) (at f) i ≡ weigh (minuses (g .slots)) (at f) (g .m) = ap (weigh (minuses (g .slots)) (at f)) z in
-    record { shown = λ t. record { more = let h = ltb-true q p t in omega arith } }
+    record { shown = λ t. record { more = let h = ltb-true q p (sym e ∙ t) in omega arith } }
 
 -- ---- what the sums show
 
-module _ (g : Graph) (f : List ℕ) (fine : GraphWithin g) (into out : List ℕ) (s : SlotSums g f into out) where
+module _ (g : Graph) (f : List ℕ) (fine : GraphWithin g) (into out : List ℕ) (s : Summed noSums noSums (heads (g .slots)) (tails (g .slots)) (at f) (g .m) into out) where
+  enters : (k : ℕ) → k < nodeRoom → at into k ≡ atNode (heads (g .slots)) (at f) (g .m) k
+  enters k l = let a = s .into-at .is k l in let z = zero-at nodeRoom k in omega arith
+
+  leaves : (k : ℕ) → k < nodeRoom → at out k ≡ atNode (tails (g .slots)) (at f) (g .m) k
+  leaves k l = let a = s .out-at .is k l in let z = zero-at nodeRoom k in omega arith
+
   -- a closed chain
   pub refuted : (b : Bool) → Shows b (Within f 1) → not b ≡ false → (d : Bool) → Shows d (Idle g f) → not d ≡ false → (e : Bool) → Shows e (Even into out (g .n)) → not e ≡ false → (r : Bool) → Shows r (Outweighs g f) → Shows r (Refuted g f)
   refuted b wi wn d id idn e ev en r o =
@@ -258,13 +259,13 @@ module _ (g : Graph) (f : List ℕ) (fine : GraphWithin g) (into out : List ℕ)
             record {
               few = shown-by b wi wn .most;
               idle = λ k z. shown-by d id idn .still k (ap (λ (u : Slot). u .tail) z ∙ sym (ap (λ (u : Slot). u .head) z)) (ap (λ (u : Slot). u .plus) z ∙ sym (ap (λ (u : Slot). u .minus) z));
-              balance = record { eq = λ k l. let m = fine .nodes in let p = shown-by e ev en .eq k l in let q = s .into-at k (omega arith) in let v = s .out-at k (omega arith) in omega arith };
+              balance = record { eq = λ k l. let m = fine .nodes in let p = shown-by e ev en .eq k l in let q = enters k (omega arith) in let v = leaves k (omega arith) in omega arith };
               more = o .shown t .more;
             };
       }
 
   -- a flow
-  pub flows : (nets : List Span) (c : ℕ) (q : ℕ) → q ≡ sum (weights nets) c → (b : Bool) → Shows b (Within f q) → not b ≡ false → (d : Bool) → Shows d (Idle g f) → not d ≡ false → (into′ out′ : List ℕ) → NetSums nets c into out into′ out′ → SpansWithin (g .n) nets c → (r : Bool) → Shows r (Even into′ out′ (g .n)) → Shows r (Flow g nets c f)
+  pub flows : (nets : List Span) (c : ℕ) (q : ℕ) → q ≡ sum (weights nets) c → (b : Bool) → Shows b (Within f q) → not b ≡ false → (d : Bool) → Shows d (Idle g f) → not d ≡ false → (into′ out′ : List ℕ) → Summed into out (los nets) (his nets) (weights nets) c into′ out′ → SpansWithin (g .n) nets c → (r : Bool) → Shows r (Even into′ out′ (g .n)) → Shows r (Flow g nets c f)
   flows nets c q eq b wi wn d id idn into′ out′ ns sp r ev =
       record {
         shown = λ t.
@@ -277,17 +278,14 @@ module _ (g : Graph) (f : List ℕ) (fine : GraphWithin g) (into out : List ℕ)
                 eq = λ k l.
                     let m = fine .nodes in
                     let p = ev .shown t .eq k l in
-                    let u = s .into-at k (omega arith) in
-                    let v = s .out-at k (omega arith) in
+                    let u = enters k (omega arith) in
+                    let v = leaves k (omega arith) in
                     let y = ns .into-at .is k (omega arith) in
                     let z = ns .out-at .is k (omega arith) in
                     omega arith;
               };
             };
       }
-
-  pub sums-modest : Modest into out
-  sums-modest = s .modest
 
 pub chain-within : (f : List ℕ) (b : Bool) → Shows b (Within f 1) → not b ≡ false → Within f 1
 chain-within f b s e = shown-by b s e

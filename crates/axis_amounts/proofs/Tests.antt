@@ -1,11 +1,11 @@
--- The tests of amounts, slot by slot and node by node.
+-- The tests of amounts, slot by slot, and of nets.
 use mathlib.Core.Path.{_≡_}
 use mathlib.Core.Bool.{Bool, true, false, not}
 use mathlib.Core.List.{List}
 use Prim.Native.Nat.{ℕ, _+_, _≤_, _<_}
 use native.Mathlib.Decide.{decLt}
 use native.Mathlib.Omega.{arith}
-use borrow.Author.Count.{below-none, below-more}
+use borrow.Author.Count.{below-more}
 use lib.ListN.{length, getD, List·getD-eq-default}
 use Rattle.axis_bounds.specs.declared.Slot.{Slot}
 use Rattle.axis_graph.proofs.Answers.{shows-yes, shown-by}
@@ -16,7 +16,7 @@ use Rattle.axis_graph.specs.Solved.{noSpan}
 use Rattle.axis_graph.specs.Limits.{slotRoom}
 use Rattle.axis_graph.specs.Graph.{at, Shows}
 use Rattle.axis_graph.specs.Above.{FirstAbove}
-use Rattle.axis_amounts.specs.Amounts.{Within, Idle, Even, SpanWithin, SpansWithin}
+use Rattle.axis_amounts.specs.Amounts.{Within, Idle, SpanWithin, SpansWithin}
 use Rattle.axis_graph.proofs.FirstAbove.{every-fits}
 
 -- ---- amounts
@@ -51,18 +51,6 @@ idle-all g f i h l e = shows-yes (record { past = λ s k. by s (decLt s slotRoom
     by : (s : ℕ) → Dec (s < slotRoom) → (s < slotRoom → at f s ≡ 0) → at f s ≡ 0
     by s (yes m) t = t m
     by s (no n) t = List·getD-eq-default f 0 {n = s} (omega arith)
-
--- ---- as much in as out
-
-module _ (into out : List ℕ) where
-  pub even-none : Even into out 0
-  even-none = record { eq = below-none (λ k. at into k ≡ at out k) }
-
-  pub even-more : (i : ℕ) → Even into out i → at into i ≡ at out i → Even into out (i + 1)
-  even-more i h e = record { eq = below-more (λ k. at into k ≡ at out k) i (h .eq) e }
-
-  pub even-all : (i n : ℕ) → Even into out i → n ≤ i → Shows true (Even into out n)
-  even-all i n h l = shows-yes (record { eq = λ k o. h .eq k (omega arith) })
 
 -- ---- nets
 

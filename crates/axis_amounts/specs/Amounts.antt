@@ -2,7 +2,7 @@
 use Prim.Native.Nat.{ℕ, _+_, _*_, _≤_, _<_}
 use mathlib.Core.Path.{_≡_}
 use mathlib.Core.List.{List}
-use lib.ListN.{length, getD}
+use lib.ListN.{length, getD, set, replicate}
 use Rattle.flow_laws.specs.Flow.{atNode, weigh, Balance}
 use Rattle.num_laws.specs.Sum.{sum}
 use Rattle.axis_bounds.specs.Listed.{tails, heads, pluses, minuses}
@@ -23,31 +23,41 @@ pub record Idle (g : Graph) (f : List ℕ) : Type 0 where
 
 -- ---- sums at the nodes
 
+-- no sums yet
+abbrev pub noSums : List ℕ
+noSums = replicate nodeRoom 0
+
+-- the sums with a more at node k
+abbrev pub addedAt : List ℕ → ℕ → ℕ → List ℕ
+addedAt sums k a = set sums k (at sums k + a)
+
+-- the most that a sum is
+abbrev pub sumMost : ℕ
+sumMost = (slotRoom + 1) * amountMost
+
+-- an amount may leave one node and enter another: the sums there stay within the limit
+pub record RoomFor (into out : List ℕ) (from to a : ℕ) : Type 0 where
+  pub from-node : from < nodeRoom
+  pub to-node : to < nodeRoom
+  pub into-most : at into to + a ≤ sumMost
+  pub out-most : at out from + a ≤ sumMost
+
 -- r: what b has at each node, and the first i amounts at their ends
 pub record Gathered (b : List ℕ) (end f : ℕ → ℕ) (i : ℕ) (r : List ℕ) : Type 0 where
   pub long : length r ≡ nodeRoom
   pub is : (k : ℕ) → k < nodeRoom → at r k ≡ at b k + atNode end f i k
 
--- sums within the limit
+-- what enters each node and what leaves it: what there was, and the first i amounts
+pub record Summed (into₀ out₀ : List ℕ) (to from f : ℕ → ℕ) (i : ℕ) (into out : List ℕ) : Type 0 where
+  pub into-at : Gathered into₀ to f i into
+  pub out-at : Gathered out₀ from f i out
+
+-- sums of the slots within the limit
 pub record Modest (into out : List ℕ) : Type 0 where
   pub long-into : length into ≡ nodeRoom
   pub long-out : length out ≡ nodeRoom
   pub into-most : (k : ℕ) → k < nodeRoom → at into k ≤ slotRoom * amountMost
   pub out-most : (k : ℕ) → k < nodeRoom → at out k ≤ slotRoom * amountMost
-
--- what the slots carry into each node, and out of it
-pub record SlotSums (g : Graph) (f into out : List ℕ) : Type 0 where
-  pub modest : Modest into out
-  pub into-at : (k : ℕ) → k < nodeRoom → at into k ≡ atNode (heads (g .slots)) (at f) (g .m) k
-  pub out-at : (k : ℕ) → k < nodeRoom → at out k ≡ atNode (tails (g .slots)) (at f) (g .m) k
-
--- the nets' weights besides
-pub record NetSums (nets : List Span) (c : ℕ) (into₀ out₀ into out : List ℕ) : Type 0 where
-  pub into-at : Gathered into₀ (los nets) (weights nets) c into
-  pub out-at : Gathered out₀ (his nets) (weights nets) c out
-
-pub record Even (into out : List ℕ) (n : ℕ) : Type 0 where
-  pub eq : (k : ℕ) → k < n → at into k ≡ at out k
 
 -- a net between two of n nodes, its weight within the limit
 pub record SpanWithin (n : ℕ) (p : Span) : Type 0 where

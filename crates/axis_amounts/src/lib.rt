@@ -9,13 +9,16 @@ use axis_graph::SLOT_ROOM;
 use axis_graph::Span;
 use axis_graph::above::first_above;
 use axis_graph::fine::is_fine;
+use axis_tie::is_even;
+use axis_tie::is_gain;
 ghost use mathlib.Core.Path.{_≡_};
 ghost use Prim.Native.Nat.{_≤_};
 ghost use Rattle.num_laws.specs.Sum.{sum};
-ghost use Rattle.axis_graph.specs.Limits.{nodeRoom, netRoom, amountMost};
-ghost use Rattle.axis_graph.specs.Graph.{GraphWithin, Shows};
-ghost use Rattle.axis_graph.specs.Solved.{weights, Refuted};
-ghost use Rattle.axis_amounts.specs.Amounts.{Within, Idle, Outweighs, SlotSums, Modest, NetSums, Even, SpanWithin, SpansWithin, Spanned, Flow};
+ghost use Rattle.axis_graph.specs.Limits.{netRoom, amountMost};
+ghost use Rattle.axis_bounds.specs.Listed.{tails, heads};
+ghost use Rattle.axis_graph.specs.Graph.{at, GraphWithin, Shows};
+ghost use Rattle.axis_graph.specs.Solved.{los, his, weights, Refuted};
+ghost use Rattle.axis_amounts.specs.Amounts.{Within, Idle, Outweighs, noSums, addedAt, RoomFor, Summed, Modest, SpanWithin, SpansWithin, Spanned, Flow};
 
 // The most that a net weighs.
 const WEIGHT_MOST: u64 = 1000;
@@ -94,11 +97,21 @@ fn fine_spans(nets: [Span; Axis::NETS], count: usize, n: usize) -> bool
     true
 }
 
+// An amount more, which leaves one node and enters another.
+fn carry(into: &mut [u64; NODE_ROOM], out: &mut [u64; NODE_ROOM], from: usize, to: usize, a: u64)
+    requires { ⌜ RoomFor (now into) (now out) from to a ⌝ }
+    ensures { λ _. ⌜ now (into .exit) ≡ addedAt (now (into .entry)) to a ⌝ }
+    ensures { λ _. ⌜ now (out .exit) ≡ addedAt (now (out .entry)) from a ⌝ }
+{
+    into[to] += a;
+    out[from] += a;
+}
+
 // What the slots carry into each node, and out of it.
 fn slot_sums(g: Graph, f: [u64; SLOT_ROOM]) -> Sums
     requires { ⌜ GraphWithin g ⌝ }
     requires { ⌜ Within f amountMost ⌝ }
-    ensures { λ r. ⌜ SlotSums g f (r .into) (r .out) ⌝ }
+    ensures { λ r. ⌜ Summed noSums noSums (heads (g .slots)) (tails (g .slots)) (at f) (g .m) (r .into) (r .out) ⌝ }
 {
     let slots = g.slots;
     let m = g.m;
@@ -107,11 +120,7 @@ fn slot_sums(g: Graph, f: [u64; SLOT_ROOM]) -> Sums
     let mut i: usize = 0;
     while i < m {
         let s = slots[i];
-        let a = f[i];
-        let tail = s.tail;
-        let head = s.head;
-        into[head] += a;
-        out[tail] += a;
+        carry(&mut into, &mut out, s.tail, s.head, f[i]);
         i += 1;
     }
     Sums { into, out }
@@ -122,38 +131,17 @@ fn net_sums(b: Sums, nets: [Span; Axis::NETS], count: usize) -> Sums
     requires { ⌜ Modest (b .into) (b .out) ⌝ }
     requires { ⌜ count ≤ netRoom ⌝ }
     requires { ⌜ Spanned nets count ⌝ }
-    ensures { λ r. ⌜ NetSums nets count (b .into) (b .out) (r .into) (r .out) ⌝ }
+    ensures { λ r. ⌜ Summed (b .into) (b .out) (los nets) (his nets) (weights nets) count (r .into) (r .out) ⌝ }
 {
     let mut into = b.into;
     let mut out = b.out;
     let mut j: usize = 0;
     while j < count {
         let p = nets[j];
-        let w = p.weight;
-        let lo = p.lo;
-        let hi = p.hi;
-        into[lo] += w;
-        out[hi] += w;
+        carry(&mut into, &mut out, p.hi, p.lo, p.weight);
         j += 1;
     }
     Sums { into, out }
-}
-
-// Whether as much enters as leaves, at each of the first n nodes.
-fn is_even(b: Sums, n: usize) -> bool
-    requires { ⌜ n ≤ nodeRoom ⌝ }
-    ensures { λ r. ⌜ Shows r (Even (b .into) (b .out) n) ⌝ }
-{
-    let into = b.into;
-    let out = b.out;
-    let mut k: usize = 0;
-    while k < n {
-        if into[k] != out[k] {
-            return false;
-        }
-        k += 1;
-    }
-    true
 }
 
 // Whether the pluses of the slots that carry 1 outweigh their minuses.
@@ -176,7 +164,7 @@ fn outweighs(g: Graph, f: [u64; SLOT_ROOM]) -> bool
             q += s.minus;
         }
     }
-    q < p
+    is_gain(p, q)
 }
 
 // Whether the amounts of a graph within the limits are a closed chain that no values keep.
@@ -191,7 +179,9 @@ fn refutes(g: Graph, f: [u64; SLOT_ROOM]) -> bool
         return false;
     }
     let b = slot_sums(g, f);
-    if !is_even(b, g.n) {
+    let into = b.into;
+    let out = b.out;
+    if !is_even(into, out, g.n) {
         return false;
     }
     outweighs(g, f)
@@ -238,7 +228,9 @@ fn carries(g: Graph, nets: [Span; Axis::NETS], count: usize, f: [u64; SLOT_ROOM]
     }
     let b = slot_sums(g, f);
     let c = net_sums(b, nets, count);
-    is_even(c, g.n)
+    let into = c.into;
+    let out = c.out;
+    is_even(into, out, g.n)
 }
 
 // Whether the amounts are a flow of the nets' weights.

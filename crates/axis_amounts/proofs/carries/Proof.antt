@@ -1,5 +1,5 @@
 use Rattle.axis_graph.proofs.Answers.{shows-no}
-use Rattle.axis_amounts.proofs.Gathers.{nets-spanned, flow-few, sums-modest, flows}
+use Rattle.axis_amounts.proofs.Gathers.{nets-spanned, flow-few, slots-modest, flows}
 use borrow.Author.Needs.{needs}
 use Rattle.axis_amounts.proofs.carries.Statement.{statement}
 use Rattle.axis_amounts.proofs.carries.Tie as tie
@@ -23,7 +23,7 @@ slot-sums-requires : tie.Need-slot-sums-requires
 slot-sums-requires c κs = (search needs, search flow-few)
 
 net-sums-requires : tie.Need-net-sums-requires
-net-sums-requires c κs = (search sums-modest, (search needs, search nets-spanned))
+net-sums-requires c κs = (search (slots-modest, flow-few), (search needs, search nets-spanned))
 
 is-even-requires : tie.Need-is-even-requires
 is-even-requires c κs = search needs

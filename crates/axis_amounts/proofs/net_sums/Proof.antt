@@ -1,20 +1,20 @@
 use borrow.Author.Needs.{needs}
 use Prim.Native.Nat.{_≤_, _-_}
 use Rattle.axis_graph.specs.Solved.{los, his, weights}
-use Rattle.axis_amounts.specs.Amounts.{Gathered}
-use Rattle.axis_amounts.proofs.Gathers.{enter-none, leave-none, lo-node, hi-node, lo-fits, hi-fits, enter-fits, leave-fits, enter-more, leave-more, net-sums-all}
+use Rattle.axis_amounts.specs.Amounts.{Summed}
+use Rattle.axis_amounts.proofs.Gathers.{nets-addable, net-room, summed-none, summed-more, summed-all}
 use Rattle.axis_amounts.proofs.net_sums.Statement.{statement}
 use Rattle.axis_amounts.proofs.net_sums.Tie as tie
 
 -- the weights of the first j nets besides
 abbrev Inv-loop : tie.InvT-loop
-Inv-loop count nets into₀ out₀ j₀ into out j = (j ≤ count) × Gathered into₀ (los nets) (weights nets) j into × Gathered out₀ (his nets) (weights nets) j out
+Inv-loop count nets into₀ out₀ j₀ into out j = (j ≤ count) × Summed into₀ out₀ (los nets) (his nets) (weights nets) j into out
 
 abbrev μ-loop : tie.MeasureT-loop
 μ-loop count nets into₀ out₀ j₀ into out j = count - j
 
 loop-holds : tie.Need-loop-holds Inv-loop μ-loop
-loop-holds c = (search needs, search enter-none, search leave-none)
+loop-holds c = let start = c .before .before .pre in (search needs, summed-none _ _ _ _ _ _ (nets-addable _ _ _ (start .0) _ (start .1 .1)))
 
 mul-p : tie.Need-mul-p Inv-loop μ-loop
 mul-p c = search needs
@@ -22,29 +22,8 @@ mul-p c = search needs
 array-copy-out-p : tie.Need-array-copy-out-p Inv-loop μ-loop
 array-copy-out-p c = search needs
 
-mul-into : tie.Need-mul-into Inv-loop μ-loop
-mul-into c = search (needs, lo-fits)
-
-array-read-into : tie.Need-array-read-into Inv-loop μ-loop
-array-read-into c = search (needs, lo-node)
-
-add-into : tie.Need-add-into Inv-loop μ-loop
-add-into c = search enter-fits
-
-array-write-into : tie.Need-array-write-into Inv-loop μ-loop
-array-write-into c = search (needs, lo-node)
-
-mul-out : tie.Need-mul-out Inv-loop μ-loop
-mul-out c = search (needs, hi-fits)
-
-array-read-out : tie.Need-array-read-out Inv-loop μ-loop
-array-read-out c = search (needs, hi-node)
-
-add-out : tie.Need-add-out Inv-loop μ-loop
-add-out c = search leave-fits
-
-array-write-out : tie.Need-array-write-out Inv-loop μ-loop
-array-write-out c = search (needs, hi-node)
+carry-requires : tie.Need-carry-requires Inv-loop μ-loop
+carry-requires c κs = search net-room
 
 add-j : tie.Need-add-j Inv-loop μ-loop
 add-j c = search needs
@@ -53,10 +32,13 @@ loop-less : tie.Need-loop-less Inv-loop μ-loop
 loop-less c = search needs
 
 loop-again : tie.Need-loop-again Inv-loop μ-loop
-loop-again c = (search needs, search enter-more, search leave-more)
+loop-again c =
+    let turn = c .before .before .before .before in
+    let start = turn .before .before .before .before .pre in
+    (search needs, summed-more _ _ _ _ _ _ (nets-addable _ _ _ (start .0) _ (start .1 .1)) _ _ _ (turn .before .loop .inv .1) (turn .loop-test .taken) _ _ (c .carry .ensures .0) (c .carry .ensures .1))
 
 returns : tie.Need-returns Inv-loop μ-loop
-returns c = search net-sums-all
+returns c = search (summed-all, nets-addable)
 
 pub net-sums-spec : {M : Type 1} → statement M
 net-sums-spec =
@@ -67,14 +49,7 @@ net-sums-spec =
     loop-holds
     mul-p
     array-copy-out-p
-    mul-into
-    array-read-into
-    add-into
-    array-write-into
-    mul-out
-    array-read-out
-    add-out
-    array-write-out
+    carry-requires
     add-j
     loop-less
     loop-again

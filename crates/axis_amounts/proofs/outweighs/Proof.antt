@@ -51,6 +51,9 @@ loop-less-2 c = search needs
 loop-again-2 : tie.Need-loop-again-2 Inv-loop μ-loop
 loop-again-2 c = (search needs, search plus-idle, search minus-idle)
 
+is-gain-requires : tie.Need-is-gain-requires Inv-loop μ-loop
+is-gain-requires c κs = search needs
+
 returns : tie.Need-returns Inv-loop μ-loop
 returns c = search outweighs-all
 
@@ -72,4 +75,5 @@ outweighs-spec =
     loop-again
     loop-less-2
     loop-again-2
+    is-gain-requires
     returns)
