@@ -8,9 +8,9 @@ use Rattle.model.specs.Meaning.{Chip, none}
 use Rattle.text_grammar.specs.Writing.{wrote}
 use Rattle.placement.specs.Legal.{legal}
 use Rattle.placement.specs.Least.{Best, nothing, found, earliestLeast, bestRecord, chipRecord}
-use Rattle.placement.specs.Integers.{Corner, legalZ, integers}
+use Rattle.placement.specs.Integers.{Corner, legalZ}
 use Rattle.placement.proofs.Demand.{earliest-least-found, nothing-legal}
-use Rattle.placement.proofs.Integers.{naturals, legal-same, natural-legal, earliest-integers}
+use Rattle.placement.proofs.Integers.{integers, naturals, legal-same, natural-legal, earliest-integers}
 use Rattle.search.specs.Place.{placeText}
 use Rattle.search.proofs.Demand3.{none-illegal, illegal-none, place-means}
 use Rattle.place_print.specs.DemandZ.{SaysNoneZ, SaysLeastZ, PlacedZ}
