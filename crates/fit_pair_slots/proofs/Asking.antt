@@ -1,7 +1,7 @@
 -- What a byte asks in a direction, and the slot of a pair.
 use Prim.Native.Nat.{ℕ, _+_}
 use mathlib.Core.Path.{_≡_, refl}
-use mathlib.Core.Bool.{Bool, true, false}
+use mathlib.Core.Bool.{Bool, true, false, cond}
 use lib.Dec.{eqb}
 use borrow.Author.Tests.{ne-eqb}
 use Rattle.placement.specs.Letters.{left, right, low, high, dot}
@@ -12,7 +12,7 @@ use Rattle.fit_slots.specs.declared.Direction.the-variants.{Horizontal as horiz
 use Rattle.fit_slots.specs.declared.Asked.{Asked}
 use Rattle.fit_slots.specs.declared.Asked.the-variants.{Before as before, After as after, Nothing as nothing}
 use Rattle.fit_slots.specs.Slots.{asked}
-use Rattle.fit_slots.specs.Fit.{pick, letterOf}
+use Rattle.fit_slots.specs.Fit.{letterOf}
 use Rattle.fit_slots.specs.Axes.{macPair, fixPair}
 use Rattle.fit_pair_slots.specs.Letters.{letterBefore, letterAfter}
 
@@ -27,12 +27,12 @@ asks-after horizontal b r e h = rw (h, e)
 asks-after vertical b r e h = rw (h, e)
 
 -- neither L nor R asks nothing across, neither B nor A nothing up
-across : (low? high? : Bool) → nothing ≡ asked horizontal (pick low? low (pick high? high dot))
+across : (low? high? : Bool) → nothing ≡ asked horizontal (cond low? low (cond high? high dot))
 across true h = refl
 across false true = refl
 across false false = refl
 
-up : (left? right? : Bool) → nothing ≡ asked vertical (pick left? left (pick right? right dot))
+up : (left? right? : Bool) → nothing ≡ asked vertical (cond left? left (cond right? right dot))
 up true r = refl
 up false true = refl
 up false false = refl

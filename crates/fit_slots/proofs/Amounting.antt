@@ -15,7 +15,7 @@ use Rattle.axis_bounds.specs.declared.Slot.{Slot as HeldSlot}
 use Rattle.axis_bounds.specs.Axis.{noSlot}
 use Rattle.axis_bounds.specs.Listed.{tails, heads, pluses, minuses, amount}
 use Rattle.fit_slots.specs.Slots.{Slot, free, bound}
-use Rattle.fit_slots.specs.Amounts.{amountsWhere, into, outOf, inflow, outflow, worth}
+use Rattle.fit_slots.specs.Amounts.{amountsWhere, into, outOf, worth}
 use Rattle.fit_slots.proofs.Matches.{Same, AllSame}
 
 -- one amount for each slot, 0 in the slots without a bound
@@ -58,11 +58,11 @@ out-agrees k free h x a z = rw (z refl) (sym (when-zero (eqb (h .tail) k)))
 out-agrees k (bound u v b) h x a z = rw (a .0)
 
 module _ (ss : List Slot) (hs : List HeldSlot) (a : AllSame ss hs) where
-  pub inflow-is : (f : List ℕ) (k : ℕ) → OnePerSlot ss f → inflow ss f k ≡ atNode (heads hs) (amount f) (length hs) k
+  pub inflow-is : (f : List ℕ) (k : ℕ) → OnePerSlot ss f → amountsWhere (into k) ss f ≡ atNode (heads hs) (amount f) (length hs) k
   unfolding atNode
   inflow-is f k p = where-sum (into k) (λ (h : HeldSlot). h .head) k (into-agrees k) ss hs f a p
 
-  pub outflow-is : (f : List ℕ) (k : ℕ) → OnePerSlot ss f → outflow ss f k ≡ atNode (tails hs) (amount f) (length hs) k
+  pub outflow-is : (f : List ℕ) (k : ℕ) → OnePerSlot ss f → amountsWhere (outOf k) ss f ≡ atNode (tails hs) (amount f) (length hs) k
   unfolding atNode
   outflow-is f k p = where-sum (outOf k) (λ (h : HeldSlot). h .tail) k (out-agrees k) ss hs f a p
 

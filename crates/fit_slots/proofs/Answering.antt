@@ -16,7 +16,7 @@ use Rattle.axis_bounds.specs.Listed.{listed, tails, heads, pluses, minuses, amo
 use Rattle.axis_bounds.specs.Answer.{supply, demand, OnSlots, FlowOn, ChainOn}
 use Rattle.fit_slots.specs.declared.Direction.{Direction}
 use Rattle.fit_slots.specs.Slots.{Slot, slotsOn}
-use Rattle.fit_slots.specs.Amounts.{inflow, outflow, worth, Amounts, Balanced, Closed}
+use Rattle.fit_slots.specs.Amounts.{amountsWhere, into, outOf, worth, Amounts, Balanced, Closed}
 use Rattle.fit_slots.specs.Axes.{axisFor}
 use Rattle.fit_slots.proofs.Matches.{AllSame, same-slots}
 use Rattle.fit_slots.proofs.Amounting.{OnePerSlot, same-free, inflow-is, outflow-is, worth-is}
@@ -48,10 +48,10 @@ module _ (d : Direction) (c : Chip) (ls : List Letter) (v : Valid c) (te : Ends 
     worth-on : worth ss g ≡ subℕ (weigh (pluses hs) (amount f) (length hs)) (weigh (minuses hs) (amount f) (length hs))
     worth-on = worth-is ss hs g same placed ∙ ap (λ (m : ℕ → ℕ). subℕ (weigh (pluses hs) m (length hs)) (weigh (minuses hs) m (length hs))) (sym amounts-same)
 
-    in-on : (k : ℕ) → inflow ss g k ≡ atNode (heads hs) (amount f) (length hs) k
+    in-on : (k : ℕ) → amountsWhere (into k) ss g ≡ atNode (heads hs) (amount f) (length hs) k
     in-on k = inflow-is ss hs same g k placed ∙ ap (λ (m : ℕ → ℕ). atNode (heads hs) m (length hs) k) (sym amounts-same)
 
-    out-on : (k : ℕ) → outflow ss g k ≡ atNode (tails hs) (amount f) (length hs) k
+    out-on : (k : ℕ) → amountsWhere (outOf k) ss g ≡ atNode (tails hs) (amount f) (length hs) k
     out-on k = outflow-is ss hs same g k placed ∙ ap (λ (m : ℕ → ℕ). atNode (tails hs) m (length hs) k) (sym amounts-same)
 
   module _ (l : ℕ) (flow : FlowOn a f l) where

@@ -2,18 +2,19 @@
 use Prim.Native.Nat.{ℕ, zero, suc, _+_, _≤_, _<_}
 use mathlib.Core.Path.{_≡_, refl, sym, ap, subst, _∙_}
 use mathlib.Core.Bool.{Bool, true, _&&_}
-use mathlib.Core.List.{List, [], _∷_, map}
+use mathlib.Core.List.{List, [], _∷_, map, zipWith}
 use native.Mathlib.Nat.{le-of-suc-le-suc}
 use native.Mathlib.Omega.{arith}
-use lib.Dec.{leb}
+use lib.Dec.{leb, eqb}
 use lib.ListN.{length, getD, length-map}
 use borrow.Author.Tests.{leb-true, le-leb, eq-eqb}
+use Rattle.num_text.specs.Number.{allOf}
 use Rattle.model.specs.declared.Mac.{Mac}
 use Rattle.model.specs.declared.Spot.{Spot}
 use Rattle.model.specs.Meaning.{Chip}
 use Rattle.text_grammar.proofs.Lacks.{and-left, and-right}
-use Rattle.geometry.specs.Box.{boxAt}
-use Rattle.placement.specs.Legal.{boxes, inDie, allInDie, placesAll, within}
+use Rattle.geometry.specs.Box.{boxAt, inDie}
+use Rattle.placement.specs.Legal.{boxes, within}
 use Rattle.placement.specs.Letters.{Letter, keeps, pairs, keepsAll, keepsLetters}
 use Rattle.placement.proofs.FitIs.{letters-long}
 use Rattle.axis_bounds.specs.Axis.{KeepsSlot, Keeps, noSlot}
@@ -29,23 +30,23 @@ and-both p q e f = rw (e, f)
 -- ---- the die
 
 module _ (c : Chip) where
-  in-die-at : (d : Direction) (m : Mac) (p : Spot) → inDie c (boxAt m p) ≡ true → cornerOn d p + macSide d m ≤ dieSide d (c .die)
+  in-die-at : (d : Direction) (m : Mac) (p : Spot) → inDie (c .die) (boxAt m p) ≡ true → cornerOn d p + macSide d m ≤ dieSide d (c .die)
   in-die-at horizontal m p h = leb-true _ _ (and-left (leb (p .x + m .w) (c .die .w)) (leb (p .y + m .h) (c .die .h)) h)
   in-die-at vertical m p h = leb-true _ _ (and-right (leb (p .x + m .w) (c .die .w)) (leb (p .y + m .h) (c .die .h)) h)
 
-  die-sizes : (d : Direction) (ms : List Mac) (ps : List Spot) → length ps ≡ length ms → allInDie c (boxes ms ps) ≡ true → (i : ℕ) → i < length ms → getD (map (cornerOn d) ps) i 0 + getD (map (macSide d) ms) i 0 ≤ dieSide d (c .die)
-  unfolding boxes allInDie
+  die-sizes : (d : Direction) (ms : List Mac) (ps : List Spot) → length ps ≡ length ms → allOf (inDie (c .die)) (boxes ms ps) ≡ true → (i : ℕ) → i < length ms → getD (map (cornerOn d) ps) i 0 + getD (map (macSide d) ms) i 0 ≤ dieSide d (c .die)
+  unfolding zipWith allOf
   die-sizes d [] ps e h i l = absurd (omega arith)
   die-sizes d (m ∷ ms) [] e h i l = absurd (omega arith)
-  die-sizes d (m ∷ ms) (p ∷ ps) e h zero l = in-die-at d m p (and-left (inDie c (boxAt m p)) (allInDie c (boxes ms ps)) h)
-  die-sizes d (m ∷ ms) (p ∷ ps) e h (suc i) l = die-sizes d ms ps (omega arith) (and-right (inDie c (boxAt m p)) (allInDie c (boxes ms ps)) h) i (le-of-suc-le-suc l)
+  die-sizes d (m ∷ ms) (p ∷ ps) e h zero l = in-die-at d m p (and-left (inDie (c .die) (boxAt m p)) (allOf (inDie (c .die)) (boxes ms ps)) h)
+  die-sizes d (m ∷ ms) (p ∷ ps) e h (suc i) l = die-sizes d ms ps (omega arith) (and-right (inDie (c .die) (boxAt m p)) (allOf (inDie (c .die)) (boxes ms ps)) h) i (le-of-suc-le-suc l)
 
-  sizes-die : (ms : List Mac) (ps : List Spot) → length ps ≡ length ms → ((d : Direction) (i : ℕ) → i < length ms → getD (map (cornerOn d) ps) i 0 + getD (map (macSide d) ms) i 0 ≤ dieSide d (c .die)) → allInDie c (boxes ms ps) ≡ true
-  unfolding boxes allInDie
+  sizes-die : (ms : List Mac) (ps : List Spot) → length ps ≡ length ms → ((d : Direction) (i : ℕ) → i < length ms → getD (map (cornerOn d) ps) i 0 + getD (map (macSide d) ms) i 0 ≤ dieSide d (c .die)) → allOf (inDie (c .die)) (boxes ms ps) ≡ true
+  unfolding zipWith allOf
   sizes-die [] ps e h = refl
   sizes-die (m ∷ ms) [] e h = absurd (omega arith)
   sizes-die (m ∷ ms) (p ∷ ps) e h =
-      and-both (inDie c (boxAt m p)) (allInDie c (boxes ms ps))
+      and-both (inDie (c .die) (boxAt m p)) (allOf (inDie (c .die)) (boxes ms ps))
       (and-both (leb (p .x + m .w) (c .die .w)) (leb (p .y + m .h) (c .die .h)) (le-leb _ _ (h horizontal 0 (omega arith))) (le-leb _ _ (h vertical 0 (omega arith))))
       (sizes-die ms ps (omega arith) (λ d i l. h d (suc i) (omega arith)))
 
@@ -80,7 +81,7 @@ module _ (c : Chip) (ls : List Letter) (ps : List Spot) where
       let k = and-right (within c ps) (keepsAll c ls (pairs c ps)) h in
       record {
         long = length-map ps (cornerOn d) ∙ e ∙ sym (length-map (c .macs) (macSide d));
-        size = λ i l. die-sizes c d (c .macs) ps e (and-right (placesAll c ps) (allInDie c (boxes (c .macs) ps)) w) i (subst (λ (n : ℕ). i < n) (length-map (c .macs) (macSide d)) l);
+        size = λ i l. die-sizes c d (c .macs) ps e (and-right (eqb (length ps) (length (c .macs))) (allOf (inDie (c .die)) (boxes (c .macs) ps)) w) i (subst (λ (n : ℕ). i < n) (length-map (c .macs) (macSide d)) l);
         pair = λ j l. letters-slots c ps d ls (couples c) (ap (keepsAll c ls) (sym (pairs-couples c ps e)) ∙ k) j;
       }
 
@@ -88,6 +89,6 @@ module _ (c : Chip) (ls : List Letter) (ps : List Spot) where
   unfolding keepsLetters within axisFor
   keeps-joins el e h =
       and-both (within c ps) (keepsAll c ls (pairs c ps))
-      (and-both (placesAll c ps) (allInDie c (boxes (c .macs) ps)) (eq-eqb _ _ e)
+      (and-both (eqb (length ps) (length (c .macs))) (allOf (inDie (c .die)) (boxes (c .macs) ps)) (eq-eqb _ _ e)
       (sizes-die c (c .macs) ps e (λ d i l. h d .size i (subst (λ (n : ℕ). i < n) (sym (length-map (c .macs) (macSide d))) l))))
       (ap (keepsAll c ls) (pairs-couples c ps e) ∙ slots-letters c ps ls (couples c) el (λ d j l. h d .pair j l))

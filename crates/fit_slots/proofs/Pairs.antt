@@ -2,7 +2,7 @@
 use Prim.Native.Nat.{ℕ, zero, suc, _+_, _≤_}
 use mathlib.Core.Path.{_≡_, refl, ap, _∙_}
 use mathlib.Core.Bool.{true}
-use mathlib.Core.List.{List, [], _∷_, _++_, map}
+use mathlib.Core.List.{List, [], _∷_, _++_, map, zipWith}
 use native.Mathlib.Omega.{arith}
 use lib.ListN.{length, getD, List·getD-map}
 use borrow.Author.Tests.{leb-true, le-leb}
@@ -45,14 +45,14 @@ map-append f [] t = refl
 map-append f (a ∷ s) t = ap (λ (u : List _). f a ∷ u) (map-append f s t)
 
 with-couples : (ps : List Spot) (i : ℕ) (a : Mac) (j : ℕ) (ms : List Mac) (qs : List Spot) → From ps j qs → length qs ≡ length ms → with (boxAt a (origin ps i)) (boxes ms qs) ≡ map (pairOf ps) (couplesWith i a (suc j) ms)
-unfolding boxes couplesWith
+unfolding zipWith couplesWith
 with-couples ps i a j [] qs h e = refl
 with-couples ps i a j (m ∷ ms) [] h e = absurd (omega arith)
 with-couples ps i a j (m ∷ ms) (q ∷ qs) h e =
     rw (from-first ps j q qs h, with-couples ps i a (suc j) ms qs (from-next ps j q qs h) (omega arith))
 
 mac-pairs : (ps : List Spot) (i : ℕ) (ms : List Mac) (qs : List Spot) → From ps i qs → length qs ≡ length ms → pairsOf (boxes ms qs) ≡ map (pairOf ps) (macCouples (suc i) ms)
-unfolding boxes pairsOf macCouples
+unfolding zipWith pairsOf macCouples
 mac-pairs ps i [] qs h e = refl
 mac-pairs ps i (m ∷ ms) [] h e = absurd (omega arith)
 mac-pairs ps i (m ∷ ms) (q ∷ qs) h e =
@@ -65,7 +65,7 @@ fix-with ps i a [] = refl
 fix-with ps i a (f ∷ fs) = rw (fix-with ps i a fs)
 
 fix-pairs : (ps : List Spot) (i : ℕ) (ms : List Mac) (qs : List Spot) (fs : List Fix) → From ps i qs → length qs ≡ length ms → withEach (boxes ms qs) (map boxOf fs) ≡ map (pairOf ps) (fixCouples (suc i) ms fs)
-unfolding boxes withEach fixCouples
+unfolding zipWith withEach fixCouples
 fix-pairs ps i [] qs fs h e = refl
 fix-pairs ps i (m ∷ ms) [] fs h e = absurd (omega arith)
 fix-pairs ps i (m ∷ ms) (q ∷ qs) fs h e =

@@ -33,7 +33,7 @@ use Rattle.axis_bounds.proofs.Worths.{flow-most, closed-most}
 use Rattle.fit_slots.specs.declared.Direction.{Direction}
 use Rattle.fit_slots.specs.declared.Direction.the-variants.{Horizontal as horizontal, Vertical as vertical}
 use Rattle.fit_slots.specs.Slots.{Slot, slotsOn}
-use Rattle.fit_slots.specs.Amounts.{inflow, outflow, worth, Amounts, Balanced, Closed, amountsOn, wholeWorth, Flow, Chain}
+use Rattle.fit_slots.specs.Amounts.{amountsWhere, into, outOf, worth, Amounts, Balanced, Closed, amountsOn, wholeWorth, Flow, Chain}
 use Rattle.fit_slots.specs.Axes.{axisFor, cornersOn}
 use Rattle.fit_slots.proofs.Matches.{AllSame, same-slots}
 use Rattle.fit_slots.proofs.Amounting.{OnePerSlot, inflow-is, outflow-is, worth-is}
@@ -78,7 +78,7 @@ module _ (c : Chip) (ls : List Letter) (v : Valid c) where
     worth-parts = worth-is ss hs f same placed
 
     -- what is in balance on the slots of document 01 is so on the axis
-    balance-on : (sup dem : ℕ → ℕ) → ((n : ℕ) → inflow ss f n + sup n ≡ outflow ss f n + dem n) → Balance (tails hs) (heads hs) (amount f) sup dem (length hs) (nodeCount a)
+    balance-on : (sup dem : ℕ → ℕ) → ((n : ℕ) → amountsWhere (into n) ss f + sup n ≡ amountsWhere (outOf n) ss f + dem n) → Balance (tails hs) (heads hs) (amount f) sup dem (length hs) (nodeCount a)
     balance-on sup dem b = record { eq = λ n l. let e = b n in let i = inflow-is ss hs same f n placed in let o = outflow-is ss hs same f n placed in omega arith }
 
     module _ (ps : List Spot) (k : keepsLetters c ls ps ≡ true) where

@@ -22,6 +22,7 @@ amountsWhere test [] f = 0
 amountsWhere test (s ∷ ss) [] = 0
 amountsWhere test (s ∷ ss) (x ∷ f) = when (test s) x + amountsWhere test ss f
 
+-- a slot's amount flows into node k, or out of it
 abbrev pub into : ℕ → Slot → Bool
 into k free = false
 into k (bound u v a) = eqb v k
@@ -29,13 +30,6 @@ into k (bound u v a) = eqb v k
 abbrev pub outOf : ℕ → Slot → Bool
 outOf k free = false
 outOf k (bound u v a) = eqb u k
-
--- the amounts that flow into node k, and out of it
-abbrev pub inflow : List Slot → List ℕ → ℕ → ℕ
-inflow ss f k = amountsWhere (into k) ss f
-
-abbrev pub outflow : List Slot → List ℕ → ℕ → ℕ
-outflow ss f k = amountsWhere (outOf k) ss f
 
 -- the sum of a × amount
 unfoldable pub worth : List Slot → List ℕ → ℤ
@@ -63,23 +57,20 @@ pub record Amounts (ss : List Slot) (f : List ℕ) (limit : ℕ) : Type 0 where
 
 -- inflow and the weight at a net's lo are outflow and the weight at a net's hi, at every node
 pub record Balanced (c : Chip) (ss : List Slot) (f : List ℕ) : Type 0 where
-  pub at : (k : ℕ) → inflow ss f k + loWeight c k ≡ outflow ss f k + hiWeight c k
+  pub at : (k : ℕ) → amountsWhere (into k) ss f + loWeight c k ≡ amountsWhere (outOf k) ss f + hiWeight c k
 
 -- inflow equals outflow everywhere
 pub record Closed (ss : List Slot) (f : List ℕ) : Type 0 where
-  pub at : (k : ℕ) → inflow ss f k ≡ outflow ss f k
-
--- the amounts of the horizontal slots, and of the vertical slots after them
-abbrev pub ofDirection : Direction → ℕ → List ℕ → List ℕ
-ofDirection horizontal m f = take m f
-ofDirection vertical m f = take m (drop m f)
+  pub at : (k : ℕ) → amountsWhere (into k) ss f ≡ amountsWhere (outOf k) ss f
 
 -- the number of slots of one direction
 abbrev pub slotsEach : Chip → List Letter → ℕ
 slotsEach c ls = length (slotsOn horizontal c ls)
 
+-- the amounts of the horizontal slots, and of the vertical slots after them
 abbrev pub amountsOn : Direction → Chip → List Letter → List ℕ → List ℕ
-amountsOn d c ls f = ofDirection d (slotsEach c ls) f
+amountsOn horizontal c ls f = take (slotsEach c ls) f
+amountsOn vertical c ls f = take (slotsEach c ls) (drop (slotsEach c ls) f)
 
 -- the sum of a × amount over both directions
 abbrev pub wholeWorth : Chip → List Letter → List ℕ → ℤ

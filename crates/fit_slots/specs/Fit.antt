@@ -3,9 +3,10 @@
 use Prim.Native.Nat.{ℕ, _+_, _*_, _/_, _-_}
 use mathlib.Core.Path.{_≡_}
 use mathlib.Core.List.{List, [], _∷_, map}
-use mathlib.Core.Bool.{Bool, true, false, _&&_, _||_}
+use mathlib.Core.Bool.{Bool, _||_, cond}
 use lib.Dec.{leb, eqb}
 use lib.ListN.{length, take, drop}
+use Rattle.num_text.specs.Number.{allOf}
 use Rattle.model.specs.declared.Spot.{Spot}
 use Rattle.model.specs.Meaning.{Chip}
 use Rattle.refusals.specs.Tests.{Test, test, firstFailed, unlessFailed}
@@ -26,16 +27,11 @@ pub data Fit : Type 0 where
 abbrev pub isLetter : ℕ → Bool
 isLetter b = eqb b 76 || (eqb b 82 || (eqb b 66 || (eqb b 65 || eqb b 46)))
 
-unfoldable pub areLetters : List ℕ → Bool
-areLetters [] = true
-areLetters (b ∷ s) = isLetter b && areLetters s
-
-abbrev pub pick : Bool → Letter → Letter → Letter
-pick true l m = l
-pick false l m = m
+abbrev pub areLetters : List ℕ → Bool
+areLetters s = allOf isLetter s
 
 abbrev pub letterOf : ℕ → Letter
-letterOf b = pick (eqb b 76) left (pick (eqb b 82) right (pick (eqb b 66) low (pick (eqb b 65) high dot)))
+letterOf b = cond (eqb b 76) left (cond (eqb b 82) right (cond (eqb b 66) low (cond (eqb b 65) high dot)))
 
 abbrev pub lettersOf : List ℕ → List Letter
 lettersOf s = map letterOf s

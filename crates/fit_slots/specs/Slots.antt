@@ -95,10 +95,9 @@ couples c = couplesOf (c .macs) (c .fixes)
 abbrev pub pairSlot : Direction → Asked → Couple → Slot
 pairSlot d before (twoMacs i a j b) = bound i j (pos (macSide d a))
 pairSlot d after (twoMacs i a j b) = bound j i (pos (macSide d b))
-pairSlot d nothing (twoMacs i a j b) = free
 pairSlot d before (macFix i a f) = bound i 0 (pos (macSide d a) -ℤ pos (fixCorner d f))
 pairSlot d after (macFix i a f) = bound 0 i (pos (fixCorner d f + fixSide d f))
-pairSlot d nothing (macFix i a f) = free
+pairSlot d nothing q = free
 
 unfoldable pub pairSlots : Direction → List Letter → List Couple → List Slot
 pairSlots d [] qs = []

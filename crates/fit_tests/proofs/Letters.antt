@@ -9,6 +9,7 @@ use lib.Dec.{eqb}
 use lib.ListN.{length, getD, drop}
 use lib.Seq.{drop-cons}
 use borrow.Author.Tests.{eq-eqb, ne-eqb, not-true, not-false}
+use Rattle.num_text.specs.Number.{allOf}
 use Rattle.fit_slots.specs.Fit.{isLetter, areLetters}
 
 module _ (b : ℕ) where
@@ -36,7 +37,7 @@ module _ (s : List ℕ) where
   module _ (i : ℕ) (inv : areLetters s ≡ areLetters (drop i s)) where
     module _ (h : i < length s) (r : Bool) (e : r ≡ isLetter (getD s i 0)) where
       next : areLetters (drop i s) ≡ (r && areLetters (drop (suc i) s))
-      unfolding areLetters
+      unfolding allOf
       next = ap areLetters (drop-cons s i 0 h) ∙ ap (λ (b : Bool). b && areLetters (drop (suc i) s)) (sym e)
 
       pub letters-fail : not r ≡ true → false ≡ areLetters s
@@ -46,7 +47,7 @@ module _ (s : List ℕ) where
       letters-more n = rw add-one (let f : r ≡ true = not-false r n in inv ∙ next ∙ ap (λ (b : Bool). b && areLetters (drop (suc i) s)) f)
 
     pub letters-all : length s ≤ i → true ≡ areLetters s
-    unfolding areLetters
+    unfolding allOf
     letters-all h = sym (inv ∙ ap areLetters (drop-past s i h))
       where
         drop-past : (t : List ℕ) (k : ℕ) → length t ≤ k → drop k t ≡ []

@@ -3,11 +3,12 @@ use mathlib.Core.Path.{_≡_, refl, sym, ap, _∙_}
 use mathlib.Core.Bool.{Bool, true, false, _&&_, and-false, and-assoc}
 use mathlib.Core.List.{List, [], _∷_, _++_}
 use Prim.Native.Nat.{ℕ}
+use Rattle.num_text.specs.Number.{allOf}
 use Rattle.model.specs.Meaning.{Chip}
 use Rattle.geometry.specs.declared.Box.{Box}
-use Rattle.geometry.specs.Box.{apart, clearOf}
+use Rattle.geometry.specs.Box.{apart, clearOf, inDie}
 use Rattle.geometry.proofs.Swap.{apart-swap}
-use Rattle.placement.specs.Legal.{gapOf, fixBoxes, inDie, allInDie, allApart}
+use Rattle.placement.specs.Legal.{gapOf, fixBoxes, allApart}
 use Rattle.legal.specs.Turn.{legalAfter}
 
 -- tests in another order
@@ -61,11 +62,11 @@ module _ (c : Chip) where
   each-none [] = refl
   each-none (b ∷ s) = each-none s
 
-  after-legal : (before s : List Box) → legalAfter g (c .die) (fixBoxes c) before s ≡ (allInDie c s && (eachClear before s && allApart c s))
-  unfolding legalAfter allInDie allApart
+  after-legal : (before s : List Box) → legalAfter g (c .die) (fixBoxes c) before s ≡ (allOf (inDie (c .die)) s && (eachClear before s && allApart c s))
+  unfolding legalAfter allOf allApart
   after-legal before [] = refl
   after-legal before (b ∷ s) = rw (after-legal (before ++ (b ∷ [])) s, each-more b before s)
-      (arrange (inDie c b) (clearOf g b (fixBoxes c)) (clearOf g b before) (allInDie c s) (eachClear before s) (clearOf g b s) (allApart c s))
+      (arrange (inDie (c .die) b) (clearOf g b (fixBoxes c)) (clearOf g b before) (allOf (inDie (c .die)) s) (eachClear before s) (clearOf g b s) (allApart c s))
 
-  pub turn-legal : (s : List Box) → legalAfter g (c .die) (fixBoxes c) [] s ≡ (allInDie c s && allApart c s)
+  pub turn-legal : (s : List Box) → legalAfter g (c .die) (fixBoxes c) [] s ≡ (allOf (inDie (c .die)) s && allApart c s)
   turn-legal s = after-legal [] s ∙ rw (each-none s)

@@ -13,7 +13,8 @@ use Rattle.model.specs.Meaning.{Net, chipOf, pinsOf, blankNet, blankPin, blankS
 use Rattle.chip_text.specs.Valid.{noNet, pinsBefore, HeldValidPin, HeldValid}
 use Rattle.chip_text.proofs.HeldNets.{pins-before-more, pins-before-up}
 use Rattle.chip_text.proofs.HeldMeaning.{weight-held, nets-held, pins-held}
-use Rattle.placement.specs.Length.{CornersWithin, origin, netLength, netsLength, wirelength}
+use Rattle.placement.specs.Length.{origin, netLength, netsLength, wirelength}
+use Rattle.placement.specs.Corners.{CornersWithin}
 use Rattle.placement.proofs.Spans.{upX, upY, held-length}
 use Rattle.placement.proofs.LengthBound.{origin-near}
 use Rattle.measure.specs.Held.{halfPerimeter, PinWithin, PinsWithin, lengthTo}

@@ -14,7 +14,8 @@ use Rattle.chip_text.specs.Valid.{pinsBefore}
 use Rattle.chip_text.specs.Passed.{Passed}
 use Rattle.chip_text.proofs.Passing.{Whole}
 use Rattle.num_laws.specs.Spread.{spread}
-use Rattle.placement.specs.Length.{origin, CornersWithin}
+use Rattle.placement.specs.Length.{origin}
+use Rattle.placement.specs.Corners.{CornersWithin}
 use Rattle.placement.proofs.Spans.{upX, upY}
 use Rattle.measure.specs.declared.Extent.{Extent}
 

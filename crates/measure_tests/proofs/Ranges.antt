@@ -13,7 +13,7 @@ use borrow.Author.Tests.{le-leb, lt-leb, leb-true}
 use Rattle.model.specs.declared.Spot.{Spot}
 use Rattle.model.specs.Meaning.{blankSpot}
 use Rattle.text_grammar.proofs.Lacks.{and-left, and-right}
-use Rattle.placement.specs.Length.{CornersWithin}
+use Rattle.placement.specs.Corners.{CornersWithin}
 use Rattle.measure_tests.specs.Positions.{inRange}
 
 -- what the loop has left to test

@@ -13,10 +13,10 @@ minusSign = 45
 abbrev pub isDigit : ℕ → Bool
 isDigit b = leb 48 b && leb b 57
 
--- every byte of s passes the test
-unfoldable pub allOf : (ℕ → Bool) → List ℕ → Bool
+-- everything in the list s passes the test
+unfoldable pub allOf : {A : Type 0} → (A → Bool) → List A → Bool
 allOf p [] = true
-allOf p (b ∷ s) = p b && allOf p s
+allOf p (a ∷ s) = p a && allOf p s
 
 -- every byte of s is a digit
 abbrev pub allDigits : List ℕ → Bool

@@ -10,8 +10,8 @@ use Rattle.text_grammar.proofs.Lacks.{and-left, and-right}
 use Rattle.text_grammar.proofs.Every.{Every}
 use Rattle.placement.proofs.OrderLaws.{or-says}
 use Rattle.geometry.specs.declared.Box.{Box}
-use Rattle.geometry.specs.Box.{clearOf}
-use Rattle.placement.specs.Legal.{boxes, fixBoxes, leftOf, rightOf, below, above, apart, apartFrom, allApart, within, legal}
+use Rattle.geometry.specs.Box.{clearOf, apart, below, leftOf}
+use Rattle.placement.specs.Legal.{boxes, fixBoxes, allApart, within, legal, gapOf}
 use Rattle.placement.specs.Letters.{Letter, left, right, low, high, dot, keeps, Pair, with, pairsOf, withEach, pairs, keepsAll, keepsLetters}
 
 or-first : (p q : Bool) → p ≡ true → (p || q) ≡ true
@@ -34,17 +34,17 @@ regroup false b d e = refl
 -- every pair is apart
 abbrev allPairs : Chip → List Pair → Bool
 allPairs c [] = true
-allPairs c (q ∷ qs) = apart c (q .first) (q .second) && allPairs c qs
+allPairs c (q ∷ qs) = apart (gapOf c) (q .first) (q .second) && allPairs c qs
 
 module _ (c : Chip) where
   pairs-append : (qs rs : List Pair) → allPairs c (qs ++ rs) ≡ (allPairs c qs && allPairs c rs)
   pairs-append [] rs = refl
-  pairs-append (q ∷ qs) rs = ap (λ (b : Bool). apart c (q .first) (q .second) && b) (pairs-append qs rs) ∙ sym (and-assoc (apart c (q .first) (q .second)) (allPairs c qs) (allPairs c rs))
+  pairs-append (q ∷ qs) rs = ap (λ (b : Bool). apart (gapOf c) (q .first) (q .second) && b) (pairs-append qs rs) ∙ sym (and-assoc (apart (gapOf c) (q .first) (q .second)) (allPairs c qs) (allPairs c rs))
 
-  from-pairs : (a : Box) (s : List Box) → apartFrom c a s ≡ allPairs c (with a s)
+  from-pairs : (a : Box) (s : List Box) → clearOf (gapOf c) a s ≡ allPairs c (with a s)
   unfolding clearOf
   from-pairs a [] = refl
-  from-pairs a (b ∷ s) = ap (λ (t : Bool). apart c a b && t) (from-pairs a s)
+  from-pairs a (b ∷ s) = ap (λ (t : Bool). apart (gapOf c) a b && t) (from-pairs a s)
 
   apart-pairs : (s : List Box) → allApart c s ≡ (allPairs c (pairsOf s) && allPairs c (withEach s (fixBoxes c)))
   unfolding allApart pairsOf withEach
@@ -72,31 +72,31 @@ NoDot ls = Every Says ls
 
 -- boxes are apart exactly when one of the four letters is kept
 module _ (c : Chip) (a b : Box) where
-  pub keeps-apart : (l : Letter) → Says l → keeps c l a b ≡ true → apart c a b ≡ true
-  keeps-apart left n k = or-first (leftOf c a b) _ k
-  keeps-apart right n k = or-second (leftOf c a b) _ (or-first (rightOf c a b) _ k)
-  keeps-apart low n k = or-second (leftOf c a b) _ (or-second (rightOf c a b) _ (or-first (below c a b) _ k))
-  keeps-apart high n k = or-second (leftOf c a b) _ (or-second (rightOf c a b) _ (or-second (below c a b) _ k))
+  pub keeps-apart : (l : Letter) → Says l → keeps c l a b ≡ true → apart (gapOf c) a b ≡ true
+  keeps-apart left n k = or-first (leftOf (gapOf c) a b) _ k
+  keeps-apart right n k = or-second (leftOf (gapOf c) a b) _ (or-first (leftOf (gapOf c) b a) _ k)
+  keeps-apart low n k = or-second (leftOf (gapOf c) a b) _ (or-second (leftOf (gapOf c) b a) _ (or-first (below (gapOf c) a b) _ k))
+  keeps-apart high n k = or-second (leftOf (gapOf c) a b) _ (or-second (leftOf (gapOf c) b a) _ (or-second (below (gapOf c) a b) _ k))
   keeps-apart dot n k = absurd (true≢false n)
 
   -- a letter that is kept
   abbrev pub Kept : Type 0
   Kept = (l : Letter) × Says l × (keeps c l a b ≡ true)
 
-  pub apart-keeps : apart c a b ≡ true → Kept
-  apart-keeps e = first (or-says (leftOf c a b) (rightOf c a b || (below c a b || above c a b)) e)
+  pub apart-keeps : apart (gapOf c) a b ≡ true → Kept
+  apart-keeps e = first (or-says (leftOf (gapOf c) a b) (leftOf (gapOf c) b a || (below (gapOf c) a b || below (gapOf c) b a)) e)
     where
-      third : (below c a b ≡ true) ⊎ (above c a b ≡ true) → Kept
+      third : (below (gapOf c) a b ≡ true) ⊎ (below (gapOf c) b a ≡ true) → Kept
       third (inl k) = (low, refl, k)
       third (inr k) = (high, refl, k)
 
-      second : (rightOf c a b ≡ true) ⊎ ((below c a b || above c a b) ≡ true) → Kept
+      second : (leftOf (gapOf c) b a ≡ true) ⊎ ((below (gapOf c) a b || below (gapOf c) b a) ≡ true) → Kept
       second (inl k) = (right, refl, k)
-      second (inr k) = third (or-says (below c a b) (above c a b) k)
+      second (inr k) = third (or-says (below (gapOf c) a b) (below (gapOf c) b a) k)
 
-      first : (leftOf c a b ≡ true) ⊎ ((rightOf c a b || (below c a b || above c a b)) ≡ true) → Kept
+      first : (leftOf (gapOf c) a b ≡ true) ⊎ ((leftOf (gapOf c) b a || (below (gapOf c) a b || below (gapOf c) b a)) ≡ true) → Kept
       first (inl k) = (left, refl, k)
-      first (inr k) = second (or-says (rightOf c a b) (below c a b || above c a b) k)
+      first (inr k) = second (or-says (leftOf (gapOf c) b a) (below (gapOf c) a b || below (gapOf c) b a) k)
 
 -- letters without a dot that fit
 abbrev pub Some : (List Letter → Bool) → Type 0
@@ -107,8 +107,8 @@ module _ (c : Chip) where
   unfolding keepsAll
   pairs-letters [] e = ([], tt, refl)
   pairs-letters (q ∷ qs) e = by
-      (apart-keeps c (q .first) (q .second) (and-left (apart c (q .first) (q .second)) (allPairs c qs) e))
-      (pairs-letters qs (and-right (apart c (q .first) (q .second)) (allPairs c qs) e))
+      (apart-keeps c (q .first) (q .second) (and-left (apart (gapOf c) (q .first) (q .second)) (allPairs c qs) e))
+      (pairs-letters qs (and-right (apart (gapOf c) (q .first) (q .second)) (allPairs c qs) e))
     where
       by : Kept c (q .first) (q .second) → Some (λ ls. keepsAll c ls qs) → Some (λ ls. keepsAll c ls (q ∷ qs))
       by (l, n, k) (ls, m, r) = (l ∷ ls, (n, m), and-both (keeps c l (q .first) (q .second)) (keepsAll c ls qs) k r)

@@ -5,28 +5,39 @@ use Prim.Native.Nat.{ℕ, zero, suc, _+_, _≤_, _<_}
 use mathlib.Core.Path.{_≡_, refl, sym, ap, subst, _∙_}
 use mathlib.Core.Logic.{_⊎_, inl, inr}
 use mathlib.Core.Bool.{Bool, true, or-true}
-use mathlib.Core.List.{List, [], _∷_, _++_, map, List·Memᴰ, List·Memᴰ·head, List·Memᴰ·tail, List·Memᴰ·not-nil, List·Memᴰ·cases-cons, List·Memᴰ·append-cases, List·Memᴰ·eq-of-singleton, Memᴰ·cast, Memᴰ·map, Memᴰ·of-map, Memᴰ·append-left, Memᴰ·append-right}
+use mathlib.Core.List.{List, [], _∷_, _++_, map, List·Memᴰ, List·Memᴰ·head, List·Memᴰ·tail, List·Memᴰ·not-nil, List·Memᴰ·cases-cons, List·Memᴰ·append-cases, List·Memᴰ·eq-of-singleton, Memᴰ·cast, Memᴰ·map, Memᴰ·of-map, Memᴰ·append-left, Memᴰ·append-right, zipWith, flatMap}
 use native.Mathlib.Decide.{ℕ-discrete}
 use native.Mathlib.Omega.{arith}
-use lib.Dec.{ltb, leb}
+use lib.Dec.{ltb, leb, eqb}
 use lib.ListN.{length}
 use borrow.Author.Tests.{lt-ltb, le-ltb, eq-eqb, eqb-true, leb-true}
+use Rattle.num_text.specs.Number.{allOf}
 use Rattle.model.specs.declared.Mac.{Mac}
 use Rattle.model.specs.declared.Spot.{Spot}
 use Rattle.model.specs.Meaning.{Chip}
 use Rattle.text_grammar.proofs.Every.{Every}
 use Rattle.text_grammar.proofs.Lacks.{and-left, and-right}
-use Rattle.geometry.specs.Box.{boxAt}
-use Rattle.placement.specs.Legal.{boxes, inDie, allInDie, allApart, placesAll, within, legal}
+use Rattle.geometry.specs.Box.{boxAt, inDie}
+use Rattle.placement.specs.Legal.{boxes, allApart, within, legal}
 use Rattle.placement.specs.Length.{wirelength}
 use Rattle.placement.specs.Order.{keys, firstSmaller, before}
-use Rattle.placement.specs.Least.{upFrom, column, grid, corners, inFront, placements, Best, nothing, found, firstLeast, earliestLeast, fitOf}
+use Rattle.placement.specs.Least.{upFrom, corners, placements, Best, nothing, found, firstLeast, earliestLeast, fitOf}
 use Rattle.placement.specs.Demand.{EarliestLeast}
 use Rattle.placement.specs.Letters.{Letter, pairs, keepsAll, keepsLetters}
 use Rattle.placement.proofs.FirstLeast.{Is, LeastAt, NonePasses, first-least}
 
 abbrev spot : ℕ → ℕ → Spot
 spot x y = record { x = x; y = y }
+
+-- the corners with that x, those with one of the xs, and the placements with one of the corners in front
+abbrev column : ℕ → List ℕ → List Spot
+column x ys = map (spot x) ys
+
+abbrev grid : List ℕ → List ℕ → List Spot
+grid xs ys = flatMap (λ (x : ℕ). column x ys) xs
+
+abbrev inFront : List Spot → List (List Spot) → List (List Spot)
+inFront ps rest = flatMap (λ (p : Spot). map (λ (q : List Spot). p ∷ q) rest) ps
 
 -- what the lists hold
 pub up-from-has : (a k x : ℕ) → a ≤ x → x < a + k → List·Memᴰ x (upFrom a k)
@@ -39,12 +50,11 @@ up-from-has a (suc k) x l h = by (ℕ-discrete x a) (up-from-has (suc a) k x)
     by (no n) ih = List·Memᴰ·tail (ih (omega arith) (omega arith))
 
 pub column-has : (x y : ℕ) (ys : List ℕ) → List·Memᴰ y ys → List·Memᴰ (spot x y) (column x ys)
-unfolding column
 column-has x y (b ∷ ys) (List·Memᴰ·head e) = List·Memᴰ·head (ap (spot x) e)
 column-has x y (b ∷ ys) (List·Memᴰ·tail m) = List·Memᴰ·tail (column-has x y ys m)
 
 pub grid-has : (x y : ℕ) (xs ys : List ℕ) → List·Memᴰ x xs → List·Memᴰ y ys → List·Memᴰ (spot x y) (grid xs ys)
-unfolding grid
+unfolding flatMap
 grid-has x y (a ∷ xs) ys (List·Memᴰ·head e) n = Memᴰ·append-left (grid xs ys) (Memᴰ·cast (ap (λ (z : ℕ). spot z y) e) (column-has a y ys n))
 grid-has x y (a ∷ xs) ys (List·Memᴰ·tail m) n = Memᴰ·append-right (column a ys) (grid-has x y xs ys m n)
 
@@ -52,7 +62,7 @@ pub corners-have : (c : Chip) (p : Spot) → p .x ≤ c .die .w → p .y ≤ c .
 corners-have c p l h = grid-has (p .x) (p .y) (upFrom 0 (suc (c .die .w))) (upFrom 0 (suc (c .die .h))) (up-from-has 0 (suc (c .die .w)) (p .x) (omega arith) (omega arith)) (up-from-has 0 (suc (c .die .h)) (p .y) (omega arith) (omega arith))
 
 pub in-front-has : (p : Spot) (ps : List Spot) (all : List Spot) (rest : List (List Spot)) → List·Memᴰ p all → List·Memᴰ ps rest → List·Memᴰ (p ∷ ps) (inFront all rest)
-unfolding inFront
+unfolding flatMap
 in-front-has p ps (a ∷ all) rest (List·Memᴰ·head e) n = Memᴰ·append-left (inFront all rest) (Memᴰ·cast (ap (λ (q : Spot). q ∷ ps) e) (Memᴰ·map (λ (q : List Spot). a ∷ q) n))
 in-front-has p ps (a ∷ all) rest (List·Memᴰ·tail m) n = Memᴰ·append-right (map (λ (q : List Spot). a ∷ q) rest) (in-front-has p ps all rest m n)
 
@@ -66,7 +76,7 @@ placements-have (m ∷ ms) all (p ∷ ps) e i = in-front-has p ps all (placement
 
 in-front-split : (all : List Spot) (rest : List (List Spot)) (ps : List Spot) → List·Memᴰ ps (inFront all rest)
     → (p : Spot) × (q : List Spot) × (List·Memᴰ p all) × (List·Memᴰ q rest) × (ps ≡ p ∷ q)
-unfolding inFront
+unfolding flatMap
 in-front-split [] rest ps m = absurd (List·Memᴰ·not-nil m)
 in-front-split (a ∷ all) rest ps m = by (List·Memᴰ·append-cases (map (λ (q : List Spot). a ∷ q) rest) m) (in-front-split all rest ps)
   where
@@ -125,7 +135,6 @@ abbrev pub Ahead : Spot → Spot → Type 0
 Ahead p q = (p .x < q .x) ⊎ ((p .x ≡ q .x) × (p .y < q .y))
 
 column-holds : (x : ℕ) (ys : List ℕ) (q : Spot) → List·Memᴰ q (column x ys) → (q .x ≡ x) × List·Memᴰ (q .y) ys
-unfolding column
 column-holds x [] q m = absurd (List·Memᴰ·not-nil m)
 column-holds x (y ∷ ys) q m = by (List·Memᴰ·cases-cons m) (column-holds x ys q)
   where
@@ -134,7 +143,7 @@ column-holds x (y ∷ ys) q m = by (List·Memᴰ·cases-cons m) (column-holds x 
     by (inr n) ih = let r = ih n in (r .0, List·Memᴰ·tail (r .1))
 
 grid-holds : (xs ys : List ℕ) (q : Spot) → List·Memᴰ q (grid xs ys) → List·Memᴰ (q .x) xs
-unfolding grid
+unfolding flatMap
 grid-holds [] ys q m = absurd (List·Memᴰ·not-nil m)
 grid-holds (x ∷ xs) ys q m = by (List·Memᴰ·append-cases (column x ys) m) (grid-holds xs ys q)
   where
@@ -143,12 +152,11 @@ grid-holds (x ∷ xs) ys q m = by (List·Memᴰ·append-cases (column x ys) m) (
     by (inr n) ih = List·Memᴰ·tail (ih n)
 
 column-ascends : (x : ℕ) (ys : List ℕ) → Ascending (λ (a b : ℕ). a < b) ys → Ascending Ahead (column x ys)
-unfolding column
 column-ascends x [] p = tt
 column-ascends x (y ∷ ys) p = (λ q m. let r = column-holds x ys q m in inr (sym (r .0), p .0 (q .y) (r .1)), column-ascends x ys (p .1))
 
 grid-ascends : (xs ys : List ℕ) → Ascending (λ (a b : ℕ). a < b) xs → Ascending (λ (a b : ℕ). a < b) ys → Ascending Ahead (grid xs ys)
-unfolding grid
+unfolding flatMap
 grid-ascends [] ys p h = tt
 grid-ascends (x ∷ xs) ys p h = ascending-append Ahead (column x ys) (grid xs ys) (column-ascends x ys h) (grid-ascends xs ys (p .1) h)
     (λ a b m n. let e = column-holds x ys a m .0 in let l = p .0 (b .x) (grid-holds xs ys b n) in inl (omega arith))
@@ -170,7 +178,7 @@ unfolding keys firstSmaller
 first-same p ps qs h = rw (le-ltb (p .x) (p .x) (omega arith), eq-eqb (p .x) (p .x) refl, le-ltb (p .y) (p .y) (omega arith), eq-eqb (p .y) (p .y) refl) h
 
 in-front-ascends : (all : List Spot) (rest : List (List Spot)) → Ascending Ahead all → Ascending Before rest → Ascending Before (inFront all rest)
-unfolding inFront
+unfolding flatMap
 in-front-ascends [] rest p h = tt
 in-front-ascends (a ∷ all) rest p h = ascending-append Before (map (λ (q : List Spot). a ∷ q) rest) (inFront all rest)
     (ascending-map Before Before (λ (q : List Spot). a ∷ q) (λ x y z. first-same a x y z) rest h)
@@ -190,21 +198,21 @@ pub behind-after : (c : Chip) (ms : List Mac) (front : List (List Spot)) (ps : L
 behind-after c ms front ps behind e = ascending-at Before front ps behind (subst (λ (s : List (List Spot)). Ascending Before s) e (placements-ascend ms (corners c) (corners-ascend c)))
 
 -- a legal placement is one of those tried
-spots-in-corners : (c : Chip) (ms : List Mac) (ps : List Spot) → length ps ≡ length ms → allInDie c (boxes ms ps) ≡ true → Every (λ (p : Spot). List·Memᴰ p (corners c)) ps
-unfolding boxes allInDie
+spots-in-corners : (c : Chip) (ms : List Mac) (ps : List Spot) → length ps ≡ length ms → allOf (inDie (c .die)) (boxes ms ps) ≡ true → Every (λ (p : Spot). List·Memᴰ p (corners c)) ps
+unfolding zipWith allOf
 spots-in-corners c ms [] e h = tt
 spots-in-corners c [] (p ∷ ps) e h = absurd (omega arith)
 spots-in-corners c (m ∷ ms) (p ∷ ps) e h =
-    let a = and-left (inDie c (boxAt m p)) (allInDie c (boxes ms ps)) h in
+    let a = and-left (inDie (c .die) (boxAt m p)) (allOf (inDie (c .die)) (boxes ms ps)) h in
     let u = leb-true (p .x + m .w) (c .die .w) (and-left (leb (p .x + m .w) (c .die .w)) (leb (p .y + m .h) (c .die .h)) a) in
     let v = leb-true (p .y + m .h) (c .die .h) (and-right (leb (p .x + m .w) (c .die .w)) (leb (p .y + m .h) (c .die .h)) a) in
-    (corners-have c p (omega arith) (omega arith), spots-in-corners c ms ps (omega arith) (and-right (inDie c (boxAt m p)) (allInDie c (boxes ms ps)) h))
+    (corners-have c p (omega arith) (omega arith), spots-in-corners c ms ps (omega arith) (and-right (inDie (c .die) (boxAt m p)) (allOf (inDie (c .die)) (boxes ms ps)) h))
 
 pub within-in-corners : (c : Chip) (ps : List Spot) → within c ps ≡ true → List·Memᴰ ps (placements (c .macs) (corners c))
 unfolding within
 within-in-corners c ps h =
-    let e = eqb-true (length ps) (length (c .macs)) (and-left (placesAll c ps) (allInDie c (boxes (c .macs) ps)) h) in
-    placements-have (c .macs) (corners c) ps e (spots-in-corners c (c .macs) ps e (and-right (placesAll c ps) (allInDie c (boxes (c .macs) ps)) h))
+    let e = eqb-true (length ps) (length (c .macs)) (and-left (eqb (length ps) (length (c .macs))) (allOf (inDie (c .die)) (boxes (c .macs) ps)) h) in
+    placements-have (c .macs) (corners c) ps e (spots-in-corners c (c .macs) ps e (and-right (eqb (length ps) (length (c .macs))) (allOf (inDie (c .die)) (boxes (c .macs) ps)) h))
 
 pub legal-in-corners : (c : Chip) (ps : List Spot) → legal c ps ≡ true → List·Memᴰ ps (placements (c .macs) (corners c))
 unfolding legal

@@ -6,12 +6,15 @@ use mathlib.Core.List.{List, [], _∷_}
 use mathlib.Core.Logic.{inl, inr}
 use native.Mathlib.Nat.{le-antisymm}
 use native.Mathlib.Omega.{arith}
+use lib.Dec.{eqb}
 use lib.ListN.{length, getD}
 use borrow.Author.Tests.{le-ltb, eqb-true}
+use Rattle.num_text.specs.Number.{allOf}
 use Rattle.model.specs.declared.Spot.{Spot}
 use Rattle.model.specs.Meaning.{Chip, blankSpot}
 use Rattle.text_grammar.proofs.Lacks.{and-left}
-use Rattle.placement.specs.Legal.{boxes, allInDie, placesAll, within}
+use Rattle.geometry.specs.Box.{inDie}
+use Rattle.placement.specs.Legal.{boxes, within}
 use Rattle.placement.specs.Length.{wirelength}
 use Rattle.placement.specs.Order.{keys, firstSmaller, before}
 use Rattle.placement.specs.Letters.{Letter, pairs, keepsAll, keepsLetters}
@@ -41,7 +44,7 @@ not-earlier (p ∷ ps) (q ∷ qs) h =
 pub letters-long : (c : Chip) (ls : List Letter) (ps : List Spot) → keepsLetters c ls ps ≡ true → length ps ≡ length (c .macs)
 unfolding keepsLetters within
 letters-long c ls ps h =
-    eqb-true (length ps) (length (c .macs)) (and-left (placesAll c ps) (allInDie c (boxes (c .macs) ps)) (and-left (within c ps) (keepsAll c ls (pairs c ps)) h))
+    eqb-true (length ps) (length (c .macs)) (and-left (eqb (length ps) (length (c .macs))) (allOf (inDie (c .die)) (boxes (c .macs) ps)) (and-left (within c ps) (keepsAll c ls (pairs c ps)) h))
 
 module _ (c : Chip) (ls : List Letter) (ps : List Spot) (keeps : keepsLetters c ls ps ≡ true) (least : (qs : List Spot) → keepsLetters c ls qs ≡ true → wirelength c ps ≤ wirelength c qs) where
   pub fit-is : ((qs : List Spot) → keepsLetters c ls qs ≡ true → wirelength c qs ≡ wirelength c ps → NowhereLarger ps qs) → fitOf c ls ≡ found (wirelength c ps) ps

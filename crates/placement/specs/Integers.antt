@@ -2,17 +2,18 @@
 -- so natural. The laws (proofs/Integers.antt) say that natural corners lose nothing legal.
 use Prim.Native.Nat.{ℕ, zero, suc, _+_, _*_, _≤_}
 use mathlib.Core.Path.{_≡_}
-use mathlib.Core.List.{List, [], _∷_, map}
+use mathlib.Core.List.{List, [], _∷_, map, zipWith}
 use mathlib.Core.Bool.{Bool, true, false, _&&_, _||_}
 use lib.Dec.{eqb}
 use lib.ListN.{length, getD}
 use lib.IntN.{ℤ, pos, _+ℤ_}
 use lib.Signed.{leZ, ltZ}
+use Rattle.num_text.specs.Number.{allOf}
+use Rattle.model.specs.declared.Fix.{Fix}
 use Rattle.model.specs.declared.Mac.{Mac}
 use Rattle.model.specs.declared.Spot.{Spot}
 use Rattle.model.specs.Meaning.{Pin, Net, Chip}
-use Rattle.geometry.specs.declared.Box.{Box}
-use Rattle.placement.specs.Legal.{fixBoxes, gapOf}
+use Rattle.placement.specs.Legal.{gapOf}
 use Rattle.placement.specs.Length.{span}
 
 -- a corner; a placement is a list of corners, one for each macro
@@ -27,18 +28,12 @@ pub record Rect : Type 0 where
   pub w : ℕ
   pub h : ℕ
 
--- a macro at a corner, and a box with a natural corner
+-- a macro at a corner, and a fix
 abbrev pub rectAt : Mac → Corner → Rect
 rectAt m p = record { x = p .x; y = p .y; w = m .w; h = m .h }
 
-abbrev pub rectOf : Box → Rect
-rectOf a = record { x = pos (a .x); y = pos (a .y); w = a .w; h = a .h }
-
--- the macros at their corners
-unfoldable pub rects : List Mac → List Corner → List Rect
-rects [] ps = []
-rects (m ∷ ms) [] = []
-rects (m ∷ ms) (p ∷ ps) = rectAt m p ∷ rects ms ps
+abbrev pub rectOf : Fix → Rect
+rectOf f = record { x = pos (f .x); y = pos (f .y); w = f .w; h = f .h }
 
 -- ---- legal
 
@@ -57,22 +52,14 @@ apartZ c a b = leftOfZ c a b || (leftOfZ c b a || (belowZ c a b || belowZ c b a)
 abbrev pub inDieZ : Chip → Rect → Bool
 inDieZ c a = (leZ (pos 0) (a .x) && leZ (pos 0) (a .y)) && (leZ (a .x +ℤ pos (a .w)) (pos (c .die .w)) && leZ (a .y +ℤ pos (a .h)) (pos (c .die .h)))
 
-unfoldable pub allInDieZ : Chip → List Rect → Bool
-allInDieZ c [] = true
-allInDieZ c (a ∷ s) = inDieZ c a && allInDieZ c s
-
-unfoldable pub apartFromZ : Chip → Rect → List Rect → Bool
-apartFromZ c a [] = true
-apartFromZ c a (b ∷ s) = apartZ c a b && apartFromZ c a s
-
 -- each two of the macros, and each macro and each fix
 unfoldable pub allApartZ : Chip → List Rect → Bool
 allApartZ c [] = true
-allApartZ c (a ∷ s) = apartFromZ c a s && (apartFromZ c a (map rectOf (fixBoxes c)) && allApartZ c s)
+allApartZ c (a ∷ s) = allOf (apartZ c a) s && (allOf (apartZ c a) (map rectOf (c .fixes)) && allApartZ c s)
 
 -- one corner for each macro, every macro in the die, and each two apart
 unfoldable pub legalZ : Chip → List Corner → Bool
-legalZ c ps = (eqb (length ps) (length (c .macs)) && allInDieZ c (rects (c .macs) ps)) && allApartZ c (rects (c .macs) ps)
+legalZ c ps = (eqb (length ps) (length (c .macs)) && allOf (inDieZ c) (zipWith rectAt (c .macs) ps)) && allApartZ c (zipWith rectAt (c .macs) ps)
 
 -- ---- how long
 
@@ -99,17 +86,14 @@ wirelengthZ c ps = netsLengthZ ps (c .nets)
 
 -- ---- the order: by x1, then y1, x2, y2 and so on, the smaller first
 
-unfoldable pub keysZ : List Corner → List ℤ
-keysZ [] = []
-keysZ (p ∷ ps) = p .x ∷ (p .y ∷ keysZ ps)
+-- a is smaller than b; where they are equal, what follows decides
+abbrev pub smallerFirst : ℤ → ℤ → Bool → Bool
+smallerFirst a b follows = ltZ a b || ((leZ a b && leZ b a) && follows)
 
-unfoldable pub firstSmallerZ : List ℤ → List ℤ → Bool
-firstSmallerZ [] t = false
-firstSmallerZ (a ∷ s) [] = false
-firstSmallerZ (a ∷ s) (b ∷ t) = ltZ a b || ((leZ a b && leZ b a) && firstSmallerZ s t)
-
-abbrev pub beforeZ : List Corner → List Corner → Bool
-beforeZ ps qs = firstSmallerZ (keysZ ps) (keysZ qs)
+unfoldable pub beforeZ : List Corner → List Corner → Bool
+beforeZ [] qs = false
+beforeZ (p ∷ ps) [] = false
+beforeZ (p ∷ ps) (q ∷ qs) = smallerFirst (p .x) (q .x) (smallerFirst (p .y) (q .y) (beforeZ ps qs))
 
 -- ---- demand 3
 
@@ -120,9 +104,6 @@ pub record EarliestLeastZ (c : Chip) (l : ℕ) (ps : List Corner) : Type 0 where
   pub shortest : (qs : List Corner) → legalZ c qs ≡ true → l ≤ wirelengthZ c qs
   pub earliest : (qs : List Corner) → legalZ c qs ≡ true → l ≡ wirelengthZ c qs → (qs ≡ ps → ⊥) → beforeZ ps qs ≡ true
 
--- a placement with natural corners, as one with integer corners
+-- a natural corner, as one of integers
 abbrev pub cornerOf : Spot → Corner
 cornerOf p = record { x = pos (p .x); y = pos (p .y) }
-
-abbrev pub integers : List Spot → List Corner
-integers ps = map cornerOf ps

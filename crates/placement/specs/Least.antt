@@ -2,7 +2,7 @@
 -- has at least its wirelength and each other one with the same wirelength comes later in the order. Here it is found by trying every placement in the die in
 -- that order and taking the first of least wirelength.
 use Prim.Native.Nat.{ℕ, zero, suc}
-use mathlib.Core.List.{List, [], _∷_, _++_, map}
+use mathlib.Core.List.{List, [], _∷_, map, flatMap}
 use mathlib.Core.Bool.{Bool, true, false}
 use lib.Dec.{ltb}
 use Rattle.model.specs.declared.Mac.{Mac}
@@ -18,27 +18,14 @@ unfoldable pub upFrom : ℕ → ℕ → List ℕ
 upFrom a zero = []
 upFrom a (suc k) = a ∷ upFrom (suc a) k
 
--- the corners with that x
-unfoldable pub column : ℕ → List ℕ → List Spot
-column x [] = []
-column x (y ∷ ys) = record { x = x; y = y } ∷ column x ys
-
-unfoldable pub grid : List ℕ → List ℕ → List Spot
-grid [] ys = []
-grid (x ∷ xs) ys = column x ys ++ grid xs ys
-
 -- the corners 0..W, 0..H, by x and then by y
 abbrev pub corners : Chip → List Spot
-corners c = grid (upFrom 0 (suc (c .die .w))) (upFrom 0 (suc (c .die .h)))
-
-unfoldable pub inFront : List Spot → List (List Spot) → List (List Spot)
-inFront [] rest = []
-inFront (p ∷ ps) rest = map (λ (q : List Spot). p ∷ q) rest ++ inFront ps rest
+corners c = flatMap (λ (x : ℕ). map (λ (y : ℕ). record { x = x; y = y }) (upFrom 0 (suc (c .die .h)))) (upFrom 0 (suc (c .die .w)))
 
 -- every placement of the macros on these corners, in order
 unfoldable pub placements : List Mac → List Spot → List (List Spot)
 placements [] all = [] ∷ []
-placements (m ∷ ms) all = inFront all (placements ms all)
+placements (m ∷ ms) all = flatMap (λ (p : Spot). map (λ (ps : List Spot). p ∷ ps) (placements ms all)) all
 
 -- nothing found, or a wirelength and its placement
 pub data Best : Type 0 where

@@ -1,24 +1,18 @@
 -- How long the nets are. Document 01, "Legal, and how long": a net's length is its weight times (greatest x - least x + greatest y - least y) over its pins;
 -- the wirelength is the sum.
-use Prim.Native.Nat.{ℕ, zero, suc, _+_, _*_, _≤_, _<_}
+use Prim.Native.Nat.{ℕ, zero, suc, _+_, _*_}
 use mathlib.Core.List.{List, [], _∷_, map}
 use mathlib.Core.Bool.{cond}
-use lib.ListN.{length, getD}
+use lib.ListN.{getD}
 use lib.IntN.{ℤ, pos, negℤ, _+ℤ_, natAbs}
 use lib.Signed.{leZ}
 use Rattle.model.specs.declared.Spot.{Spot}
 use Rattle.model.specs.Meaning.{Pin, Net, Chip, blankSpot}
-use Rattle.model.specs.Limits.{placedCorner}
 
 -- the corner that a pin's x and y are added to: the macro's, or 0,0 for a pad
 abbrev pub origin : List Spot → ℕ → Spot
 origin ps zero = blankSpot
 origin ps (suc m) = getD ps m blankSpot
-
--- positions in their range
-pub record CornersWithin (ps : List Spot) : Type 0 where
-  pub x : (i : ℕ) → i < length ps → getD ps i blankSpot .x ≤ natAbs (placedCorner .most)
-  pub y : (i : ℕ) → i < length ps → getD ps i blankSpot .y ≤ natAbs (placedCorner .most)
 
 -- where a pin lies
 abbrev pub pinX : List Spot → Pin → ℤ

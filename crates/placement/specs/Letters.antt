@@ -5,7 +5,8 @@ use mathlib.Core.Bool.{Bool, true, false, _&&_}
 use Rattle.model.specs.declared.Spot.{Spot}
 use Rattle.model.specs.Meaning.{Chip}
 use Rattle.geometry.specs.declared.Box.{Box}
-use Rattle.placement.specs.Legal.{boxes, fixBoxes, leftOf, rightOf, below, above, within}
+use Rattle.geometry.specs.Box.{below, leftOf}
+use Rattle.placement.specs.Legal.{boxes, fixBoxes, within, gapOf}
 
 pub data Letter : Type 0 where
   left : Letter
@@ -16,10 +17,10 @@ pub data Letter : Type 0 where
 
 -- a stands to b as the letter says
 abbrev pub keeps : Chip → Letter → Box → Box → Bool
-keeps c left a b = leftOf c a b
-keeps c right a b = rightOf c a b
-keeps c low a b = below c a b
-keeps c high a b = above c a b
+keeps c left a b = leftOf (gapOf c) a b
+keeps c right a b = leftOf (gapOf c) b a
+keeps c low a b = below (gapOf c) a b
+keeps c high a b = below (gapOf c) b a
 keeps c dot a b = true
 
 pub record Pair : Type 0 where

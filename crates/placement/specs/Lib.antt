@@ -1,5 +1,6 @@
 pub mod Legal
 pub mod Length
+pub mod Corners
 pub mod Order
 pub mod Letters
 pub mod Least

@@ -1,9 +1,8 @@
--- Demand 3: what the text says that is written for a chip. Whatever is written for a text is the record of the chip that the text is read as; the record says `none` exactly where the chip has no legal placement, and else it is the text of a legal placement with its own wirelength, every other legal placement has at least that wirelength, and each one equally short comes later.
+-- What is written for a text, on the way to demand 3 (place_print/proofs/DemandZ.antt): the record of the chip that the text is read as, which is `none` exactly where the chip has no legal placement.
 use Prim.Native.Nat.{ℕ, _≤_}
 use mathlib.Core.Path.{_≡_, refl, sym, ap, _∙_}
 use mathlib.Core.Bool.{Bool, true, false}
 use mathlib.Core.List.{List, _++_}
-use mathlib.Core.Logic.{_⊎_, inl, inr}
 use native.Mathlib.Omega.{arith}
 use lib.Dec.{leb}
 use lib.ListN.{length, drop}
@@ -17,45 +16,37 @@ use Rattle.record_text.specs.Text.{recordText}
 use Rattle.placement.specs.Legal.{legal}
 use Rattle.placement.specs.Least.{Best, nothing, found, earliestLeast, bestRecord, chipRecord}
 use Rattle.placement.proofs.Demand.{earliest-least-found, nothing-legal}
-use Rattle.search.specs.Demand3.{SaysNone, SaysLeast, Placed}
 use Rattle.search.specs.Place.{placeRead, placeText}
-
--- the record of every chip says one or the other
-pub chip-record-says : (c : Chip) → SaysNone c (chipRecord c) ⊎ SaysLeast c (chipRecord c)
-unfolding chipRecord
-chip-record-says c = by (earliestLeast c) refl
-  where
-    by : (b : Best) → earliestLeast c ≡ b → SaysNone c (bestRecord (earliestLeast c)) ⊎ SaysLeast c (bestRecord (earliestLeast c))
-    by nothing e = inl (record { is = ap bestRecord e; illegal = nothing-legal c e })
-    by (found l ps) e = let f = earliest-least-found c l ps e in inr (record {
-      length = l;
-      placement = ps;
-      is = ap bestRecord e;
-      lawful = f .passed;
-      own = f .long;
-      shortest = f .least;
-      earliest = f .earliest;
-    })
 
 -- `none` exactly when no placement is legal
 pub none-illegal : (c : Chip) → chipRecord c ≡ none → (qs : List Spot) → legal c qs ≡ true → ⊥
-none-illegal c e = by (chip-record-says c)
+unfolding chipRecord
+none-illegal c e = by (earliestLeast c) refl
   where
-    by : SaysNone c (chipRecord c) ⊎ SaysLeast c (chipRecord c) → (qs : List Spot) → legal c qs ≡ true → ⊥
-    by (inl s) = s .illegal
-    by (inr s) = absurd (differ (s .length) (s .placement) (sym e ∙ s .is))
-      where
-        differ : (l : ℕ) (ps : List Spot) → none ≡ least l ps → ⊥
-        differ l ps q = let z : _≡_ {A = ℕ} 0 1 = cc in absurd (omega arith)
+    differ : (l : ℕ) (ps : List Spot) → none ≡ least l ps → ⊥
+    differ l ps q = let z : _≡_ {A = ℕ} 0 1 = cc in absurd (omega arith)
+
+    by : (b : Best) → earliestLeast c ≡ b → (qs : List Spot) → legal c qs ≡ true → ⊥
+    by nothing q = nothing-legal c q
+    by (found l ps) q = absurd (differ l ps (sym e ∙ ap bestRecord q))
 
 pub illegal-none : (c : Chip) → ((qs : List Spot) → legal c qs ≡ true → ⊥) → chipRecord c ≡ none
-illegal-none c h = by (chip-record-says c)
+unfolding chipRecord
+illegal-none c h = by (earliestLeast c) refl
   where
-    by : SaysNone c (chipRecord c) ⊎ SaysLeast c (chipRecord c) → chipRecord c ≡ none
-    by (inl s) = s .is
-    by (inr s) = absurd (h (s .placement) (s .lawful))
+    by : (b : Best) → earliestLeast c ≡ b → bestRecord (earliestLeast c) ≡ none
+    by nothing q = ap bestRecord q
+    by (found l ps) q = absurd (h ps (earliest-least-found c l ps q .passed))
 
 -- ---- what is written for a text
+
+-- the record of the chip that the text is read as, of k bytes, stands in the first bytes of the buffer, and the rest is as it was
+pub record Placed (text out : List ℕ) (k : ℕ) (after : List ℕ) : Type 0 where
+  pub chip : Chip
+  pub read : readChip text ≡ accepted chip
+  pub count : k ≡ length (recordText (chipRecord chip))
+  pub room : length (recordText (chipRecord chip)) ≤ length out
+  pub bytes : after ≡ recordText (chipRecord chip) ++ drop (length (recordText (chipRecord chip))) out
 
 -- whatever is written for a text is such a record
 pub place-means : (text out : List ℕ) (k : ℕ) → placeText text out .answer ≡ wrote k → Placed text out k (placeText text out .buffer)
@@ -68,11 +59,9 @@ place-means text out k e = by (readChip text) refl e
     fits c true t r q = record {
       chip = c;
       read = r;
-      result = chipRecord c;
       count = cc;
       room = leb-true (length (recordText (chipRecord c))) (length out) t;
       bytes = refl;
-      says = chip-record-says c;
     }
     fits c false t r q = no-text 15 0 q
 

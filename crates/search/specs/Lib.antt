@@ -1,3 +1,2 @@
 pub mod Search
 pub mod Place
-pub mod Demand3

@@ -10,7 +10,8 @@ use Rattle.model.specs.declared.Spot.{Spot}
 use Rattle.model.specs.Meaning.{Chip}
 use Rattle.text_grammar.proofs.Lacks.{and-left, and-right}
 use Rattle.geometry.specs.declared.Box.{Box}
-use Rattle.placement.specs.Legal.{within, legal, apart}
+use Rattle.geometry.specs.Box.{apart}
+use Rattle.placement.specs.Legal.{within, legal, gapOf}
 use Rattle.placement.specs.Letters.{Letter, left, right, low, high, dot, keeps, Pair, pairs, keepsAll, keepsLetters}
 use Rattle.placement.proofs.Cover.{Says, NoDot, Kept, Some, keeps-apart, apart-keeps, legal-letters, letters-legal}
 use Rattle.search_branches.proofs.Replaces.{true-false}
@@ -20,7 +21,7 @@ and-both p q e f = ap (λ (t : Bool). t && q) e ∙ f
 
 -- the pair at place s is apart, d standing past the end
 abbrev pub apartAt : Chip → Pair → List Pair → ℕ → Bool
-apartAt c d qs s = apart c (getD qs s d .first) (getD qs s d .second)
+apartAt c d qs s = apart (gapOf c) (getD qs s d .first) (getD qs s d .second)
 
 -- the pair at place s keeps the letter
 abbrev pub keepsAt : Chip → Pair → Letter → List Pair → ℕ → Bool
@@ -50,7 +51,7 @@ module _ (c : Chip) where
     all-set (l ∷ ls) (q ∷ qs) (suc s) m e k = and-both (keeps c l (q .first) (q .second)) (keepsAll c (set ls s m) qs)
         (and-left (keeps c l (q .first) (q .second)) (keepsAll c ls qs) e) (all-set ls qs s m (and-right (keeps c l (q .first) (q .second)) (keepsAll c ls qs) e) k)
 
-    one-letter : (a b : Box) (l : Letter) → keeps c l a b ≡ true → (l ≡ dot → apart c a b ≡ true) → Kept c a b
+    one-letter : (a b : Box) (l : Letter) → keeps c l a b ≡ true → (l ≡ dot → apart (gapOf c) a b ≡ true) → Kept c a b
     one-letter a b left k f = (left, refl, k)
     one-letter a b right k f = (right, refl, k)
     one-letter a b low k f = (low, refl, k)
@@ -74,11 +75,11 @@ no-dot-at [] s n h = absurd (omega arith)
 no-dot-at (l ∷ ls) zero n h = n .0
 no-dot-at (l ∷ ls) (suc s) n h = no-dot-at ls s (n .1) (omega arith)
 
-dot-or-apart : (c : Chip) (a b : Box) (l : Letter) → keeps c l a b ≡ true → apart c a b ≡ false → l ≡ dot
-dot-or-apart c a b left k f = absurd (true-false (apart c a b) (keeps-apart c a b left refl k) f)
-dot-or-apart c a b right k f = absurd (true-false (apart c a b) (keeps-apart c a b right refl k) f)
-dot-or-apart c a b low k f = absurd (true-false (apart c a b) (keeps-apart c a b low refl k) f)
-dot-or-apart c a b high k f = absurd (true-false (apart c a b) (keeps-apart c a b high refl k) f)
+dot-or-apart : (c : Chip) (a b : Box) (l : Letter) → keeps c l a b ≡ true → apart (gapOf c) a b ≡ false → l ≡ dot
+dot-or-apart c a b left k f = absurd (true-false (apart (gapOf c) a b) (keeps-apart c a b left refl k) f)
+dot-or-apart c a b right k f = absurd (true-false (apart (gapOf c) a b) (keeps-apart c a b right refl k) f)
+dot-or-apart c a b low k f = absurd (true-false (apart (gapOf c) a b) (keeps-apart c a b low refl k) f)
+dot-or-apart c a b high k f = absurd (true-false (apart (gapOf c) a b) (keeps-apart c a b high refl k) f)
 dot-or-apart c a b dot k f = refl
 
 module _ (c : Chip) (ls : List Letter) (ps : List Spot) (e : keepsLetters c ls ps ≡ true) where

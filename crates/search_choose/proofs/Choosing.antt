@@ -16,7 +16,8 @@ use Rattle.model.specs.declared.Spot.{Spot}
 use Rattle.model.specs.declared.Chip.{Chip as HeldChip}
 use Rattle.model.specs.Meaning.{Chip, chipOf, firstOf, blankFix, blankMac, blankSpot}
 use Rattle.model.proofs.FirstOf.{first-take}
-use Rattle.placement.specs.Legal.{apart}
+use Rattle.geometry.specs.Box.{apart}
+use Rattle.placement.specs.Legal.{gapOf}
 use Rattle.placement.specs.Letters.{Pair, pairs}
 use Rattle.fit_slots.specs.Slots.{macFix, couplesOf}
 use Rattle.fit_slots.proofs.Pairs.{pairOf, pairs-couples}
@@ -114,9 +115,9 @@ module _ (macs : List Mac) (n : ℕ) (fixes : List Fix) (k : ℕ) (spots : List 
         ∙ ap (pairOf ps) (place-couple ms fs at s (w .place) here (macFix 0 blankMac blankFix) ∙ sym (couple-taken macs fixes n k at on))
         ∙ at-couple
 
-    module _ (v : ℕ) (ev : ltb 0 v ≡ not (apart bare (taken .first) (taken .second))) where
+    module _ (v : ℕ) (ev : ltb 0 v ≡ not (apart (gapOf bare) (taken .first) (taken .second))) where
       apart-not : not (apartHere s) ≡ ltb 0 v
-      apart-not = sym (ev ∙ ap (λ (q : Pair). not (apart bare (q .first) (q .second))) (sym at-place))
+      apart-not = sym (ev ∙ ap (λ (q : Pair). not (apart (gapOf bare) (q .first) (q .second))) (sym at-place))
 
       scored-overlap : 0 < v → apartHere s ≡ false
       scored-overlap g = not-true (apartHere s) (apart-not ∙ lt-ltb 0 v g)

@@ -8,8 +8,8 @@ use Rattle.model.specs.declared.Fix.{Fix}
 use Rattle.model.specs.declared.Mac.{Mac}
 use Rattle.model.specs.declared.Spot.{Spot}
 use Rattle.model.specs.Meaning.{Chip, firstOf, blankFix, blankMac}
-use Rattle.geometry.specs.Box.{blankBox}
-use Rattle.placement.specs.Legal.{apart}
+use Rattle.geometry.specs.Box.{blankBox, apart}
+use Rattle.placement.specs.Legal.{gapOf}
 use Rattle.placement.specs.Letters.{Pair, pairs}
 use Rattle.fit_slots.specs.Slots.{Couple, couplesOf}
 use Rattle.fit_pairs.specs.declared.Cursor.{Cursor}
@@ -21,7 +21,7 @@ noPair = record { first = blankBox; second = blankBox }
 
 -- the pair at place s is apart
 abbrev pub apartAt : Chip → List Pair → ℕ → Bool
-apartAt c qs s = apart c (getD qs s noPair .first) (getD qs s noPair .second)
+apartAt c qs s = apart (gapOf c) (getD qs s noPair .first) (getD qs s noPair .second)
 
 -- of p pairs, r is the place of one that overlaps, or r is p and each pair is apart
 pub record Chosen (c : Chip) (ps : List Spot) (p r : ℕ) : Type 0 where

@@ -2,41 +2,42 @@
 use Prim.Native.Nat.{ℕ, zero, suc, _+_, _≤_, _<_}
 use mathlib.Core.Path.{_≡_}
 use mathlib.Core.Bool.{true}
-use mathlib.Core.List.{List, [], _∷_}
+use mathlib.Core.List.{List, [], _∷_, zipWith}
 use native.Mathlib.Nat.{le-of-suc-le-suc}
 use native.Mathlib.Omega.{arith}
-use lib.Dec.{leb}
+use lib.Dec.{leb, eqb}
 use lib.ListN.{length, getD}
 use borrow.Author.Tests.{leb-true, eqb-true}
+use Rattle.num_text.specs.Number.{allOf}
 use Rattle.model.specs.declared.Mac.{Mac}
 use Rattle.model.specs.declared.Spot.{Spot}
 use Rattle.model.specs.Meaning.{Chip, blankSpot}
 use Rattle.text_grammar.proofs.Lacks.{and-left, and-right}
 use Rattle.chip_text.specs.Valid.{Valid}
-use Rattle.geometry.specs.Box.{boxAt}
-use Rattle.placement.specs.Legal.{boxes, inDie, allInDie, placesAll, within}
-use Rattle.placement.specs.Length.{CornersWithin}
+use Rattle.geometry.specs.Box.{boxAt, inDie}
+use Rattle.placement.specs.Legal.{boxes, within}
+use Rattle.placement.specs.Corners.{CornersWithin}
 
 module _ (c : Chip) where
-  corner-in : (ms : List Mac) (ps : List Spot) → length ps ≡ length ms → allInDie c (boxes ms ps) ≡ true → (i : ℕ) → i < length ps → (getD ps i blankSpot .x ≤ c .die .w) × (getD ps i blankSpot .y ≤ c .die .h)
-  unfolding boxes allInDie
+  corner-in : (ms : List Mac) (ps : List Spot) → length ps ≡ length ms → allOf (inDie (c .die)) (boxes ms ps) ≡ true → (i : ℕ) → i < length ps → (getD ps i blankSpot .x ≤ c .die .w) × (getD ps i blankSpot .y ≤ c .die .h)
+  unfolding zipWith allOf
   corner-in ms [] e h i g = absurd (omega arith)
   corner-in [] (p ∷ ps) e h i g = absurd (omega arith)
   corner-in (m ∷ ms) (p ∷ ps) e h zero g =
-      let a = and-left (inDie c (boxAt m p)) (allInDie c (boxes ms ps)) h in
+      let a = and-left (inDie (c .die) (boxAt m p)) (allOf (inDie (c .die)) (boxes ms ps)) h in
       let u = leb-true (p .x + m .w) (c .die .w) (and-left (leb (p .x + m .w) (c .die .w)) (leb (p .y + m .h) (c .die .h)) a) in
       let v = leb-true (p .y + m .h) (c .die .h) (and-right (leb (p .x + m .w) (c .die .w)) (leb (p .y + m .h) (c .die .h)) a) in
       (omega arith, omega arith)
-  corner-in (m ∷ ms) (p ∷ ps) e h (suc i) g = corner-in ms ps (omega arith) (and-right (inDie c (boxAt m p)) (allInDie c (boxes ms ps)) h) i (le-of-suc-le-suc g)
+  corner-in (m ∷ ms) (p ∷ ps) e h (suc i) g = corner-in ms ps (omega arith) (and-right (inDie (c .die) (boxAt m p)) (allOf (inDie (c .die)) (boxes ms ps)) h) i (le-of-suc-le-suc g)
 
   module _ (ps : List Spot) (h : within c ps ≡ true) where
     pub within-long : length ps ≡ length (c .macs)
     unfolding within
-    within-long = eqb-true (length ps) (length (c .macs)) (and-left (placesAll c ps) (allInDie c (boxes (c .macs) ps)) h)
+    within-long = eqb-true (length ps) (length (c .macs)) (and-left (eqb (length ps) (length (c .macs))) (allOf (inDie (c .die)) (boxes (c .macs) ps)) h)
 
-    inside : allInDie c (boxes (c .macs) ps) ≡ true
+    inside : allOf (inDie (c .die)) (boxes (c .macs) ps) ≡ true
     unfolding within
-    inside = and-right (placesAll c ps) (allInDie c (boxes (c .macs) ps)) h
+    inside = and-right (eqb (length ps) (length (c .macs))) (allOf (inDie (c .die)) (boxes (c .macs) ps)) h
 
     pub within-near : Valid c → CornersWithin ps
     within-near v = record {

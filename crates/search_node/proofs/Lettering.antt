@@ -7,6 +7,7 @@ use native.Mathlib.Nat.{le-of-suc-le-suc}
 use native.Mathlib.Omega.{arith}
 use lib.ListN.{length, take, set, replicate, length-map}
 use lib.Seq.{take-set-lt, length-take-le, set-out}
+use Rattle.num_text.specs.Number.{allOf}
 use Rattle.model.specs.declared.Chip.{Chip as HeldChip}
 use Rattle.text_grammar.proofs.Lacks.{and-left, and-right}
 use Rattle.placement.specs.Letters.{Letter, dot}
@@ -58,7 +59,7 @@ no-dot (suc (suc (suc zero))) h = refl
 no-dot (suc (suc (suc (suc i)))) h = absurd (omega arith)
 
 are-set : (s : List ℕ) (i b : ℕ) → isLetter b ≡ true → areLetters s ≡ true → areLetters (set s i b) ≡ true
-unfolding areLetters
+unfolding allOf
 are-set [] i b h e = e
 are-set (a ∷ s) zero b h e = and-both (isLetter b) (areLetters s) h (and-right (isLetter a) (areLetters s) e)
 are-set (a ∷ s) (suc i) b h e = and-both (isLetter a) (areLetters (set s i b)) (and-left (isLetter a) (areLetters s) e) (are-set s i b h (and-right (isLetter a) (areLetters s) e))
@@ -74,7 +75,7 @@ lettered-set c letters p s i h g k = record {
 -- ---- dots
 
 pub dots-are : (n p : ℕ) → areLetters (take p (replicate n 46)) ≡ true
-unfolding areLetters
+unfolding allOf
 dots-are zero zero = refl
 dots-are zero (suc p) = refl
 dots-are (suc n) zero = refl
