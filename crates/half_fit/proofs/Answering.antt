@@ -5,11 +5,11 @@ use mathlib.Core.Bool.{Bool, true}
 use mathlib.Core.List.{List}
 use native.Mathlib.Omega.{arith}
 use Rattle.axis_bounds.specs.Half.{HalfOn, AboveOn}
-use Rattle.half_test.specs.declared.proposal.Shown.{Shown}
-use Rattle.half_test.specs.declared.proposal.Shown.the-variants as shown
+use Rattle.half_fit.specs.declared.proposal.Shown.{Shown}
+use Rattle.half_fit.specs.declared.proposal.Shown.the-variants as shown
 use Rattle.half_arrays.specs.Arrays.{axisOn}
 use Rattle.half_arrays.specs.Says.{Says}
-use Rattle.half_test.specs.Answer.{ShownOk}
+use Rattle.half_fit.specs.Shown.{ShownOk}
 use Rattle.half_arrays.proofs.Arcs.{keeps-on}
 use Rattle.half_fit.specs.Answer.{Fits}
 use Rattle.half_fit.specs.Chain.{Empty}

@@ -1,3 +1,5 @@
 pub mod Products
 pub mod Chains
 pub mod Answering
+pub mod Smallest
+pub mod Fitting

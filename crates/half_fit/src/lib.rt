@@ -1,11 +1,12 @@
 // The fit of one direction. Values, amounts and a tree are proposed by fast code on lent arrays, from nothing (cold) or from the state of a fit
-// with one bound less (insert). All of that is proved safe and ending, and nothing more. What is proposed is tested (half_test, none), and the
+// with one bound less (insert). All of that is proved safe and ending, and nothing more. What is proposed is tested (proposal, none), and the
 // answer (service) rests on the tests alone.
 mod cold;
 mod insert;
 mod lists;
 mod none;
 mod paths;
+mod proposal;
 mod push;
 mod residual;
 pub mod service;

@@ -11,12 +11,12 @@ use crate::cold::cold;
 use crate::insert::insert;
 use crate::lists::put_lists;
 use crate::none::shows_none;
+use crate::proposal::Shown;
+use crate::proposal::test_fit;
 use crate::state::copy;
 use axis_bounds::Axis;
-use half_test::beyond::shows_beyond;
-use half_test::proposal::Shown;
-use half_test::proposal::test_fit;
 use half_values::values::coordinates_of;
+use half_worth::shows_beyond;
 
 // The fit of the direction has this length, which is within the room; it is longer than the room, or there is none; or nothing is shown.
 pub enum HalfOutcome {

@@ -1,2 +1,4 @@
 pub mod Passing
 pub mod Worths
+pub mod Duality
+pub mod Above

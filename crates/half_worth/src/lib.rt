@@ -1,8 +1,11 @@
-// The tests that amounts balance at every node and give each net its weight, and what they are worth.
+// The tests that amounts balance at every node and give each net its weight, what they are worth, and that a half fit is above a room: by amounts alone,
+// no values are read.
 ghost use Rattle.half_arrays.specs.State.{flowAt, hiAt, loAt};
 ghost use Rattle.half_worth.specs.Amounts.{Passes};
 ghost use Rattle.half_worth.specs.Tests.{Level, Given, WorthSums};
 ghost use Rattle.half_arrays.specs.Says.{Says};
+ghost use Rattle.axis_bounds.specs.Half.{AboveOn};
+ghost use Rattle.half_arrays.specs.Arrays.{axisOn};
 ghost use Rattle.half_sums.specs.Sums.{SumsWithin};
 use axis_bounds::Axis;
 use half_arrays::ARCS;
@@ -70,4 +73,24 @@ pub fn worth_of(tab: &[u32; TAB], arcs: &[u32; ARCS], st: &[u32; POOL], o: usize
     }
     let passes = gives_weights(tab, e);
     Worth { passes, more, less }
+}
+
+// Whether the amounts of state o show that the half fit is above the room or does not exist.
+pub fn shows_beyond(
+    tab: &[u32; TAB],
+    arcs: &[u32; ARCS],
+    st: &[u32; POOL],
+    o: usize,
+    room: u64,
+) -> bool
+    ensures { λ r. ⌜ Says r (AboveOn (axisOn (now (tab .entry)) (now (arcs .entry))) room) ⌝ }
+{
+    let w = worth_of(tab, arcs, st, o);
+    if w.more <= w.less {
+        return false;
+    }
+    if w.more - w.less <= room {
+        return false;
+    }
+    w.passes
 }

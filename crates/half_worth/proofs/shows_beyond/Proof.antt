@@ -1,8 +1,8 @@
 use borrow.Author.Needs.{needs}
 use Rattle.half_arrays.proofs.Answers.{says-no}
-use Rattle.half_test.proofs.Above.{shows-above}
-use Rattle.half_test.proofs.beyond.shows_beyond.Statement.{statement}
-use Rattle.half_test.proofs.beyond.shows_beyond.Tie as tie
+use Rattle.half_worth.proofs.Above.{shows-above}
+use Rattle.half_worth.proofs.shows_beyond.Statement.{statement}
+use Rattle.half_worth.proofs.shows_beyond.Tie as tie
 
 worth-of-requires : tie.Need-worth-of-requires
 worth-of-requires c κs = search needs

@@ -1,7 +1,7 @@
 use borrow.Author.Needs.{needs}
-use Rattle.half_test.proofs.Fitting.{shows-fit}
-use Rattle.half_test.proofs.proposal.test_fit.Statement.{statement}
-use Rattle.half_test.proofs.proposal.test_fit.Tie as tie
+use Rattle.half_fit.proofs.Fitting.{shows-fit}
+use Rattle.half_fit.proofs.proposal.test_fit.Statement.{statement}
+use Rattle.half_fit.proofs.proposal.test_fit.Tie as tie
 
 coordinates-of-requires : tie.Need-coordinates-of-requires
 coordinates-of-requires c κs = search needs

@@ -8,7 +8,7 @@ use Rattle.half_arrays.specs.Arrays.{fromNode, toNode, nodeAt, netAt, axisOn}
 use Rattle.half_arrays.proofs.Nets.{topOn, bottomOn, under-top, over-bottom}
 use Rattle.half_worth.specs.Amounts.{Passes, WorthLength}
 use Rattle.half_reason.specs.Reasons.{Follows, by-tight, by-flow, by-high, by-low, Reasons}
-use Rattle.half_test.proofs.Duality.{arcs-kept, bounds-tight, high-tight, low-tight}
+use Rattle.half_worth.proofs.Duality.{arcs-kept, bounds-tight, high-tight, low-tight}
 
 -- the nodes of the bound from u to v
 from-is : (u v : ℕ) → v < 9 → fromNode (u * 9 + v) ≡ u

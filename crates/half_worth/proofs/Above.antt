@@ -7,9 +7,9 @@ use Rattle.axis_bounds.specs.Half.{AboveOn}
 use Rattle.half_arrays.specs.Says.{Says}
 use Rattle.half_arrays.specs.Arrays.{axisOn}
 use Rattle.half_arrays.specs.State.{flowAt, hiAt, loAt}
 use Rattle.half_worth.specs.Amounts.{Passes, gained, lost}
 use Rattle.half_worth.specs.Tests.{WorthSums}
-use Rattle.half_test.proofs.Duality.{worth-most}
+use Rattle.half_worth.proofs.Duality.{worth-most}
 
 -- amounts over the arrays that pass and are worth more than the room
 pub passes-above : (tab arcs : List ℕ) (f h l : ℕ → ℕ) (room : ℕ) → Passes tab f h l → lost tab f l + room < gained tab arcs f h → AboveOn (axisOn tab arcs) room

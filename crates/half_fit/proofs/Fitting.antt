@@ -15,8 +15,8 @@ use Rattle.half_worth.specs.Amounts.{Passes, WorthLength}
 use Rattle.half_reason.specs.Reasons.{Reasons}
 use Rattle.half_worth.specs.Tests.{WorthSums}
 use Rattle.half_arrays.proofs.Answers.{said}
-use Rattle.half_test.proofs.Duality.{worth-most}
-use Rattle.half_test.proofs.Smallest.{none-smaller}
+use Rattle.half_worth.proofs.Duality.{worth-most}
+use Rattle.half_fit.proofs.Smallest.{none-smaller}
 use Rattle.half_arrays.proofs.Arcs.{on-keeps}
 use Rattle.half_values.proofs.Valuing.{coordinates-small, coordinates-long, limited-coordinates}
 

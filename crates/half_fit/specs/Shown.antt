@@ -3,8 +3,8 @@ use Prim.{Unit}
 use Prim.Native.Nat.{ℕ}
 use mathlib.Core.List.{List}
 use Rattle.axis_bounds.specs.Half.{HalfOn}
-use Rattle.half_test.specs.declared.proposal.Shown.{Shown}
-use Rattle.half_test.specs.declared.proposal.Shown.the-variants as shown
+use Rattle.half_fit.specs.declared.proposal.Shown.{Shown}
+use Rattle.half_fit.specs.declared.proposal.Shown.the-variants as shown
 use Rattle.half_arrays.specs.Arrays.{axisOn}
 
 -- `Fit l`: the coordinates z are the half fit of the arrays, of length l; `Not` says nothing

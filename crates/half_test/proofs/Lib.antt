@@ -1,4 +1,0 @@
-pub mod Duality
-pub mod Above
-pub mod Smallest
-pub mod Fitting
