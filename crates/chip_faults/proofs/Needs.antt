@@ -4,19 +4,19 @@ use mathlib.Core.Bool.{Bool, true, false, not}
 use mathlib.Core.List.{List}
 use Prim.Native.Nat.{ℕ, zero, suc, _-_, _≤_, _<_}
 use native.Mathlib.Omega.{arith}
-use lib.Dec.{leb, ltb, eqb}
+use lib.Dec.{ltb, eqb}
 use lib.ListN.{length, getD, List·getD-eq-default}
-use borrow.Author.Tests.{le-leb, lt-leb, lt-ltb, le-ltb, not-true, not-false}
+use borrow.Author.Tests.{lt-ltb, le-ltb}
 use Rattle.model.specs.declared.Net.{Net as HeldNet}
 use Rattle.model.specs.declared.Chip.{Chip as HeldChip}
 use Rattle.model.specs.Meaning.{blankNet}
-use Rattle.model.specs.Made.{Made}
+use Rattle.model.specs.Step.{Step}
 use Rattle.text_grammar.specs.Steps.{need}
 use Rattle.chip_faults.specs.declared.Row.{Row}
 use Rattle.chip_faults.specs.Faults.{isMade, bareBefore, rowFault}
 
 -- a constructor answers s, which means a thing or none
-module _ {R A : Type 0} (meant : R → Made A) (no more : ℕ) (m : Made A) (r s : R) (e : meant r ≡ m) (q : r ≡ s) where
+module _ {R A : Type 0} (meant : R → Step A) (no more : ℕ) (m : Step A) (r s : R) (e : meant r ≡ m) (q : r ≡ s) where
   is-made : isMade m ≡ isMade (meant s)
   is-made = ap isMade (sym e ∙ ap meant q)
 
@@ -28,12 +28,6 @@ module _ {R A : Type 0} (meant : R → Made A) (no more : ℕ) (m : Made A) (r s
 
 module _ (no more : ℕ) where
   module _ (p r : Bool) (e : r ≡ p) where
-    pub need-fails : not r ≡ true → no ≡ need p no more
-    need-fails h = rw (← e, not-true r h)
-
-    pub need-rest : (x : ℕ) → not r ≡ false → x ≡ more → x ≡ need p no more
-    need-rest x h f = rw (← e, not-false r h) f
-
     pub bare-fails : r ≡ true → no ≡ need (not p) no more
     bare-fails h = rw (← e, h)
 
@@ -46,12 +40,6 @@ module _ (no more : ℕ) where
 
     pub room-rest : (x : ℕ) → i < count → x ≡ more → x ≡ need (ltb i count) no more
     room-rest x h f = rw (lt-ltb i count h) f
-
-    pub no-such : count < i → no ≡ need (leb i count) no more
-    no-such h = rw (lt-leb i count h)
-
-    pub such-rest : (x : ℕ) → i ≤ count → x ≡ more → x ≡ need (leb i count) no more
-    such-rest x h f = rw (le-leb i count h) f
 
 pub net-before : (ts : List HeldNet) (j : ℕ) → (j ≡ 0 → ⊥) → eqb (getD ts (j - 1) blankNet .pins) 0 ≡ bareBefore ts j
 net-before ts zero h = absurd (h refl)

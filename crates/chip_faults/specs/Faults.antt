@@ -2,7 +2,7 @@
 use Prim.Native.Nat.{ℕ, zero, suc}
 use mathlib.Core.List.{List}
 use mathlib.Core.Bool.{Bool, true, false, not}
-use lib.Dec.{leb, ltb, eqb}
+use lib.Dec.{ltb, eqb}
 use lib.ListN.{getD, take}
 use Rattle.model.specs.declared.Die.{Die}
 use Rattle.model.specs.declared.Fix.{Fix}
@@ -12,16 +12,17 @@ use Rattle.model.specs.declared.Pin.{Pin as HeldPin}
 use Rattle.model.specs.declared.Chip.{Chip as HeldChip}
 use Rattle.model.specs.Meaning.{blankFix, blankMac, blankNet, blankPin}
 use Rattle.model.specs.Limits.{mostFixes, mostMacs, mostNets, mostPins}
-use Rattle.model.specs.Made.{Made, made, refusedBy, makeDie, makeFix, makeMac, makeNet, remakePin}
+use Rattle.model.specs.Step.{Step, next, fault}
+use Rattle.model.specs.Made.{makeDie, makeFix, makeMac, makeNet, remakePin}
 use Rattle.text_grammar.specs.Steps.{need}
-use Rattle.chip_text.specs.Kind.{fixInDie, clearOf}
+use Rattle.chip_text.specs.Faults.{placedFault, macroFault}
 use Rattle.chip_faults.specs.declared.Row.{Row}
 use Rattle.chip_faults.specs.declared.Row.the-variants as row
 
 -- a thing can be made of its numbers: they are in their ranges
-abbrev pub isMade : {A : Type 0} → Made A → Bool
-isMade (made a) = true
-isMade (refusedBy n) = false
+abbrev pub isMade : {A : Type 0} → Step A → Bool
+isMade (next a) = true
+isMade (fault n) = false
 
 -- the die: range 4
 abbrev pub dieFault : Die → ℕ
@@ -36,8 +37,7 @@ abbrev pub fixFault : Die → List Fix → ℕ → ℕ
 fixFault d fs i =
     need (ltb i mostFixes) 6
     (need (fixMade (getD fs i blankFix)) 4
-    (need (fixInDie d (getD fs i blankFix)) 9
-    (need (clearOf (getD fs i blankFix) (take i fs)) 10 0)))
+    (placedFault d (getD fs i blankFix) (take i fs)))
 
 -- a macro can be made of its sides
 abbrev pub macMade : Mac → Bool
@@ -68,7 +68,7 @@ abbrev pub pinFault : List HeldPin → ℕ → ℕ → ℕ
 pinFault ps n i =
     need (ltb i mostPins) 6
     (need (isMade (remakePin (getD ps i blankPin))) 4
-    (need (leb (getD ps i blankPin .m) n) 8 0))
+    (macroFault n (getD ps i blankPin .m)))
 
 -- item i of a list of the chip
 abbrev pub rowFault : HeldChip → Row → ℕ → ℕ

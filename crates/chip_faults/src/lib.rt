@@ -34,13 +34,7 @@ fn fix_fault(d: Die, fixes: [Fix; Fix::COUNT], i: usize) -> usize
     let FixMade::Made(_) = Fix::new(f.x, f.y, f.w, f.h) else {
         return 4;
     };
-    if !chip_text::fix_in_die(d, f) {
-        return 9;
-    }
-    if !chip_text::clear_of_fixes(f, fixes, i) {
-        return 10;
-    }
-    0
+    chip_text::placed_fault(d, f, fixes, i)
 }
 
 // The fault of macro i, or 0: count 6, range 4.
@@ -99,10 +93,7 @@ fn pin_fault(pins: [Pin; Pin::COUNT], n: usize, i: usize) -> usize
     let PinMade::Made(_) = Pin::held(p.m, p.xup, p.yup) else {
         return 4;
     };
-    if n < p.m {
-        return 8;
-    }
-    0
+    chip_text::macro_fault(n, p.m)
 }
 
 // The lists of a chip whose items stand on lines that follow each other.

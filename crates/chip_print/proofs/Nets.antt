@@ -12,7 +12,8 @@ use Rattle.num_text.specs.Held.{Wrote}
 use Rattle.model.specs.declared.Net.{Net as HeldNet}
 use Rattle.model.specs.declared.Pin.{Pin as HeldPin}
 use Rattle.model.specs.declared.Chip.{Chip as HeldChip}
-use Rattle.model.specs.Meaning.{Net, firstOf, blankNet, blankPin, pinOf, pinsOf, netsOf, taken, chipOf}
+use Rattle.model.specs.Counted.{taken}
+use Rattle.model.specs.Meaning.{Net, firstOf, blankNet, blankPin, pinOf, pinsOf, netsOf, chipOf}
 use Rattle.model.proofs.Nets.{taken-snoc, nets-snoc}
 use Rattle.text_grammar.specs.Words.{itemText, itemsText}
 use Rattle.chip_text.specs.declared.ChipWord.the-variants as word

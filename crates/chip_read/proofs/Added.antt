@@ -1,11 +1,10 @@
 -- What a line adds: the die, a fix, a macro, a net.
 use mathlib.Core.Path.{_≡_, refl, sym, ap, subst, _∙_}
-use mathlib.Core.Bool.{Bool, true, false, not, _||_, false≢true}
+use mathlib.Core.Bool.{true, false, _||_, false≢true}
 use mathlib.Core.List.{List, [], _∷_, _++_}
 use Prim.Native.Nat.{ℕ, _+_, _<_}
 use native.Mathlib.Omega.{arith}
 use lib.ListN.{length, getD, take, set}
-use borrow.Author.Tests.{not-true, not-false}
 use Rattle.model.specs.declared.Die.{Die}
 use Rattle.model.specs.declared.DieMade.{DieMade}
 use Rattle.model.specs.declared.DieMade.the-variants as die
@@ -19,9 +18,9 @@ use Rattle.model.specs.declared.Net.{Net as HeldNet}
 use Rattle.model.specs.declared.NetMade.{NetMade}
 use Rattle.model.specs.declared.NetMade.the-variants as made
 use Rattle.model.specs.declared.Chip.{Chip as HeldChip}
-use Rattle.model.specs.Meaning.{Net, chipOf, firstOf, pinsOf, blankFix, blankMac, blankNet, taken}
+use Rattle.model.specs.Meaning.{Net, chipOf, firstOf, pinsOf, blankFix, blankMac, blankNet}
 use Rattle.model.specs.Made.{meantDie, makeDie, meantFix, makeFix, meantMac, makeMac, meantNet, makeNet}
-use Rattle.model.specs.Held.{Holds}
+use Rattle.model.specs.Counted.{taken, Holds}
 use Rattle.model.specs.Limits.{mostFixes, mostMacs}
 use Rattle.model.proofs.Holding.{holds-more, holds-all, fits-in}
 use Rattle.model.proofs.FirstOf.{first-take, first-set}
@@ -33,7 +32,10 @@ use Rattle.chip_text.specs.declared.ChipWord.{ChipWord}
 use Rattle.chip_text.specs.declared.ChipWord.the-variants as word
 use Rattle.chip_text.specs.Words.{chipWords}
 use Rattle.chip_words.specs.declared.ChipLast.the-variants as last
-use Rattle.chip_text.specs.Kind.{chipKind, addFix, add, readTo, fixInDie, clearOf, withDie, withMac, withNet}
+use Rattle.chip_text.specs.Kind.{chipKind, addFix, add, readTo, withDie, withMac, withNet, withFix}
+use Rattle.chip_text.specs.Faults.{placedFault}
+use Rattle.chip_text.proofs.Faults.{fix-adds}
+use Rattle.text_grammar.proofs.Entry.{foundOr, found-none, found-fault}
 use Rattle.chip_read.specs.declared.State.{State}
 use Rattle.chip_read.specs.declared.Taken.{Taken}
 use Rattle.chip_read.specs.State.{Sound, partOf, chipValues, withFault, withChip, TakenOk}
@@ -107,28 +109,23 @@ module _ (s : State) (v : List ℕ) (four : length v ≡ 4) (sound : Sound s) (r
   fix-made m o f q t =
       subst (λ (g : Fix). TakenOk r l (addFix (partOf s) g)) (the-fix (getD v 0 0) (getD v 1 0) (getD v 2 0) (getD v 3 0) m o f q ∙ sym (fix-values v four)) t
 
--- a fix passes two tests more
-module _ (s : State) (f : Fix) (sound : Sound s) (r : Taken) (l : ℕ) (inside : Bool) (i : inside ≡ fixInDie (s .chip .die) f) where
-  pub fix-leaves : not inside ≡ true → r ≡ withFault s (record { no = 9; line = l }) → TakenOk r l (addFix (partOf s) f)
+-- a fix by the last tests of its line
+module _ (s : State) (f : Fix) (sound : Sound s) (r : Taken) (l no : ℕ) (e : no ≡ placedFault (s .chip .die) f (take (s .chip .k) (s .chip .fixes))) where
+  by-fault : addFix (partOf s) f ≡ foundOr no (readTo word.Fix (withFix (chipOf (s .chip)) f))
   unfolding chipOf
-  fix-leaves h e = rw e (record { ok = record { meant = rw (← i, not-true inside h); at = refl }; sound = sound })
+  by-fault = fix-adds (partOf s) f ∙ rw (e, first-take blankFix (s .chip .k) (s .chip .fixes) (holds-all (sound .fixes)))
 
-  module _ (stays : not inside ≡ false) (clear : Bool) (c : clear ≡ clearOf f (take (s .chip .k) (s .chip .fixes))) where
-    tested : clear ≡ clearOf f (firstOf blankFix (s .chip .k) (s .chip .fixes))
-    tested = rw (first-take blankFix (s .chip .k) (s .chip .fixes) (holds-all (sound .fixes))) c
+  pub fix-faulty : (no ≡ 0 → ⊥) → r ≡ withFault s (record { no = no; line = l }) → TakenOk r l (addFix (partOf s) f)
+  fix-faulty z q = rw (q, by-fault) (record { ok = record { meant = found-fault no _ z; at = refl }; sound = sound })
 
-    pub fix-overlaps : not clear ≡ true → r ≡ withFault s (record { no = 10; line = l }) → TakenOk r l (addFix (partOf s) f)
-    unfolding chipOf
-    fix-overlaps h e = rw e (record { ok = record { meant = rw (← i, not-false inside stays, ← tested, not-true clear h); at = refl }; sound = sound })
-
-    pub fix-added : not clear ≡ false → Entered chipKind (partOf s) word.Fix → r ≡ withChip s word.Fix (holdFix (s .chip) f) → TakenOk r l (addFix (partOf s) f)
-    unfolding chipOf same
-    fix-added h p e =
-        rw e
-        (record {
-          ok = record { meant = rw (← i, not-false inside stays, ← tested, not-false clear h, first-set blankFix (s .chip .k) (s .chip .fixes) f (fits-in (sound .fixes) fits)); at = refl };
-          sound = kept-sound s sound word.Fix refl (s .chip .die) (holds-more (sound .fixes) f fits) (sound .macs);
-        })
-      where
-        fits : s .chip .k < 8
-        fits = fix-fits s sound p
+  pub fix-added : no ≡ 0 → Entered chipKind (partOf s) word.Fix → r ≡ withChip s word.Fix (holdFix (s .chip) f) → TakenOk r l (addFix (partOf s) f)
+  unfolding chipOf same
+  fix-added z p q =
+      rw (q, by-fault)
+      (record {
+        ok = record { meant = rw (first-set blankFix (s .chip .k) (s .chip .fixes) f (fits-in (sound .fixes) fits)) (found-none no _ z); at = refl };
+        sound = kept-sound s sound word.Fix refl (s .chip .die) (holds-more (sound .fixes) f fits) (sound .macs);
+      })
+    where
+      fits : s .chip .k < 8
+      fits = fix-fits s sound p

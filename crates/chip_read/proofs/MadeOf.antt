@@ -22,7 +22,8 @@ use Rattle.model.specs.declared.PinMade.{PinMade}
 use Rattle.model.specs.declared.PinMade.the-variants as pin
 use Rattle.model.specs.Meaning.{pinOf}
 use Rattle.model.specs.Limits.{isWithin, dieSide, fixCorner, fixSide, macSide, netWeight, pinMacro, pinPlace}
-use Rattle.model.specs.Made.{Made, outOfRange, ifWithin, meantDie, makeDie, meantFix, makeFix, meantMac, makeMac, meantNet, makeNet, meantPin, remakePin}
+use Rattle.model.specs.Step.{Step, next, fault, check}
+use Rattle.model.specs.Made.{meantDie, makeDie, meantFix, makeFix, meantMac, makeMac, meantNet, makeNet, meantPin, remakePin}
 use Rattle.model.proofs.Tests.{refused, kept}
 use Rattle.text_grammar.specs.Steps.{ReadAs}
 use Rattle.text_grammar.proofs.FieldsText.{fields-written}
@@ -75,7 +76,7 @@ passed : (w : ChipWord) (v : List ℕ) → ReadAs chipWords w (chipValues w v) �
 passed w v i = passing (form w) (chipValues w v) (chipValues w v) (fields-written (form w) (i .bytes) (chipValues w v) (words-told .formed w) (i .read) .passes)
 
 -- a refusal of a thing that passes its tests
-never : {A P : Type 0} (t : Bool) (a : A) (m : Made A) → t ≡ true → m ≡ outOfRange → m ≡ ifWithin t a → P
+never : {A P : Type 0} (t : Bool) (a : A) (m : Step A) → t ≡ true → m ≡ fault 4 → m ≡ check t 4 (next a) → P
 never t a m h q e = absurd (true≢false (sym h ∙ refused t a (sym q ∙ e)))
 
 module _ (v : List ℕ) (four : length v ≡ 4) (s : State) (r : Taken) (l : ℕ) where

@@ -1,30 +1,32 @@
 -- What a pin line adds: one pin more to the last net.
 use mathlib.Core.Path.{_≡_, refl, sym, ap, _∙_}
 use mathlib.Core.List.{List, [], _∷_, _++_}
-use Prim.Native.Nat.{ℕ, _+_, _-_, _≤_, _<_}
+use Prim.Native.Nat.{ℕ, _+_, _-_, _<_}
 use native.Mathlib.Omega.{arith}
-use lib.Dec.{leb}
 use lib.ListN.{length, getD, drop, set, length-drop}
 use lib.Seq.{drop-set-add}
 use mir.Syntax.{w64}
 use mir.Val.{Fits}
-use borrow.Author.Tests.{le-leb, lt-leb}
 use Rattle.model.specs.declared.Net.{Net as HeldNet}
 use Rattle.model.specs.declared.Pin.{Pin as HeldPin}
 use Rattle.model.specs.declared.PinMade.{PinMade}
 use Rattle.model.specs.declared.PinMade.the-variants as pin
 use Rattle.model.specs.declared.Chip.{Chip as HeldChip}
-use Rattle.model.specs.Meaning.{Pin, Net, chipOf, firstOf, netsOf, pinOf, pinsOf, blankNet, blankPin, taken}
+use Rattle.model.specs.Counted.{taken}
+use Rattle.model.specs.Meaning.{Pin, Net, chipOf, firstOf, netsOf, pinOf, pinsOf, blankNet, blankPin}
 use Rattle.model.specs.Made.{meantPin, remakePin}
 use Rattle.model.proofs.Holding.{holds-more, holds-set}
 use Rattle.model.proofs.FirstOf.{first-suc, first-set}
 use Rattle.model.proofs.Nets.{taken-snoc, nets-snoc, nets-kept, pins-append}
-use Rattle.text_grammar.specs.Reading.{Step, fault, check}
+use Rattle.model.specs.Step.{Step, fault}
 use Rattle.text_grammar.specs.Steps.{Entered}
 use Rattle.chip_read.proofs.MadeOf.{the-pin}
 use Rattle.chip_text.specs.declared.ChipWord.the-variants as word
 use Rattle.chip_words.specs.declared.ChipLast.the-variants as last
 use Rattle.chip_text.specs.Kind.{Part, chipKind, add, addPin, readTo, withPin}
+use Rattle.chip_text.specs.Faults.{macroFault}
+use Rattle.chip_text.proofs.Faults.{pin-adds}
+use Rattle.text_grammar.proofs.Entry.{foundOr, found-none, found-fault}
 use Rattle.chip_read.specs.declared.State.{State}
 use Rattle.text_line.specs.declared.Fault.the-variants as held
 use Rattle.chip_read.specs.declared.Taken.{Taken}
@@ -85,14 +87,19 @@ module _ (s : State) (sound : Sound s) (entered : Entered chipKind (partOf s) wo
   net-fits-one = omega (arith, all-pins, pin-fits s sound entered)
 
   module _ (v : List ℕ) (four : length v ≡ 4) (l : ℕ) where
-    abbrev addPinned : Pin → Step Part
-    addPinned p = check (leb (p .m) (length (chipOf (s .chip) .macs))) 8 (readTo word.Pin (withPin (chipOf (s .chip)) p))
+    -- the step of the pin p, by the fault of its macro m
+    abbrev addPinned : ℕ → Pin → Step Part
+    addPinned m p = foundOr (macroFault (length (chipOf (s .chip) .macs)) m) (readTo word.Pin (withPin (chipOf (s .chip)) p))
 
-    step-pin : (t : Step Part) → t ≡ addPinned (pinOf (heldPin v)) → t ≡ add (partOf s) word.Pin (chipValues word.Pin v)
-    step-pin t e = e ∙ ap addPinned (sym (pin-values v four))
+    step-pin : add (partOf s) word.Pin (chipValues word.Pin v) ≡ addPinned (getD v 0 0) (pinOf (heldPin v))
+    step-pin = pin-adds (partOf s) (chipValues word.Pin v) ∙ ap (λ (p : Pin). addPinned (p .m) p) (pin-values v four)
 
-    pub no-macro : (r : Taken) → s .chip .n < getD v 0 0 → r ≡ withFault s (record { no = 8; line = l }) → TakenOk r l (add (partOf s) word.Pin (chipValues word.Pin v))
-    no-macro r h e = rw e (record { ok = record { meant = step-pin (fault 8) (rw (mac-count s sound, lt-leb _ _ h)); at = refl }; sound = sound })
+    module _ (no : ℕ) (e : no ≡ macroFault (s .chip .n) (getD v 0 0)) where
+      by-fault : add (partOf s) word.Pin (chipValues word.Pin v) ≡ foundOr no (readTo word.Pin (withPin (chipOf (s .chip)) (pinOf (heldPin v))))
+      by-fault = step-pin ∙ rw (mac-count s sound, e)
+
+      pub no-macro : (r : Taken) → (no ≡ 0 → ⊥) → r ≡ withFault s (record { no = no; line = l }) → TakenOk r l (add (partOf s) word.Pin (chipValues word.Pin v))
+      no-macro r z q = rw (q, by-fault) (record { ok = record { meant = found-fault no _ z; at = refl }; sound = sound })
 
     abbrev holdPin : HeldPin → HeldChip
     holdPin p = record { die = s .chip .die; k = s .chip .k; fixes = s .chip .fixes; n = s .chip .n; macs = s .chip .macs; t = s .chip .t; nets = set (s .chip .nets) place (onePin net); pins = set (s .chip .pins) (s .pins) p }
@@ -100,11 +107,11 @@ module _ (s : State) (sound : Sound s) (entered : Entered chipKind (partOf s) wo
     nets-with : (p : HeldPin) → netsOf (firstOf blankNet (s .chip .t) (set (s .chip .nets) place (onePin net))) (set (s .chip .pins) (s .pins) p) ≡ addPin (pinOf p) (netsOf (firstOf blankNet (s .chip .t) (s .chip .nets)) (s .chip .pins))
     nets-with p = rw (last-pinned, last-net, ← all-pins) (nets-pin before net (s .chip .pins) p (omega (arith, all-pins, pin-fits s sound entered, sound .pins .long)))
 
-    pub pin-added : getD v 0 0 ≤ s .chip .n → (m : PinMade) → meantPin m ≡ remakePin (heldPin v) → (p : HeldPin) → m ≡ pin.Made p → TakenOk (record { fault = held.Clear; state = record { last = last.After word.Pin; pins = s .pins + 1; chip = holdPin p } }) l (add (partOf s) word.Pin (chipValues word.Pin v))
+    pub pin-added : (no : ℕ) → no ≡ macroFault (s .chip .n) (getD v 0 0) → no ≡ 0 → (m : PinMade) → meantPin m ≡ remakePin (heldPin v) → (p : HeldPin) → m ≡ pin.Made p → TakenOk (record { fault = held.Clear; state = record { last = last.After word.Pin; pins = s .pins + 1; chip = holdPin p } }) l (add (partOf s) word.Pin (chipValues word.Pin v))
     unfolding chipOf
-    pin-added h m o p q =
+    pin-added n e z m o p q =
         record {
-          ok = record { meant = step-pin _ (rw (← the-pin (heldPin v) m o p q, mac-count s sound, le-leb _ _ h, nets-with p)); at = refl };
+          ok = record { meant = rw (← the-pin (heldPin v) m o p q, nets-with p) (found-none n _ z) ∙ sym (by-fault n e); at = refl };
           sound = record {
             fixes = sound .fixes;
             macs = sound .macs;

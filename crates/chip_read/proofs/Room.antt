@@ -6,8 +6,8 @@ use native.Mathlib.Omega.{arith}
 use lib.ListN.{length, drop, length-drop}
 use Rattle.model.specs.declared.Net.{Net}
 use Rattle.model.specs.declared.Pin.{Pin}
-use Rattle.model.specs.Meaning.{chipOf, netsOf, firstOf, blankFix, blankMac, blankNet, blankPin, taken}
-use Rattle.model.specs.Held.{Holds}
+use Rattle.model.specs.Meaning.{chipOf, netsOf, firstOf, blankFix, blankMac, blankNet, blankPin}
+use Rattle.model.specs.Counted.{taken, Holds}
 use Rattle.model.proofs.FirstOf.{length-first}
 use Rattle.model.proofs.Nets.{length-nets, length-pins}
 use Rattle.chip_text.specs.Kind.{countsOf, pinCount}

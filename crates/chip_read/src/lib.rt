@@ -18,16 +18,16 @@ use model::TEXT_MOST;
 use text_line::Fault;
 ghost use mathlib.Core.Path.{_≡_};
 ghost use Rattle.model.specs.Limits.{mostBytes};
-ghost use Rattle.model.specs.Meaning.{chipOf};
+ghost use Rattle.model.specs.Held.{heldChip};
 ghost use Prim.Native.Nat.{_≤_, _<_};
 ghost use lib.ListN.{length};
-ghost use Rattle.text_grammar.specs.Reading.{stepLine, ending};
-ghost use Rattle.text_grammar.specs.Steps.{Entered, ReadAs, lineEnd, lineAt};
+ghost use Rattle.text_grammar.specs.Reading.{stepLine, partRead};
+ghost use Rattle.text_grammar.specs.Steps.{ending, Entered, ReadAs, lineEnd, lineAt};
 ghost use Rattle.chip_text.specs.Words.{chipWords};
-ghost use Rattle.chip_text.specs.Kind.{addFix, add, chipKind};
-ghost use Rattle.chip_text.specs.Text.{chipRead, readChip};
-ghost use Rattle.chip_read.specs.State.{Sound, partOf, chipValues, withFault, withChip, TakenOk};
-ghost use Rattle.chip_read.specs.Answer.{blankChip, refusedAt, meantChip, chipAnswer, ReadOk};
+ghost use Rattle.chip_text.specs.Kind.{addFix, add, chipKind, Part, start};
+ghost use Rattle.chip_text.specs.Text.{readChip};
+ghost use Rattle.chip_read.specs.State.{Sound, partOf, chipValues, withFault, withChip, TakenOk, refusedAt, ReadOk};
+ghost use Rattle.chip_read.specs.Answer.{meantChip, chipAnswer};
 
 // What reading a chip answers.
 pub enum ChipAnswer {
@@ -56,7 +56,7 @@ pub(crate) struct Taken {
 
 // A chip that holds nothing.
 fn blank_chip() -> Chip
-    ensures { λ r. ⌜ r ≡ blankChip ⌝ }
+    ensures { λ r. ⌜ r ≡ heldChip (start .chip) ⌝ }
 {
     Chip {
         die: Die { w: 0, h: 0 },
@@ -128,13 +128,9 @@ fn put_fix(s: State, f: Fix, line: usize) -> Taken
     let mut chip = s.chip;
     let k = chip.k;
     let fixes = chip.fixes;
-    let inside = chip_text::fix_in_die(chip.die, f);
-    let clear = chip_text::clear_of_fixes(f, fixes, k);
-    if !inside {
-        return with_fault(s, Refusal { no: 9, line });
-    }
-    if !clear {
-        return with_fault(s, Refusal { no: 10, line });
+    let no = chip_text::placed_fault(chip.die, f, fixes, k);
+    if no != 0 {
+        return with_fault(s, Refusal { no, line });
     }
     chip.fixes[k] = f;
     chip.k = k + 1;
@@ -200,8 +196,9 @@ fn add_pin(s: State, v: [u64; 4], line: usize) -> Taken
         return with_fault(s, Refusal { no: 4, line });
     };
     let mut chip = s.chip;
-    if chip.n < m {
-        return with_fault(s, Refusal { no: 8, line });
+    let no = chip_text::macro_fault(chip.n, m);
+    if no != 0 {
+        return with_fault(s, Refusal { no, line });
     }
     let last = chip.t - 1;
     let q = s.pins;
@@ -275,7 +272,7 @@ fn refused(f: Refusal) -> ChipRead
 // The end of the text, where line `line` would begin: `end` must stand before it.
 fn finish(s: State, line: usize) -> ChipRead
     requires { ⌜ Sound s ⌝ }
-    ensures { λ r. ⌜ ReadOk (chipRead (ending chipKind (chipKind .complete (partOf s)) (partOf s) line)) r ⌝ }
+    ensures { λ r. ⌜ ReadOk (partRead (λ (s : Part). s .chip) (ending chipKind (partOf s) line)) r ⌝ }
 {
     let last = s.last;
     let chip = s.chip;

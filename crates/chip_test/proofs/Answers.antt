@@ -11,13 +11,13 @@ use Rattle.model.specs.declared.Tested.the-variants as tested
 use Rattle.model.specs.declared.Chip.{Chip as HeldChip}
 use Rattle.model.specs.Meaning.{chipOf}
 use Rattle.num_text.specs.Held.{Wrote}
-use Rattle.text_grammar.specs.Reading.{accepted, refused}
+use Rattle.text_grammar.specs.Reading.{accepted, refused, partRead}
 use Rattle.text_grammar.proofs.Lengths.{brief, briefWord, run-short}
 use Rattle.chip_text.specs.declared.ChipWord.{ChipWord}
 use Rattle.chip_text.specs.declared.ChipWord.the-variants as word
 use Rattle.chip_text.specs.Words.{chipWords}
-use Rattle.chip_text.specs.Kind.{start, chipKind}
-use Rattle.chip_text.specs.Text.{chipRead, readChip, chipItems, chipText}
+use Rattle.chip_text.specs.Kind.{start, chipKind, Part}
+use Rattle.chip_text.specs.Text.{readChip, chipItems, chipText}
 use Rattle.chip_text.proofs.ItemsRun.{items-formed, chip-run}
 use Rattle.chip_text.proofs.ReadText.{too-long}
 use Rattle.chip_text.proofs.TextRead.{text-read}
@@ -41,7 +41,7 @@ module _ (c : HeldChip) (ok : Whole c) where
     long-read h = too-long (chipText (chipOf c)) (omega arith)
 
     pub refused-read : (r : Tested) → r ≡ itemsTested c → (f : Refusal) → r ≡ tested.Refused f → n ≤ 16384 → refused (f .no) (f .line) ≡ readChip (chipText (chipOf c))
-    refused-read r a f p h = sym (chip-run (chipOf c) (omega arith) ∙ ap chipRead (items-refused c ok r a f p))
+    refused-read r a f p h = sym (chip-run (chipOf c) (omega arith) ∙ ap (partRead (λ (s : Part). s .chip)) (items-refused c ok r a f p))
 
   module _ (r : Tested) (a : r ≡ itemsTested c) (p : r ≡ tested.Passed) where
     passed-short : length (chipText (chipOf c)) ≤ 16384
@@ -55,5 +55,5 @@ module _ (c : HeldChip) (ok : Whole c) where
     pub passed-read : accepted (chipOf c) ≡ readChip (chipText (chipOf c))
     passed-read =
         let q = items-accepted c ok r a p in
-        let e : readChip (chipText (chipOf c)) ≡ accepted (q .0 .chip) = chip-run (chipOf c) passed-short ∙ ap chipRead (q .1) in
+        let e : readChip (chipText (chipOf c)) ≡ accepted (q .0 .chip) = chip-run (chipOf c) passed-short ∙ ap (partRead (λ (s : Part). s .chip)) (q .1) in
         ap accepted (sym (text-read (chipOf c) (q .0 .chip) e)) ∙ sym e

@@ -5,7 +5,7 @@ use mathlib.Core.List.{List, [], _∷_, _++_}
 use Prim.{tt}
 use Prim.Native.Nat.{ℕ, suc, _+_, _≤_, _<_}
 use native.Mathlib.Omega.{arith}
-use lib.Dec.{leb, ltb, eqb}
+use lib.Dec.{ltb, eqb}
 use lib.ListN.{length, getD, take, drop, length-append, length-take}
 use lib.Seq.{take-suc, getD-drop}
 use borrow.Author.Tests.{ltb-true, ne-eqb}
@@ -23,12 +23,13 @@ use Rattle.text_grammar.specs.Steps.{need}
 use Rattle.chip_text.specs.declared.ChipWord.{ChipWord}
 use Rattle.chip_text.specs.declared.ChipWord.the-variants as word
 use Rattle.chip_text.specs.Words.{chipWords}
-use Rattle.chip_text.specs.Kind.{Part, start, followers, pinCount, fixInDie, clearOf, addPin, chipKind}
+use Rattle.chip_text.specs.Kind.{Part, start, followers, pinCount, addPin, chipKind}
 use Rattle.chip_text.specs.Text.{dieItem, fixItem, macItem, pinItem, endItem}
 use Rattle.chip_print.specs.Items.{weightItem}
 use Rattle.chip_faults.specs.Faults.{dieFault, fixFault, macFault, bareBefore, netFault, pinFault}
+use Rattle.chip_text.proofs.Faults.{fix-adds, pin-adds}
 use Rattle.chip_test.proofs.Fields.{die-fields, fix-fields, mac-fields, net-fields, pin-fields, end-fields}
-use Rattle.chip_test.proofs.Steps.{Steps, goes, steps-check, item-steps}
+use Rattle.chip_test.proofs.Steps.{Steps, goes, steps-found, item-steps}
 
 -- the words ws may be next
 abbrev Open : Part → List ChipWord → Type 0
@@ -87,9 +88,9 @@ fix-steps d fs l i s p =
     let h : i ≤ 8 = p .few in
     let n : length (take i fs) ≡ i = length-take i fs ∙ omega arith in
     item-steps s (fixItem f) _ (fix-fields f) (p .places .0) (ltb i 8) true _ (rw (p .fixes, n)) (rw (p .last))
-    (λ r. rw (p .die, p .fixes) (steps-check (fixInDie d f) 8 _ _ (λ a. steps-check (clearOf f (take i fs)) 9 _ _ (λ b.
+    (λ r. rw (fix-adds s f, p .die, p .fixes) (steps-found _ _ (
     let g : i < 8 = ltb-true i 8 r in
-    goes _ refl (record { places = (refl, (refl, (refl, (refl, tt)))); last = refl; die = refl; fixes = sym (take-suc fs i blankFix (omega arith)); macs = p .macs; nets = p .nets; few = omega arith })))))
+    goes _ refl (record { places = (refl, (refl, (refl, (refl, tt)))); last = refl; die = refl; fixes = sym (take-suc fs i blankFix (omega arith)); macs = p .macs; nets = p .nets; few = omega arith }))))
 
 -- macros follow the fixes
 pub macs-next : {d : Die} {fs : List Fix} {i : ℕ} (s : Part) → Fixes d fs i s → Macs 0 s
@@ -148,7 +149,7 @@ pin-steps n ps q j i s p =
     let x : HeldPin = getD ps (q + i) blankPin in
     rw (getD-drop q ps i blankPin)
     (item-steps s (pinItem (pinOf x)) _ (pin-fields x) (p .places .1 .0) (ltb (q + i) 128) true _ (rw (p .pins)) (rw or-true)
-    (λ r. rw (p .macs) (steps-check (leb (x .m) n) 7 0 _ (λ a.
+    (λ r. rw (pin-adds s (pinItem (pinOf x) .values), p .macs) (steps-found _ _ (
     let g : q + i < 128 = ltb-true (q + i) 128 r in
     let c = p .pins in
     let l = p .nets in

@@ -10,7 +10,8 @@ use Rattle.model.specs.declared.Refusal.{Refusal}
 use Rattle.model.specs.declared.Tested.{Tested}
 use Rattle.model.specs.declared.Tested.the-variants as tested
 use Rattle.model.specs.Meaning.{firstOf}
-use Rattle.text_grammar.specs.Reading.{next, refused}
+use Rattle.model.specs.Step.{next}
+use Rattle.text_grammar.specs.Reading.{refused}
 use Rattle.text_grammar.proofs.Items.{itemStep, runItems}
 use Rattle.chip_text.specs.Kind.{Part, chipKind}
 use Rattle.chip_text.specs.Text.{Item}

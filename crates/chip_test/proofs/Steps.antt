@@ -2,11 +2,12 @@
 use mathlib.Core.Path.{_≡_, refl}
 use mathlib.Core.Bool.{Bool, true, false}
 use mathlib.Core.List.{List}
-use Prim.Native.Nat.{ℕ, suc}
+use Prim.Native.Nat.{ℕ, zero, suc}
+use Rattle.model.specs.Step.{Step, next, fault, check, onNext}
 use Rattle.text_grammar.specs.Line.{Value}
 use Rattle.text_grammar.specs.Words.{isIn}
-use Rattle.text_grammar.specs.Reading.{Step, next, fault, check, stepFields}
 use Rattle.text_grammar.specs.Steps.{need}
+use Rattle.text_grammar.proofs.Entry.{foundOr}
 use Rattle.text_grammar.proofs.Items.{itemStep}
 use Rattle.chip_text.specs.declared.ChipWord.{ChipWord}
 use Rattle.chip_text.specs.Words.{chipWords}
@@ -24,7 +25,11 @@ module _ {P : Part → Type 0} where
   steps-check true n m x k = k refl
   steps-check false n m x k = stops n refl
 
-  fields-check : (s : Part) (w : ChipWord) (vs : List Value) (b : Bool) (m : ℕ) → Steps P (add s w vs) m → Steps P (stepFields chipKind s w (within b vs)) (need b 4 m)
+  pub steps-found : (n : ℕ) (x : Step Part) → Steps P x 0 → Steps P (foundOr n x) n
+  steps-found zero x k = k
+  steps-found (suc n) x k = stops n refl
+
+  fields-check : (s : Part) (w : ChipWord) (vs : List Value) (b : Bool) (m : ℕ) → Steps P (add s w vs) m → Steps P (onNext (within b vs) (add s w)) (need b 4 m)
   fields-check s w vs true m k = k
   fields-check s w vs false m k = stops 3 refl
 

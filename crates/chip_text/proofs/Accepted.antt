@@ -1,17 +1,19 @@
 -- Every accepted chip is valid: `accepted-valid`.
 -- Each line of an accepted text keeps what is sound (`Sound`), and after the last line a sound chip is valid.
 use Prim.Native.Nat.{ℕ, suc}
-use mathlib.Core.Path.{_≡_, refl, ap, subst}
-use mathlib.Core.Bool.{Bool, true, false, false≢true}
+use mathlib.Core.Path.{_≡_, ap, subst}
+use mathlib.Core.Bool.{true, false, false≢true}
 use mathlib.Core.List.{List, [], _∷_}
 use lib.ListN.{length}
 use Rattle.model.specs.Meaning.{Chip}
 use Rattle.chip_text.specs.declared.ChipWord.{ChipWord}
 use Rattle.chip_text.specs.declared.ChipWord.the-variants as word
-use Rattle.text_grammar.specs.Reading.{Last, before, after, isLast, next, accepted, ending, inPlace, readText}
+use Rattle.model.specs.Step.{next}
+use Rattle.text_grammar.specs.Steps.{inPlace}
+use Rattle.text_grammar.specs.Reading.{Last, before, after, isLast, accepted, readText}
 use Rattle.text_grammar.proofs.Words.{is-word-equal}
-use Rattle.text_grammar.proofs.Items.{Formed, WellFormed, itemStep, runItems, no-refusal, check-next, onward-accepted, items-read, read-text-lines}
-use Rattle.text_grammar.proofs.Run.{step-passed}
+use Rattle.text_grammar.proofs.Items.{Formed, WellFormed, itemStep, runItems, check-next, onward-accepted, items-read, read-text-lines}
+use Rattle.text_grammar.proofs.Run.{step-passed, ending-accepted}
 use Rattle.chip_text.specs.Kind.{Part, start, counts, countsOf, room, pinned, chipKind}
 use Rattle.text_grammar.specs.Words.{same}
 use Rattle.chip_text.specs.Words.{chipWords}
@@ -33,16 +35,11 @@ sound-step s s′ i f e v =
     let h = check-next (pinned (s .last) w) 7 _ s′ (g .1) in
     sound-add s s′ v w (i .values) (item-ranges i f (p .within)) (p .in-place) (g .0) (h .0) (p .added)
 
--- a text that is over has its last line
-ending-sound : (b : Bool) (s s′ : Part) (n : ℕ) → isLast chipWords (s .last) word.End ≡ b → ending chipKind b s n ≡ accepted s′ → Sound s → Sound s′ × (isLast chipWords (s′ .last) word.End ≡ true)
-ending-sound true s s′ n q e v = let o : s′ ≡ s = cc in rw o (v, q)
-ending-sound false s s′ n q e v = no-refusal e
-
 sound-run : (s s′ : Part) (n : ℕ) (is : List Item) → WellFormed chipKind is → runItems chipKind s n is ≡ accepted s′ → Sound s → Sound s′ × (isLast chipWords (s′ .last) word.End ≡ true)
 unfolding runItems
-sound-run s s′ n [] f e v = ending-sound (isLast chipWords (s .last) word.End) s s′ n refl e v
+sound-run s s′ n [] f e v = let q = ending-accepted chipKind s s′ n e in rw (← q .0) (v, q .1)
 sound-run s s′ n (i ∷ is) f e v =
-    let o = onward-accepted chipKind (itemStep chipKind s i) n (λ t. runItems chipKind t (suc n) is) s′ e in
+    let o = onward-accepted (itemStep chipKind s i) n (λ t. runItems chipKind t (suc n) is) s′ e in
     sound-run (o .0) s′ (suc n) is (f .1) (o .2) (sound-step s (o .0) i (f .0) (o .1) v)
 
 -- the last word is that one

@@ -5,15 +5,15 @@ use Prim.{tt}
 use Prim.Native.Nat.{_≤_}
 use lib.ListN.{length}
 use Rattle.model.specs.Meaning.{Net, Chip}
-use Rattle.text_grammar.specs.Reading.{readLines}
+use Rattle.text_grammar.specs.Reading.{readLines, partRead}
 use Rattle.text_grammar.specs.Line.{lines}
 use Rattle.text_grammar.proofs.FieldsText.{suits, shaped}
 use Rattle.text_grammar.proofs.Every.{every-append, every-map}
 use Rattle.text_grammar.proofs.Items.{Formed, WellFormed, runItems, read-items, read-text-short}
-use Rattle.chip_text.specs.Kind.{start, chipKind}
+use Rattle.chip_text.specs.Kind.{start, chipKind, Part}
 use Rattle.chip_text.proofs.Told.{words-told}
 use Rattle.chip_text.specs.Words.{chipWords}
-use Rattle.chip_text.specs.Text.{Item, fixItem, macItem, pinItem, netItems, chipItems, chipRead, readChip, chipText}
+use Rattle.chip_text.specs.Text.{Item, fixItem, macItem, pinItem, netItems, chipItems, readChip, chipText}
 
 -- the items of a list of parts, and items after them
 many-formed : {A : Type 0} (item : A → Item) → ((a : A) → Formed chipWords (item a)) → (s : List A) (is : List Item) → WellFormed chipKind is → WellFormed chipKind (map item s ++ is)
@@ -38,6 +38,6 @@ module _ (c : Chip) where
   unfolding chipText
   lines-run = read-items chipKind words-told start 1 (chipItems c) (items-formed c)
 
-  pub chip-run : length (chipText c) ≤ 16384 → readChip (chipText c) ≡ chipRead (runItems chipKind start 1 (chipItems c))
+  pub chip-run : length (chipText c) ≤ 16384 → readChip (chipText c) ≡ partRead (λ (s : Part). s .chip) (runItems chipKind start 1 (chipItems c))
   unfolding readChip
-  chip-run h = ap chipRead (read-text-short chipKind start (chipText c) h ∙ lines-run)
+  chip-run h = ap (partRead (λ (s : Part). s .chip)) (read-text-short chipKind start (chipText c) h ∙ lines-run)

@@ -15,3 +15,4 @@ pub mod HeldMeaning
 pub mod HeldChip
 pub mod Passing
 pub mod Numbers
+pub mod Faults

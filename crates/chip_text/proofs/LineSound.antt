@@ -4,19 +4,21 @@ use Prim.Native.Nat.{ℕ, _≤_, _<_}
 use native.Mathlib.Omega.{arith}
 use mathlib.Core.Path.{_≡_, refl}
 use mathlib.Core.Bool.{Bool, true, false, not, _||_, true≢false, false≢true}
-use mathlib.Core.List.{List, [], _∷_, _++_}
+use mathlib.Core.List.{List, [], _∷_, _++_, map}
 use lib.Dec.{leb}
 use lib.ListN.{length, getD, length-append}
 use borrow.Author.Tests.{leb-true, ltb-true}
 use Rattle.model.specs.Meaning.{blankFix, blankMac}
 use Rattle.chip_text.specs.declared.ChipWord.{ChipWord}
 use Rattle.chip_text.specs.declared.ChipWord.the-variants as word
+use Rattle.geometry.specs.Box.{boxOf, inDie, clearOf}
+use Rattle.model.specs.Step.{next}
 use Rattle.text_grammar.specs.Line.{Value}
 use Rattle.text_grammar.specs.Words.{same, isWord, isIn, size}
-use Rattle.text_grammar.specs.Reading.{Last, before, after, isLast, next}
+use Rattle.text_grammar.specs.Reading.{Last, before, after, isLast}
 use Rattle.text_grammar.proofs.Items.{check-next}
 use Rattle.chip_text.specs.Words.{chipWords}
-use Rattle.chip_text.specs.Kind.{Part, start, followers, counts, countsOf, room, pinned, pinCount, fixInDie, clearOf, fixOf, macOf, netOf, pinOf, add}
+use Rattle.chip_text.specs.Kind.{Part, start, followers, counts, countsOf, room, pinned, pinCount, fixOf, macOf, netOf, pinOf, add}
 use Rattle.chip_text.specs.Valid.{Between, ValidFix, ValidMac}
 use Rattle.chip_text.proofs.LineValues.{Ranges, die-valid, fix-valid, mac-valid, weight-valid, pin-valid}
 use Rattle.chip_text.proofs.NetsRead.{NetsRead, each-snoc, count-net, count-pin, length-pin, nets-more, net-read, pin-read}
@@ -72,8 +74,8 @@ module _ (s s′ : Part) (v : Sound s) where
   unfolding same
   sound-add word.Die vs r p h q a = sound-next a (record { die = λ e. die-valid vs r; fixCount = v .fixCount; macCount = v .macCount; netCount = v .netCount; pins = v .pins; fix = v .fix; mac = v .mac; nets = all-valid q })
   sound-add word.Fix vs r p h q a =
-      let d = check-next (fixInDie (s .chip .die) (fixOf vs)) 9 _ s′ a in
-      let o = check-next (clearOf (fixOf vs) (s .chip .fixes)) 10 _ s′ (d .1) in
+      let d = check-next (inDie (s .chip .die) (boxOf (fixOf vs))) 9 _ s′ a in
+      let o = check-next (clearOf 0 (boxOf (fixOf vs)) (map boxOf (s .chip .fixes))) 10 _ s′ (d .1) in
       let n = ltb-true (length (s .chip .fixes)) 8 h in
       sound-next (o .1) (record { die = λ e. v .die (not-first (s .last) word.Fix refl p); fixCount = rw length-append (omega arith); macCount = v .macCount; netCount = v .netCount; pins = v .pins; fix = each-snoc ValidFix blankFix (s .chip .fixes) (fixOf vs) (v .fix) (fix-valid vs r); mac = v .mac; nets = all-valid q })
   sound-add word.Mac vs r p h q a =

@@ -2,31 +2,32 @@
 use Prim.{tt}
 use Prim.Native.Nat.{ℕ, suc, _≤_}
 use mathlib.Core.Path.{_≡_, refl, subst}
-use mathlib.Core.List.{List}
+use mathlib.Core.List.{List, map}
 use lib.Dec.{leb}
 use lib.ListN.{length}
 use Rattle.model.specs.Limits.{mostBytes}
+use Rattle.geometry.specs.Box.{boxOf, inDie, clearOf}
 use Rattle.text_grammar.specs.Line.{Value}
 use Rattle.text_grammar.specs.Words.{size}
-use Rattle.text_grammar.specs.Reading.{Reading, accepted, refused, readText}
+use Rattle.text_grammar.specs.Reading.{Reading, accepted, refused, readText, partRead}
 use Rattle.text_grammar.proofs.Numbers.{Numbered, in-table, OfStep, OfReading, check-numbered, text-numbered, UpTo, text-line}
 use Rattle.chip_text.specs.declared.ChipWord.{ChipWord}
 use Rattle.chip_text.specs.declared.ChipWord.the-variants as word
-use Rattle.chip_text.specs.Kind.{Part, start, fixInDie, clearOf, fixOf, pinOf, withFix, withPin, readTo, add, chipKind}
-use Rattle.chip_text.specs.Text.{chipRead, readChip}
+use Rattle.chip_text.specs.Kind.{Part, start, fixOf, pinOf, withFix, withPin, readTo, add, chipKind}
+use Rattle.chip_text.specs.Text.{readChip}
 
 adds : (s : Part) (w : ChipWord) (vs : List Value) → OfStep (add s w vs)
 unfolding OfStep
 adds s word.Die vs = tt
 adds s word.Fix vs =
-    check-numbered (fixInDie (s .chip .die) (fixOf vs)) _ (in-table 9 refl)
-    (check-numbered (clearOf (fixOf vs) (s .chip .fixes)) (readTo word.Fix (withFix (s .chip) (fixOf vs))) (in-table 10 refl) tt)
+    check-numbered (inDie (s .chip .die) (boxOf (fixOf vs))) _ (in-table 9 refl)
+    (check-numbered (clearOf 0 (boxOf (fixOf vs)) (map boxOf (s .chip .fixes))) (readTo word.Fix (withFix (s .chip) (fixOf vs))) (in-table 10 refl) tt)
 adds s word.Mac vs = tt
 adds s word.Net vs = tt
 adds s word.Pin vs = check-numbered (leb (size vs 0) (length (s .chip .macs))) (readTo word.Pin (withPin (s .chip) (pinOf vs))) (in-table 8 refl) tt
 adds s word.End vs = tt
 
-numbered : (r : Reading Part) → OfReading r → OfReading (chipRead r)
+numbered : (r : Reading Part) → OfReading r → OfReading (partRead (λ (s : Part). s .chip) r)
 unfolding OfReading
 numbered (accepted s) h = tt
 numbered (refused n l) h = h
@@ -35,7 +36,7 @@ pub chip-number : (t : List ℕ) (n l : ℕ) → readChip t ≡ refused n l → 
 unfolding readChip OfReading
 chip-number t n l e = subst OfReading e (numbered (readText chipKind start t) (text-numbered chipKind adds start t))
 
-up-to : (r : Reading Part) → UpTo (suc mostBytes) r → UpTo (suc mostBytes) (chipRead r)
+up-to : (r : Reading Part) → UpTo (suc mostBytes) r → UpTo (suc mostBytes) (partRead (λ (s : Part). s .chip) r)
 up-to (accepted s) h = tt
 up-to (refused n l) h = h
 

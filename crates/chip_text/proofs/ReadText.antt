@@ -4,26 +4,26 @@ use mathlib.Core.List.{List}
 use Prim.Native.Nat.{ℕ, _≤_, _<_}
 use lib.ListN.{length}
 use Rattle.model.specs.Meaning.{Chip}
-use Rattle.text_grammar.specs.Reading.{Reading, accepted, refused}
+use Rattle.text_grammar.specs.Reading.{Reading, accepted, refused, partRead}
 use Rattle.text_grammar.proofs.Items.{no-refusal}
 use Rattle.text_grammar.proofs.Left.{text-too-long}
 use Rattle.text_grammar.proofs.Meaning as meaning
 use Rattle.chip_text.specs.Kind.{Part, start, chipKind}
-use Rattle.chip_text.specs.Text.{chipRead, readChip, chipItems, chipText}
+use Rattle.chip_text.specs.Text.{readChip, chipItems, chipText}
 use Rattle.chip_text.proofs.Told.{words-told}
 use Rattle.chip_text.proofs.Staged.{run-items}
 
-pub chip-accepted : (r : Reading Part) (c : Chip) → chipRead r ≡ accepted c → (s : Part) × (r ≡ accepted s) × (s .chip ≡ c)
+pub chip-accepted : (r : Reading Part) (c : Chip) → partRead (λ (s : Part). s .chip) r ≡ accepted c → (s : Part) × (r ≡ accepted s) × (s .chip ≡ c)
 chip-accepted (accepted s) c e = (s, refl, cc)
 chip-accepted (refused n l) c e = no-refusal e
 
-pub chip-means : meaning.Means chipKind start chipRead chipItems
+pub chip-means : meaning.Means chipKind start (partRead (λ (s : Part). s .chip)) chipItems
 chip-means = record { told = words-told; meaning = λ s. s .chip; back = chip-accepted; run = run-items }
 
 -- a text of more than 16,384 bytes is refused
 pub too-long : (t : List ℕ) → 16384 < length t → refused 1 0 ≡ readChip t
 unfolding readChip
-too-long t h = ap chipRead (text-too-long chipKind start t h)
+too-long t h = ap (partRead (λ (s : Part). s .chip)) (text-too-long chipKind start t h)
 
 pub accepted-short : (t : List ℕ) (c : Chip) → readChip t ≡ accepted c → length t ≤ 16384
 unfolding readChip

@@ -1,7 +1,7 @@
 -- Items that are read as a chip are the chip's items: `run-items`.
 -- The items read so far are those of the chip so far. For each word that may follow (`Staged`), the parts that are written after its own are still empty (`Ready`): so the part of a line in place goes last into the chip, as its item goes last.
 use mathlib.Core.Path.{_≡_, refl, sym}
-use mathlib.Core.List.{List, [], _∷_, _++_}
+use mathlib.Core.List.{List, [], _∷_, _++_, map}
 use Prim.{tt}
 use Prim.Native.Nat.{ℕ, _<_}
 use native.Mathlib.Omega.{arith}
@@ -10,15 +10,17 @@ use lib.ListN.{length, length-append}
 use Rattle.model.specs.Meaning.{Chip}
 use Rattle.chip_text.specs.declared.ChipWord.{ChipWord}
 use Rattle.chip_text.specs.declared.ChipWord.the-variants as word
+use Rattle.geometry.specs.Box.{boxOf, inDie, clearOf}
+use Rattle.model.specs.Step.{next}
 use Rattle.text_grammar.specs.Line.{Value}
 use Rattle.text_grammar.specs.Words.{same, size}
-use Rattle.text_grammar.specs.Reading.{next, accepted}
+use Rattle.text_grammar.specs.Reading.{accepted}
 use Rattle.text_grammar.proofs.Every.{Every}
 use Rattle.text_grammar.proofs.Items.{WellFormed, runItems, check-next}
 use Rattle.text_grammar.proofs.Values.{heldOf, grows}
 use Rattle.text_grammar.proofs.Ready.{Stages, Staged, staged-next, staged-on, run-ready}
 use Rattle.chip_text.specs.Words.{chipWords}
-use Rattle.chip_text.specs.Kind.{Part, start, fixInDie, clearOf, dieOf, fixOf, macOf, netOf, pinOf, add, chipKind}
+use Rattle.chip_text.specs.Kind.{Part, start, dieOf, fixOf, macOf, netOf, pinOf, add, chipKind}
 use Rattle.chip_text.specs.Text.{Item, chipItems}
 use Rattle.chip_text.proofs.Told.{words-told}
 use Rattle.chip_text.proofs.Body.{body, nets-kept, body-end, body-pin, body-net, body-mac, body-fix, body-die}
@@ -53,8 +55,8 @@ staged-add : (s s′ : Part) (w : ChipWord) (vs : List Value) (js : List Item) �
 unfolding same
 staged-add s s′ w vs js q a (for-die e f m n) = staged-on chipKind stages a refl (fixes-on (grows chipWords word.Die vs q e (body-die (s .chip) n m (dieOf vs) f)) m n)
 staged-add s s′ w vs js q a (for-fix e m n) =
-    let d = check-next (fixInDie (s .chip .die) (fixOf vs)) 9 _ s′ a in
-    let o = check-next (clearOf (fixOf vs) (s .chip .fixes)) 10 _ s′ (d .1) in
+    let d = check-next (inDie (s .chip .die) (boxOf (fixOf vs))) 9 _ s′ a in
+    let o = check-next (clearOf 0 (boxOf (fixOf vs)) (map boxOf (s .chip .fixes))) 10 _ s′ (d .1) in
     staged-on chipKind stages (o .1) refl (fixes-on (grows chipWords word.Fix vs q e (body-fix (s .chip) n m (fixOf vs))) m n)
 staged-add s s′ w vs js q a (for-mac e n) = staged-on chipKind stages a refl (macs-on (grows chipWords word.Mac vs q e (body-mac (s .chip) n (macOf vs))) n)
 staged-add s s′ w vs js q a (for-net e) = staged-on chipKind stages a refl (pins-on (grows chipWords word.Net vs q e (body-net (s .chip) (netOf vs) refl)) (rw length-append (omega arith)))

@@ -2,7 +2,8 @@
 use mathlib.Core.Path.{_≡_, refl}
 use mathlib.Core.Bool.{true}
 use Rattle.num_text.specs.Number.{allOf}
-use Rattle.text_grammar.specs.Words.{same, known, wordIn}
+use Rattle.model.specs.Step.{next}
+use Rattle.text_grammar.specs.Words.{same, wordIn}
 use Rattle.text_grammar.proofs.FieldsText.{isMark, clean, isForm}
 use Rattle.text_grammar.proofs.Words.{Told, isTold, told-by}
 use Rattle.chip_text.specs.declared.ChipWord.{ChipWord}
@@ -18,7 +19,7 @@ fine word.Net = refl
 fine word.Pin = refl
 fine word.End = refl
 
-found : (w : ChipWord) → wordIn chipWords (chipWords .all) (spell w) ≡ known w
+found : (w : ChipWord) → wordIn chipWords (chipWords .all) (spell w) ≡ next w
 unfolding wordIn same
 found word.Die = refl
 found word.Fix = refl

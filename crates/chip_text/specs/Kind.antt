@@ -6,14 +6,14 @@ use lib.Dec.{leb, ltb}
 use lib.ListN.{length}
 use Rattle.model.specs.declared.Die.{Die}
 use Rattle.model.specs.declared.Fix.{Fix}
-use Rattle.geometry.specs.Box.{boxOf, inDie}
-use Rattle.geometry.specs.Box as box
+use Rattle.geometry.specs.Box.{boxOf, inDie, clearOf}
 use Rattle.model.specs.declared.Mac.{Mac}
 use Rattle.model.specs.Meaning.{Pin, Net, Chip}
 use Rattle.model.specs.Limits.{mostBytes, mostFixes, mostMacs, mostNets, mostPins}
+use Rattle.model.specs.Step.{Step, next, check}
 use Rattle.text_grammar.specs.Line.{Value}
 use Rattle.text_grammar.specs.Words.{isWord, value, size}
-use Rattle.text_grammar.specs.Reading.{Kind, Last, before, after, isLast, Step, next, check}
+use Rattle.text_grammar.specs.Reading.{Kind, Last, before, after, isLast}
 use Rattle.chip_text.specs.declared.ChipWord.{ChipWord}
 use Rattle.chip_text.specs.declared.ChipWord.the-variants as word
 use Rattle.chip_text.specs.Words.{chipWords}
@@ -71,14 +71,6 @@ room n c word.End = true
 abbrev pub pinned : Last ChipWord → ChipWord → Bool
 pinned last w = not (isLast chipWords last word.Net) || isWord chipWords w word.Pin
 
--- a fix lies in the die
-abbrev pub fixInDie : Die → Fix → Bool
-fixInDie d f = inDie d (boxOf f)
-
--- the fix f overlaps none of the others; fixes may touch, so no gap is asked
-abbrev pub clearOf : Fix → List Fix → Bool
-clearOf f gs = box.clearOf 0 (boxOf f) (map boxOf gs)
-
 -- the nets with the pin p put last into the last net
 unfoldable pub addPin : Pin → List Net → List Net
 addPin p [] = []
@@ -121,11 +113,11 @@ withPin c p = record { die = c .die; fixes = c .fixes; macs = c .macs; nets = ad
 abbrev pub readTo : ChipWord → Chip → Step Part
 readTo w c = next (record { last = after w; chip = c })
 
--- what a fix adds, and its last tests: fix leaves the die 9; fix overlaps an earlier fix 10
+-- what a fix adds, and its last tests: fix leaves the die 9; fix overlaps an earlier fix 10 (fixes may touch, so no gap is asked)
 abbrev pub addFix : Part → Fix → Step Part
 addFix s f =
-    check (fixInDie (s .chip .die) f) 9
-    (check (clearOf f (s .chip .fixes)) 10
+    check (inDie (s .chip .die) (boxOf f)) 9
+    (check (clearOf 0 (boxOf f) (map boxOf (s .chip .fixes))) 10
     (readTo word.Fix (withFix (s .chip) f)))
 
 -- what a line with that word and the values vs adds, and its last tests: those of a fix; no such macro 8

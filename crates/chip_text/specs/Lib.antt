@@ -3,3 +3,4 @@ pub mod Kind
 pub mod Text
 pub mod Valid
 pub mod Passed
+pub mod Faults

@@ -9,21 +9,16 @@ use Rattle.model.specs.Meaning.{Pin, Net, Chip}
 use Rattle.text_grammar.specs.Line.{number}
 use Rattle.text_grammar.specs.Words as grammar
 use Rattle.text_grammar.specs.Words.{itemsText}
-use Rattle.text_grammar.specs.Reading.{Reading, accepted, refused, readText}
+use Rattle.text_grammar.specs.Reading.{Reading, partRead, readText}
 use Rattle.text_grammar.specs.Writing.{Written, writeText}
 use Rattle.chip_text.specs.declared.ChipWord.{ChipWord}
 use Rattle.chip_text.specs.declared.ChipWord.the-variants as word
 use Rattle.chip_text.specs.Words.{chipWords}
-use Rattle.chip_text.specs.Kind.{Part, start, chipKind}
-
--- the chip that the lines of a text lead to, or their refusal
-abbrev pub chipRead : Reading Part → Reading Chip
-chipRead (accepted s) = accepted (s .chip)
-chipRead (refused n l) = refused n l
+use Rattle.chip_text.specs.Kind.{start, chipKind}
 
 -- a text is accepted as the chip that it means, or refused with number and line
 unfoldable pub readChip : List ℕ → Reading Chip
-readChip text = chipRead (readText chipKind start text)
+readChip text = partRead (λ s. s .chip) (readText chipKind start text)
 
 -- ---- the lines of a chip
 

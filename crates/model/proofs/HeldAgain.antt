@@ -12,8 +12,9 @@ use Rattle.model.specs.declared.Net.{Net as HeldNet}
 use Rattle.model.specs.declared.Pin.{Pin as HeldPin}
 use Rattle.model.specs.declared.Chip.{Chip as HeldChip}
 use Rattle.model.specs.Limits.{mostFixes, mostMacs, mostNets, mostPins}
-use Rattle.model.specs.Meaning.{Net, chipOf, firstOf, pinOf, pinsOf, taken, netsOf, blankFix, blankMac, blankNet, blankPin, pinUp}
-use Rattle.model.specs.Held.{raised, heldNet, heldPin, heldChip, Holds}
+use Rattle.model.specs.Meaning.{Net, chipOf, firstOf, pinOf, pinsOf, netsOf, blankFix, blankMac, blankNet, blankPin, pinUp}
+use Rattle.model.specs.Counted.{taken, Holds}
+use Rattle.model.specs.Held.{raised, heldNet, heldPin, heldChip}
 use Rattle.model.proofs.FirstOf.{first-take, length-first}
 use Rattle.model.proofs.Nets.{pins-append, length-pins, length-nets}
 use Rattle.model.proofs.Holding.{holds-all, filled-again}

@@ -7,7 +7,8 @@ use native.Mathlib.Omega.{arith}
 use lib.ListN.{length, getD, set, replicate, length-set, length-replicate}
 use lib.Seq.{getD-set-other}
 use Rattle.model.specs.Meaning.{firstOf}
-use Rattle.model.specs.Held.{filled, Holds}
+use Rattle.model.specs.Counted.{Holds}
+use Rattle.model.specs.Held.{filled}
 use Rattle.model.proofs.FirstOf.{length-first}
 
 module _ {A : Type 0} {blank : A} {most n : ℕ} {items : List A} (h : Holds blank most n items) where

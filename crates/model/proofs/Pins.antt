@@ -1,5 +1,5 @@
 -- A pin made of its macro and its places, in the form of the needs of its constructor.
-use mathlib.Core.Path.{_≡_, refl, sym, ap, _∙_}
+use mathlib.Core.Path.{_≡_, sym, ap, _∙_}
 use mathlib.Core.Bool.{Bool, true, false, _&&_, and-false}
 use Prim.Native.Nat.{ℕ, suc, _-_, _≤_, _<_, zero-le}
 use native.Mathlib.Decide.{decLe, decLt}
@@ -10,12 +10,13 @@ use mir.Syntax.{w64}
 use mir.Val.{SFits, toZ, ofZ}
 use mir.Facts.{toZ-ofZ}
 use borrow.Author.Tests.{le-leb, lt-leb, le-ltb, lt-ltb}
+use Rattle.model.specs.Step.{fault}
 use Rattle.model.specs.declared.PinMade.{PinMade}
 use Rattle.model.specs.declared.Place.{Place}
 use Rattle.model.specs.declared.Place.the-variants as place
 use Rattle.model.specs.Limits.{isWithin, pinPlace}
 use Rattle.model.proofs.Tests.{refused, kept}
-use Rattle.model.specs.Made.{outOfRange, meantPlace, makePlace, meantPin, makePin, remakePin}
+use Rattle.model.specs.Made.{meantPlace, makePlace, meantPin, makePin, remakePin}
 
 -- what raising a place x, read from its bits, has answered
 module _ (x : ℤ) (fx : SFits w64 x) (r : Place) (e : meantPlace r ≡ makePlace (toZ w64 (ofZ w64 x))) where
@@ -39,11 +40,11 @@ held-place v r e = e ∙ by (decLt v 4096) (decLe v 8192)
 
 module _ (m : ℕ) (x y : ℤ) where
   module _ (fx : SFits w64 x) (r : Place) (e : meantPlace r ≡ makePlace (toZ w64 (ofZ w64 x))) where
-    pub x-outside : r ≡ place.Outside → outOfRange ≡ makePin m x y
+    pub x-outside : r ≡ place.Outside → fault 4 ≡ makePin m x y
     x-outside q = rw (place-refused x fx r e q, and-false)
 
   module _ (fy : SFits w64 y) (s : Place) (e : meantPlace s ≡ makePlace (toZ w64 (ofZ w64 y))) where
-    pub y-outside : s ≡ place.Outside → outOfRange ≡ makePin m x y
+    pub y-outside : s ≡ place.Outside → fault 4 ≡ makePin m x y
     y-outside q = rw (place-refused y fy s e q, and-false)
 
     module _ (fx : SFits w64 x) (r : Place) (d : meantPlace r ≡ makePlace (toZ w64 (ofZ w64 x))) where

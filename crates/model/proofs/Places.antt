@@ -10,13 +10,14 @@ use borrow.Author.Tests.{le-leb, lt-leb, le-ltb, lt-ltb, ltb-true, ltb-false}
 use mir.Syntax.{w64}
 use mir.Val.{SFits, Fits, toZ, ofZ}
 use mir.Facts.{toZ-ofZ}
-use Rattle.model.specs.Made.{made, outOfRange, makePlace}
+use Rattle.model.specs.Step.{next, fault}
+use Rattle.model.specs.Made.{makePlace}
 
-below : (z : ℤ) → ltZ z (negsuc 4095) ≡ true → outOfRange ≡ makePlace z
+below : (z : ℤ) → ltZ z (negsuc 4095) ≡ true → fault 4 ≡ makePlace z
 below (pos n) h = absurd (true≢false (sym h))
 below (negsuc n) h = rw (lt-leb n 4095 (ltb-true 4095 n h))
 
-above : (z : ℤ) → ltZ (pos 4096) z ≡ true → outOfRange ≡ makePlace z
+above : (z : ℤ) → ltZ (pos 4096) z ≡ true → fault 4 ≡ makePlace z
 above (pos n) h = rw (lt-leb n 4096 (ltb-true 4096 n h))
 above (negsuc n) h = absurd (true≢false (sym h))
 
@@ -25,7 +26,7 @@ record Raised (z : ℤ) : Type 0 where
   up : ℕ
   sum : z +ℤ pos 4096 ≡ pos up
   small : up ≤ 8192
-  meant : made (subℕ up 4096) ≡ makePlace z
+  meant : next (subℕ up 4096) ≡ makePlace z
 
 raised : (z : ℤ) → ltZ z (negsuc 4095) ≡ false → ltZ (pos 4096) z ≡ false → Raised z
 raised (pos n) l h =
@@ -34,7 +35,7 @@ raised (pos n) l h =
       up = n + 4096;
       sum = refl;
       small = omega arith;
-      meant = rw (le-leb n 4096 k, le-ltb (n + 4096) 4096 (omega arith)) (ap (λ (t : ℕ). made (pos t)) (omega arith));
+      meant = rw (le-leb n 4096 k, le-ltb (n + 4096) 4096 (omega arith)) (ap (λ (t : ℕ). next (pos t)) (omega arith));
     }
 raised (negsuc n) l h =
     let k : n ≤ 4095 = ltb-false 4095 n l in
@@ -42,7 +43,7 @@ raised (negsuc n) l h =
       up = 4096 - suc n;
       sum = rw (le-ltb 4096 (suc n) (omega arith));
       small = omega arith;
-      meant = rw (le-leb n 4095 k, lt-ltb (4096 - suc n) 4096 (omega arith)) (ap (λ (t : ℕ). made (negsuc t)) (omega arith));
+      meant = rw (le-leb n 4095 k, lt-ltb (4096 - suc n) 4096 (omega arith)) (ap (λ (t : ℕ). next (negsuc t)) (omega arith));
     }
 
 -- x is read from its bits
@@ -50,10 +51,10 @@ module _ (x : ℤ) (f : SFits w64 x) where
   abbrev read : ℤ
   read = toZ w64 (ofZ w64 x)
 
-  pub below-outside : ltZ read (negsuc 4095) ≡ true → outOfRange ≡ makePlace x
+  pub below-outside : ltZ read (negsuc 4095) ≡ true → fault 4 ≡ makePlace x
   below-outside h = below x (rw (← toZ-ofZ f) h)
 
-  pub above-outside : ltZ (pos 4096) read ≡ true → outOfRange ≡ makePlace x
+  pub above-outside : ltZ (pos 4096) read ≡ true → fault 4 ≡ makePlace x
   above-outside h = above x (rw (← toZ-ofZ f) h)
 
   module _ (l : ltZ read (negsuc 4095) ≡ false) (h : ltZ (pos 4096) read ≡ false) where
@@ -72,5 +73,5 @@ module _ (x : ℤ) (f : SFits w64 x) where
     pub sum-size : Fits w64 (natAbs (toZ w64 (ofZ w64 (read +ℤ pos 4096))))
     sum-size = let k = at .small in rw sum-is (omega arith)
 
-    pub sum-meant : made (subℕ (natAbs (toZ w64 (ofZ w64 (read +ℤ pos 4096)))) 4096) ≡ makePlace x
+    pub sum-meant : next (subℕ (natAbs (toZ w64 (ofZ w64 (read +ℤ pos 4096)))) 4096) ≡ makePlace x
     sum-meant = rw sum-is (at .meant)

@@ -4,7 +4,7 @@ use mathlib.Core.Bool.{Bool, true, false, not, _&&_, and-false}
 use Prim.Native.Nat.{ℕ, _≤_, _<_, zero-le}
 use lib.Dec.{leb}
 use borrow.Author.Tests.{le-leb, lt-leb, not-true, not-false}
-use Rattle.model.specs.Made.{made, outOfRange, ifWithin}
+use Rattle.model.specs.Step.{next, fault, check}
 
 -- within
 pub below-least : (v least most : ℕ) → v < least → false ≡ (leb least v && leb v most)
@@ -41,17 +41,17 @@ module _ (p q : Bool) where
 
 -- all tests of a constructor
 module _ {A : Type 0} (p : Bool) (a : A) where
-  pub outside : false ≡ p → outOfRange ≡ ifWithin p a
+  pub outside : false ≡ p → fault 4 ≡ check p 4 (next a)
   outside h = rw (← h)
 
-  pub inside : true ≡ p → made a ≡ ifWithin p a
+  pub inside : true ≡ p → next a ≡ check p 4 (next a)
   inside h = rw (← h)
 
 -- what the answer of a constructor tells of its tests
-pub refused : {A : Type 0} (b : Bool) (a : A) → outOfRange ≡ ifWithin b a → b ≡ false
+pub refused : {A : Type 0} (b : Bool) (a : A) → fault 4 ≡ check b 4 (next a) → b ≡ false
 refused true a e = cc
 refused false a e = refl
 
-pub kept : {A : Type 0} (b : Bool) (a a′ : A) → made a′ ≡ ifWithin b a → (b ≡ true) × (a′ ≡ a)
+pub kept : {A : Type 0} (b : Bool) (a a′ : A) → next a′ ≡ check b 4 (next a) → (b ≡ true) × (a′ ≡ a)
 kept true a a′ e = (refl, cc)
 kept false a a′ e = (cc, cc)

@@ -1,8 +1,7 @@
 -- How the program holds a chip and a record: lists in arrays, with blank items past the last.
-use Prim.Native.Nat.{ℕ, _-_, _≤_}
-use mathlib.Core.Path.{_≡_}
+use Prim.Native.Nat.{ℕ, _-_}
 use mathlib.Core.List.{List, _++_, map, flatMap}
-use lib.ListN.{length, replicate, getD}
+use lib.ListN.{length, replicate}
 use lib.IntN.{ℤ, pos, _+ℤ_, natAbs}
 use Rattle.model.specs.declared.Net.{Net as HeldNet}
 use Rattle.model.specs.declared.Pin.{Pin as HeldPin}
@@ -44,11 +43,3 @@ heldChip c = record {
 abbrev pub heldRecord : Record → HeldRecord
 heldRecord none = record { outcome = outcome.None; spots = replicate mostMacs blankSpot }
 heldRecord (least wl ps) = record { outcome = outcome.Least wl (length ps); spots = filled mostMacs blankSpot ps }
-
--- ---- while it is read
-
--- at most `most` items, in an array of that length; the items past them are blank
-pub record Holds {A : Type 0} (blank : A) (most count : ℕ) (items : List A) : Type 0 where
-  pub few : count ≤ most
-  pub long : length items ≡ most
-  pub rest : (i : ℕ) → count ≤ i → getD items i blank ≡ blank

@@ -1,4 +1,6 @@
+pub mod Step
 pub mod Meaning
 pub mod Limits
 pub mod Made
 pub mod Held
+pub mod Counted

@@ -1,6 +1,6 @@
 -- What the constructors answer: the thing, or refusal 4 (document 01, "number outside its range") where a number is outside its range.
 use Prim.Native.Nat.{ℕ}
-use mathlib.Core.Bool.{Bool, true, false, _&&_}
+use mathlib.Core.Bool.{_&&_}
 use lib.IntN.{ℤ, pos}
 use Rattle.model.specs.declared.Die.{Die}
 use Rattle.model.specs.declared.DieMade.{DieMade}
@@ -22,88 +22,74 @@ use Rattle.model.specs.declared.PinMade.the-variants as pin
 use Rattle.model.specs.declared.Spot.{Spot}
 use Rattle.model.specs.declared.SpotMade.{SpotMade}
 use Rattle.model.specs.declared.SpotMade.the-variants as spot
+use Rattle.model.specs.Step.{Step, next, fault, check}
 use Rattle.model.specs.Meaning.{Pin, pinOf}
 use Rattle.model.specs.Limits.{isWithin, dieSide, fixCorner, fixSide, macSide, netWeight, pinMacro, pinPlace, placedCorner}
 
--- what making a thing answers: the thing, or the number of a refusal
-pub data Made (A : Type 0) : Type 0 where
-  made : A → Made A
-  refusedBy : ℕ → Made A
-
--- refusal 4: a number is outside its range
-abbrev pub outOfRange : {A : Type 0} → Made A
-outOfRange = refusedBy 4
-
--- the thing a, where its test passes
-abbrev pub ifWithin : {A : Type 0} → Bool → A → Made A
-ifWithin true a = made a
-ifWithin false a = outOfRange
-
 -- what each case of the constructor's answer means
-abbrev pub meantDie : DieMade → Made Die
-meantDie (die.Made d) = made d
-meantDie die.Outside = outOfRange
+abbrev pub meantDie : DieMade → Step Die
+meantDie (die.Made d) = next d
+meantDie die.Outside = fault 4
 
 -- a die of width w and height h
-abbrev pub makeDie : ℕ → ℕ → Made Die
-makeDie w h = ifWithin (isWithin dieSide (pos w) && isWithin dieSide (pos h)) (record { w = w; h = h })
+abbrev pub makeDie : ℕ → ℕ → Step Die
+makeDie w h = check (isWithin dieSide (pos w) && isWithin dieSide (pos h)) 4 (next (record { w = w; h = h }))
 
 -- what each case of the constructor's answer means
-abbrev pub meantFix : FixMade → Made Fix
-meantFix (fix.Made f) = made f
-meantFix fix.Outside = outOfRange
+abbrev pub meantFix : FixMade → Step Fix
+meantFix (fix.Made f) = next f
+meantFix fix.Outside = fault 4
 
 -- a fix with its corner at x,y, of width w and height h
-abbrev pub makeFix : ℕ → ℕ → ℕ → ℕ → Made Fix
+abbrev pub makeFix : ℕ → ℕ → ℕ → ℕ → Step Fix
 makeFix x y w h =
-    ifWithin (isWithin fixCorner (pos x) && isWithin fixCorner (pos y) && isWithin fixSide (pos w) && isWithin fixSide (pos h))
-    (record { x = x; y = y; w = w; h = h })
+    check (isWithin fixCorner (pos x) && isWithin fixCorner (pos y) && isWithin fixSide (pos w) && isWithin fixSide (pos h)) 4 (next (record { x = x; y = y; w = w; h = h }))
 
 -- what each case of the constructor's answer means
-abbrev pub meantMac : MacMade → Made Mac
-meantMac (mac.Made m) = made m
-meantMac mac.Outside = outOfRange
+abbrev pub meantMac : MacMade → Step Mac
+meantMac (mac.Made m) = next m
+meantMac mac.Outside = fault 4
 
 -- a macro of width w and height h
-abbrev pub makeMac : ℕ → ℕ → Made Mac
-makeMac w h = ifWithin (isWithin macSide (pos w) && isWithin macSide (pos h)) (record { w = w; h = h })
+abbrev pub makeMac : ℕ → ℕ → Step Mac
+makeMac w h = check (isWithin macSide (pos w) && isWithin macSide (pos h)) 4 (next (record { w = w; h = h }))
 
 -- what each case of the constructor's answer means
-abbrev pub meantNet : NetMade → Made Net
-meantNet (net.Made n) = made n
-meantNet net.Outside = outOfRange
+abbrev pub meantNet : NetMade → Step Net
+meantNet (net.Made n) = next n
+meantNet net.Outside = fault 4
 
 -- a net of that weight with that many pins; how many pins a net may have is tested with its chip
-abbrev pub makeNet : ℕ → ℕ → Made Net
-makeNet weight pins = ifWithin (isWithin netWeight (pos weight)) (record { weight = weight; pins = pins })
+abbrev pub makeNet : ℕ → ℕ → Step Net
+makeNet weight pins = check (isWithin netWeight (pos weight)) 4 (next (record { weight = weight; pins = pins }))
 
 -- what each case of the answer for x or y of a pin means
-abbrev pub meantPlace : Place → Made ℤ
-meantPlace (place.Up v) = made (pinOf (record { m = 0; xup = v; yup = 0 }) .x)
-meantPlace place.Outside = outOfRange
+abbrev pub meantPlace : Place → Step ℤ
+meantPlace (place.Up v) = next (pinOf (record { m = 0; xup = v; yup = 0 }) .x)
+meantPlace place.Outside = fault 4
 
 -- x or y of a pin
-abbrev pub makePlace : ℤ → Made ℤ
-makePlace z = ifWithin (isWithin pinPlace z) z
+abbrev pub makePlace : ℤ → Step ℤ
+makePlace z = check (isWithin pinPlace z) 4 (next z)
 
 -- what each case of the constructor's answer means
-abbrev pub meantPin : PinMade → Made Pin
-meantPin (pin.Made p) = made (pinOf p)
-meantPin pin.Outside = outOfRange
+abbrev pub meantPin : PinMade → Step Pin
+meantPin (pin.Made p) = next (pinOf p)
+meantPin pin.Outside = fault 4
 
 -- a pin of macro m, or a pad where m is 0, at x,y
-abbrev pub makePin : ℕ → ℤ → ℤ → Made Pin
-makePin m x y = ifWithin (isWithin pinMacro (pos m) && isWithin pinPlace x && isWithin pinPlace y) (record { m = m; x = x; y = y })
+abbrev pub makePin : ℕ → ℤ → ℤ → Step Pin
+makePin m x y = check (isWithin pinMacro (pos m) && isWithin pinPlace x && isWithin pinPlace y) 4 (next (record { m = m; x = x; y = y }))
 
 -- the same of a pin held as a value
-abbrev pub remakePin : HeldPin → Made Pin
+abbrev pub remakePin : HeldPin → Step Pin
 remakePin p = makePin (p .m) (pinOf p .x) (pinOf p .y)
 
 -- what each case of the constructor's answer means
-abbrev pub meantSpot : SpotMade → Made Spot
-meantSpot (spot.Made p) = made p
-meantSpot spot.Outside = outOfRange
+abbrev pub meantSpot : SpotMade → Step Spot
+meantSpot (spot.Made p) = next p
+meantSpot spot.Outside = fault 4
 
 -- a macro's corner at x,y in a record
-abbrev pub makeSpot : ℕ → ℕ → Made Spot
-makeSpot x y = ifWithin (isWithin placedCorner (pos x) && isWithin placedCorner (pos y)) (record { x = x; y = y })
+abbrev pub makeSpot : ℕ → ℕ → Step Spot
+makeSpot x y = check (isWithin placedCorner (pos x) && isWithin placedCorner (pos y)) 4 (next (record { x = x; y = y }))

@@ -1,6 +1,6 @@
 -- What a chip and a record mean: lists and unbounded numbers (document 01, "The chip file", "The search and its record"). A die, a fix, a macro
 -- and a spot are the records of numbers that the program declares.
-use Prim.Native.Nat.{ℕ, zero, suc, _+_}
+use Prim.Native.Nat.{ℕ, zero, suc}
 use mathlib.Core.List.{List, [], _∷_}
 use lib.ListN.{drop}
 use lib.IntN.{ℤ, subℕ}
@@ -74,11 +74,6 @@ pinOf p = record { m = p .m; x = subℕ (p .xup) pinUp; y = subℕ (p .yup) pinU
 unfoldable pub pinsOf : List HeldPin → List Pin
 pinsOf [] = []
 pinsOf (p ∷ ps) = pinOf p ∷ pinsOf ps
-
--- how many pins nets have in all
-unfoldable pub taken : List HeldNet → ℕ
-taken [] = 0
-taken (t ∷ ts) = t .pins + taken ts
 
 -- the nets that two lists mean, of nets and of pins: each net takes its pins from the front of the second list
 unfoldable pub netsOf : List HeldNet → List HeldPin → List Net

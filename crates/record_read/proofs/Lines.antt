@@ -14,22 +14,21 @@ use Rattle.model.specs.Limits.{mostMacs}
 use Rattle.model.specs.Held.{filled}
 use Rattle.model.proofs.FirstOf.{length-first}
 use Rattle.model.proofs.Holding.{holds-all, holds-none, filled-again}
-use Rattle.text_grammar.specs.Reading.{Reading, refused, isLast, stepLine, ending}
-use Rattle.text_grammar.specs.Steps.{lineEnd, lineAt}
+use Rattle.text_grammar.specs.Reading.{Reading, refused, isLast, stepLine, partRead}
+use Rattle.text_grammar.specs.Steps.{ending, lineEnd, lineAt}
 use Rattle.text_grammar.proofs.Left.{Left, text-fails, text-goes-on, text-ends}
 use Rattle.record_text.specs.declared.RecordWord.the-variants as word
 use Rattle.record_text.specs.Words.{recordWords}
 use Rattle.record_words.specs.declared.RecordLast.the-variants as last
 use Rattle.record_words.specs.Meant.{lastOf}
-use Rattle.record_text.specs.Kind.{start, recordKind}
-use Rattle.record_text.specs.Text.{recordRead, readRecord}
+use Rattle.record_text.specs.Kind.{start, recordKind, Part}
+use Rattle.record_text.specs.Text.{readRecord}
 use Rattle.record_read.specs.declared.State.{State}
 use Rattle.text_line.specs.declared.Fault.the-variants as held
 use Rattle.record_read.specs.declared.Taken.{Taken}
 use Rattle.record_read.specs.declared.RecordAnswer.the-variants as answer
 use Rattle.record_read.specs.declared.RecordRead.{RecordRead}
-use Rattle.record_read.specs.State.{Sound, partOf, TakenOk, RecordIs}
-use Rattle.record_read.specs.Answer.{refusedAt, ReadOk}
+use Rattle.record_read.specs.State.{Sound, partOf, TakenOk, RecordIs, refusedAt, ReadOk}
 
 pub refuses : (r : RecordRead) (f : Refusal) (read : Reading Record) → r ≡ refusedAt f → refused (f .no) (f .line) ≡ read → ReadOk read r
 refuses r f read e q = rw (e, ← q) (record { meant = refl; whole = refl })
@@ -47,14 +46,14 @@ module _ (text : List ℕ) (a : ℕ) (s : State) (t : Taken) (line : ℕ) (h : a
   unfolding readRecord
   line-fails f g =
       let own : f .line ≡ line = rw g at (ok .ok .at) in
-      rw own (ap recordRead (text-fails recordKind start text (partOf s) a line left (lineEnd text a) refl h (f .no) (rw g at (ok .ok .meant))))
+      rw own (ap (partRead (λ (s : Part). s .result)) (text-fails recordKind start text (partOf s) a line left (lineEnd text a) refl h (f .no) (rw g at (ok .ok .meant))))
 
   pub line-read : (z : ℕ) → z ≡ lineEnd text a → t .fault ≡ held.Clear → Left recordKind start text (partOf (t .state)) (z + 1) (line + 1)
   line-read z e g = rw e (text-goes-on recordKind start text (partOf s) a line left (lineEnd text a) refl h (partOf (t .state)) (rw g at (ok .ok .meant)))
 
 -- ---- after the last line
 
-pub all-read : (text : List ℕ) (s : State) (a line : ℕ) → Left recordKind start text (partOf s) a line → length text ≤ a → (r : RecordRead) → ReadOk (recordRead (ending recordKind (recordKind .complete (partOf s)) (partOf s) line)) r → ReadOk (readRecord text) r
+pub all-read : (text : List ℕ) (s : State) (a line : ℕ) → Left recordKind start text (partOf s) a line → length text ≤ a → (r : RecordRead) → ReadOk (partRead (λ (s : Part). s .result) (ending recordKind (partOf s) line)) r → ReadOk (readRecord text) r
 unfolding readRecord
 all-read text s a line left h r ok = rw (text-ends recordKind start text (partOf s) a line left h) ok
 
@@ -78,12 +77,12 @@ module _ (s : State) (sound : Sound s) where
       rw e (record { meant = refl; whole = ap (λ (ps : List Spot). record { outcome = outcome.None; spots = ps }) (sym blank) })
 
 module _ (s : State) (line : ℕ) (b : Bool) (own : b ≡ isLast recordWords (lastOf (s .last)) word.Done) where
-  pub complete : not b ≡ false → (r : HeldRecord) → RecordIs r (partOf s .result) → ReadOk (recordRead (ending recordKind (recordKind .complete (partOf s)) (partOf s) line)) (record { answer = answer.Accepted; «record» = r })
+  pub complete : not b ≡ false → (r : HeldRecord) → RecordIs r (partOf s .result) → ReadOk (partRead (λ (s : Part). s .result) (ending recordKind (partOf s) line)) (record { answer = answer.Accepted; «record» = r })
   complete h r q =
       record {
         meant = rw (← own, not-false b h, q .meant);
         whole = rw (← own, not-false b h) (ap (λ (d : HeldRecord). record { answer = answer.Accepted; «record» = d }) (q .whole));
       }
 
-  pub not-complete : not b ≡ true → refused 5 line ≡ recordRead (ending recordKind (recordKind .complete (partOf s)) (partOf s) line)
+  pub not-complete : not b ≡ true → refused 5 line ≡ partRead (λ (s : Part). s .result) (ending recordKind (partOf s) line)
   not-complete h = rw (← own, not-true b h)

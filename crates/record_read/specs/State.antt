@@ -8,9 +8,11 @@ use Rattle.model.specs.declared.Spot.{Spot}
 use Rattle.model.specs.declared.Record.{Record as HeldRecord}
 use Rattle.model.specs.Meaning.{Record, none, least, firstOf, blankSpot, recordOf}
 use Rattle.model.specs.Limits.{mostMacs}
-use Rattle.model.specs.Held.{heldRecord, Holds}
+use Rattle.model.specs.Counted.{Holds}
+use Rattle.model.specs.Held.{heldRecord}
+use Rattle.model.specs.Step.{Step}
 use Rattle.text_grammar.specs.Line.{Value}
-use Rattle.text_grammar.specs.Reading.{Step, isLast}
+use Rattle.text_grammar.specs.Reading.{isLast, Reading}
 use Rattle.text_line.specs.declared.Fault.the-variants as fault
 use Rattle.text_line.specs.Layout.{valuesIn}
 use Rattle.text_line.specs.Steps.{LineOk}
@@ -19,6 +21,9 @@ use Rattle.record_text.specs.declared.RecordWord.the-variants as word
 use Rattle.record_text.specs.Words.{form, recordWords}
 use Rattle.record_text.specs.Kind.{Part}
 use Rattle.record_words.specs.Meant.{lastOf}
+use Rattle.record_read.specs.declared.RecordAnswer.the-variants as answer
+use Rattle.record_read.specs.declared.RecordRead.{RecordRead}
+use Rattle.record_read.specs.Answer.{meantRecord, recordAnswer}
 use Rattle.record_read.specs.declared.State.{State}
 use Rattle.record_read.specs.declared.Taken.{Taken}
 
@@ -54,3 +59,14 @@ pub record TakenOk (t : Taken) (l : ℕ) (step : Step Part) : Type 0 where
 pub record RecordIs (r : HeldRecord) (d : Record) : Type 0 where
   pub meant : recordOf r ≡ d
   pub whole : r ≡ heldRecord d
+
+-- ---- the answer
+
+-- the refusal f, with a record that holds nothing
+abbrev pub refusedAt : Refusal → RecordRead
+refusedAt f = record { answer = answer.Refused f; «record» = heldRecord none }
+
+-- r is the answer for a text that is read so
+pub record ReadOk (read : Reading Record) (r : RecordRead) : Type 0 where
+  pub meant : meantRecord r ≡ read
+  pub whole : r ≡ recordAnswer read

@@ -14,13 +14,13 @@ ghost use Prim.Native.Nat.{_≤_, _<_};
 ghost use lib.ListN.{length, replicate};
 ghost use Rattle.model.specs.Limits.{mostBytes, mostMacs};
 ghost use Rattle.model.specs.Meaning.{blankSpot};
-ghost use Rattle.text_grammar.specs.Reading.{stepLine, ending};
-ghost use Rattle.text_grammar.specs.Steps.{Entered, ReadAs, lineEnd, lineAt};
+ghost use Rattle.text_grammar.specs.Reading.{stepLine, partRead};
+ghost use Rattle.text_grammar.specs.Steps.{ending, Entered, ReadAs, lineEnd, lineAt};
 ghost use Rattle.record_text.specs.Words.{recordWords};
-ghost use Rattle.record_text.specs.Kind.{add, recordKind};
-ghost use Rattle.record_text.specs.Text.{recordRead, readRecord};
-ghost use Rattle.record_read.specs.State.{Sound, partOf, recordValues, withFault, TakenOk, RecordIs};
-ghost use Rattle.record_read.specs.Answer.{refusedAt, meantRecord, recordAnswer, ReadOk};
+ghost use Rattle.record_text.specs.Kind.{add, recordKind, Part};
+ghost use Rattle.record_text.specs.Text.{readRecord};
+ghost use Rattle.record_read.specs.State.{Sound, partOf, recordValues, withFault, TakenOk, RecordIs, refusedAt, ReadOk};
+ghost use Rattle.record_read.specs.Answer.{meantRecord, recordAnswer};
 
 // What reading a record answers.
 pub enum RecordAnswer {
@@ -225,7 +225,7 @@ fn record_of(s: State) -> Record
 // The end of the text, where line `line` would begin: `done` must stand before it.
 fn finish(s: State, line: usize) -> RecordRead
     requires { ⌜ Sound s ⌝ }
-    ensures { λ r. ⌜ ReadOk (recordRead (ending recordKind (recordKind .complete (partOf s)) (partOf s) line)) r ⌝ }
+    ensures { λ r. ⌜ ReadOk (partRead (λ (s : Part). s .result) (ending recordKind (partOf s) line)) r ⌝ }
 {
     let last = s.last;
     if !record_words::is_last(last, RecordWord::Done) {

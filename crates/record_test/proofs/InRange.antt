@@ -9,14 +9,14 @@ use borrow.Author.Tests.{le-leb}
 use Rattle.model.specs.declared.Spot.{Spot}
 use Rattle.model.specs.Meaning.{Record, none, least, blankSpot}
 use Rattle.text_grammar.specs.Words.{same, isIn}
-use Rattle.text_grammar.specs.Reading.{accepted, after}
+use Rattle.text_grammar.specs.Reading.{accepted, after, partRead}
 use Rattle.text_grammar.proofs.FieldsText.{judged}
 use Rattle.text_grammar.proofs.Every.{Every}
 use Rattle.text_grammar.proofs.Items.{itemStep, runItems}
 use Rattle.text_grammar.proofs.Run.{run-within}
 use Rattle.record_text.specs.declared.RecordWord.the-variants as word
 use Rattle.record_text.specs.Kind.{Part, start, recordKind}
-use Rattle.record_text.specs.Text.{doneItem, atItems, recordItems, recordRead, readRecord, recordText}
+use Rattle.record_text.specs.Text.{doneItem, atItems, recordItems, readRecord, recordText}
 use Rattle.record_text.proofs.ItemsRun.{items-formed, record-run}
 use Rattle.record_text.proofs.Short.{within-short}
 use Rattle.record_test.proofs.SpotsRead.{lastOf, done-follows, spotTests, spot-step}
@@ -26,7 +26,7 @@ ended r = record { last = after word.Done; result = r }
 
 -- a record whose lines are accepted: its text is not too long
 read-as : (r : Record) → runItems recordKind start 1 (recordItems r) ≡ accepted (ended r) → readRecord (recordText r) ≡ accepted r
-read-as r e = let l = within-short r (run-within recordKind start (ended r) 1 (recordItems r) (items-formed r) e) in record-run r (omega arith) ∙ ap recordRead e
+read-as r e = let l = within-short r (run-within recordKind start (ended r) 1 (recordItems r) (items-formed r) e) in record-run r (omega arith) ∙ ap (partRead (λ (s : Part). s .result)) e
 
 pub none-accepted : readRecord (recordText none) ≡ accepted none
 unfolding recordItems runItems itemStep isIn same judged

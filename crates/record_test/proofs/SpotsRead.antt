@@ -15,17 +15,18 @@ use borrow.Author.Tests.{lt-ltb, le-ltb, le-leb, lt-leb, eq-eqb}
 use Rattle.model.specs.declared.Spot.{Spot}
 use Rattle.model.specs.Meaning.{Record, least, firstOf, blankSpot}
 use Rattle.model.proofs.FirstOf.{first-take}
-use Rattle.text_grammar.specs.Line.{got, ranged, valued}
+use Rattle.model.specs.Step.{Step, next, fault, check, onNext}
+use Rattle.text_grammar.specs.Line.{number}
 use Rattle.text_grammar.specs.Words.{same, isIn}
-use Rattle.text_grammar.specs.Reading.{Step, next, fault, Reading, accepted, refused, Last, after, stepFields, onward}
-use Rattle.text_grammar.proofs.FieldsText.{judged}
+use Rattle.text_grammar.specs.Reading.{Reading, accepted, refused, Last, after, onward, partRead}
+use Rattle.text_grammar.proofs.FieldsText.{valued, judged}
 use Rattle.text_grammar.proofs.Items.{itemStep, runItems}
 use Rattle.text_grammar.specs.Steps.{need}
 use Rattle.record_text.specs.declared.RecordWord.{RecordWord}
 use Rattle.record_text.specs.declared.RecordWord.the-variants as word
 use Rattle.record_text.specs.Words.{recordWords}
 use Rattle.record_text.specs.Kind.{Part, followers, recordKind}
-use Rattle.record_text.specs.Text.{doneItem, atItem, atItems, recordItems, recordRead}
+use Rattle.record_text.specs.Text.{doneItem, atItem, atItems, recordItems}
 use Rattle.record_text.proofs.ItemsRun.{lines-run}
 use Rattle.record_test.specs.Parts.{inCorners, spotFault, linesRead}
 
@@ -70,7 +71,7 @@ module _ (wl i : ℕ) (ps : List Spot) (p : Spot) (l : length ps ≡ i) where
       rw (at-follows i, l, lt-ltb i 8 h, le-leb 1 (suc i) (omega arith), le-leb 0 (p .x) (omega arith), le-leb 0 (p .y) (omega arith))
       (by (leb (p .x) 1024) (leb (p .y) 1024))
     where
-      by : (x y : Bool) → stepFields recordKind before word.At (valued (ranged true (pos (suc i))) (valued (ranged x (pos (p .x))) (valued (ranged y (pos (p .y))) (got [])))) ≡ stepBy (need (x && y) 4 0) next-part
+      by : (x y : Bool) → onNext (valued (check true 4 (next (number (pos (suc i))))) (valued (check x 4 (next (number (pos (p .x))))) (valued (check y 4 (next (number (pos (p .y))))) (next [])))) (recordKind .add before word.At) ≡ stepBy (need (x && y) 4 0) next-part
       by true true = rw (l, eq-eqb (suc i) (suc i) refl)
       by true false = refl
       by false y = refl
@@ -82,7 +83,7 @@ module _ (wl i : ℕ) (ps : List Spot) (p : Spot) (l : length ps ≡ i) where
 module _ (wl : ℕ) (s : List Spot) where
   -- the lines from macro i + 1 on, where n macros are left and those before it have passed
   unfoldable pub readFrom : ℕ → ℕ → Reading Record
-  readFrom i n = recordRead (runItems recordKind (record { last = lastOf i; result = least wl (take i s) }) (suc (suc i)) (atItems (suc i) (firstOf blankSpot n (drop i s)) ++ (doneItem ∷ [])))
+  readFrom i n = partRead (λ (s : Part). s .result) (runItems recordKind (record { last = lastOf i; result = least wl (take i s) }) (suc (suc i)) (atItems (suc i) (firstOf blankSpot n (drop i s)) ++ (doneItem ∷ [])))
 
   read-end : (i : ℕ) → readFrom i 0 ≡ accepted (least wl (take i s))
   unfolding readFrom atItems firstOf runItems itemStep same judged
@@ -99,7 +100,7 @@ module _ (wl : ℕ) (s : List Spot) where
         held : length (take i s) ≡ i
         held = length-take-le i s (omega arith)
 
-        found : (a line : ℕ) (t : Part) (more : Part → Reading Part) → recordRead (onward recordKind (stepBy a t) line more) ≡ foundBy a line (recordRead (more t))
+        found : (a line : ℕ) (t : Part) (more : Part → Reading Part) → partRead (λ (s : Part). s .result) (onward (stepBy a t) line more) ≡ foundBy a line (partRead (λ (s : Part). s .result) (more t))
         found zero line t more = refl
         found (suc a) line t more = refl
 

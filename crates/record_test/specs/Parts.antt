@@ -9,10 +9,10 @@ use Rattle.model.specs.declared.Spot.{Spot}
 use Rattle.model.specs.Meaning.{Record, blankSpot}
 use Rattle.model.specs.Limits.{isWithin, placedCorner, mostMacs}
 use Rattle.text_grammar.specs.Line.{lines}
-use Rattle.text_grammar.specs.Reading.{Reading, readLines}
+use Rattle.text_grammar.specs.Reading.{Reading, readLines, partRead}
 use Rattle.text_grammar.specs.Steps.{need}
-use Rattle.record_text.specs.Kind.{start, recordKind}
-use Rattle.record_text.specs.Text.{recordRead, recordText}
+use Rattle.record_text.specs.Kind.{start, recordKind, Part}
+use Rattle.record_text.specs.Text.{recordText}
 
 -- x and y are in their range
 abbrev pub inCorners : Spot → Bool
@@ -26,4 +26,4 @@ spotFault s i =
 
 -- what the lines of a record's text are read as, whatever its length
 unfoldable pub linesRead : Record → Reading Record
-linesRead r = recordRead (readLines recordKind start 1 (lines (recordText r)))
+linesRead r = partRead (λ (s : Part). s .result) (readLines recordKind start 1 (lines (recordText r)))

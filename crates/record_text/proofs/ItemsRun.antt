@@ -6,13 +6,13 @@ use Prim.Native.Nat.{ℕ, suc, _≤_}
 use lib.ListN.{length}
 use Rattle.model.specs.declared.Spot.{Spot}
 use Rattle.model.specs.Meaning.{Record, none, least}
-use Rattle.text_grammar.specs.Reading.{readLines}
+use Rattle.text_grammar.specs.Reading.{readLines, partRead}
 use Rattle.text_grammar.specs.Line.{lines}
 use Rattle.text_grammar.proofs.FieldsText.{suits, shaped}
 use Rattle.text_grammar.proofs.Items.{WellFormed, runItems, read-items, read-text-short}
-use Rattle.record_text.specs.Kind.{start, recordKind}
+use Rattle.record_text.specs.Kind.{start, recordKind, Part}
 use Rattle.record_text.proofs.Told.{words-told}
-use Rattle.record_text.specs.Text.{doneItem, atItems, recordItems, recordRead, readRecord, recordText}
+use Rattle.record_text.specs.Text.{doneItem, atItems, recordItems, readRecord, recordText}
 
 spots-formed : (m : ℕ) (ps : List Spot) → WellFormed recordKind (atItems m ps ++ (doneItem ∷ []))
 unfolding atItems suits shaped
@@ -29,6 +29,6 @@ module _ (r : Record) where
   unfolding recordText
   lines-run = read-items recordKind words-told start 1 (recordItems r) (items-formed r)
 
-  pub record-run : length (recordText r) ≤ 16384 → readRecord (recordText r) ≡ recordRead (runItems recordKind start 1 (recordItems r))
+  pub record-run : length (recordText r) ≤ 16384 → readRecord (recordText r) ≡ partRead (λ (s : Part). s .result) (runItems recordKind start 1 (recordItems r))
   unfolding readRecord
-  record-run h = ap recordRead (read-text-short recordKind start (recordText r) h ∙ lines-run)
+  record-run h = ap (partRead (λ (s : Part). s .result)) (read-text-short recordKind start (recordText r) h ∙ lines-run)

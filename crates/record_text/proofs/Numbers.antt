@@ -7,12 +7,12 @@ use lib.Dec.{eqb}
 use lib.ListN.{length}
 use Rattle.text_grammar.specs.Line.{Value}
 use Rattle.text_grammar.specs.Words.{size}
-use Rattle.text_grammar.specs.Reading.{Reading, accepted, refused, readText}
+use Rattle.text_grammar.specs.Reading.{Reading, accepted, refused, readText, partRead}
 use Rattle.text_grammar.proofs.Numbers.{Numbered, in-table, OfStep, OfReading, check-numbered, text-numbered}
 use Rattle.record_text.specs.declared.RecordWord.{RecordWord}
 use Rattle.record_text.specs.declared.RecordWord.the-variants as word
 use Rattle.record_text.specs.Kind.{Part, start, spotsOf, spotOf, withSpot, readTo, add, recordKind}
-use Rattle.record_text.specs.Text.{recordRead, readRecord}
+use Rattle.record_text.specs.Text.{readRecord}
 
 adds : (s : Part) (w : RecordWord) (vs : List Value) → OfStep (add s w vs)
 unfolding OfStep
@@ -21,7 +21,7 @@ adds s word.None vs = tt
 adds s word.At vs = check-numbered (eqb (size vs 0) (suc (length (spotsOf (s .result))))) (readTo word.At (withSpot (s .result) (spotOf vs))) (in-table 8 refl) tt
 adds s word.Done vs = tt
 
-numbered : (r : Reading Part) → OfReading r → OfReading (recordRead r)
+numbered : (r : Reading Part) → OfReading r → OfReading (partRead (λ (s : Part). s .result) r)
 unfolding OfReading
 numbered (accepted s) h = tt
 numbered (refused n l) h = h

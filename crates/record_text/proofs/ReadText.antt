@@ -4,26 +4,26 @@ use mathlib.Core.List.{List}
 use Prim.Native.Nat.{ℕ, _≤_, _<_}
 use lib.ListN.{length}
 use Rattle.model.specs.Meaning.{Record}
-use Rattle.text_grammar.specs.Reading.{Reading, accepted, refused}
+use Rattle.text_grammar.specs.Reading.{Reading, accepted, refused, partRead}
 use Rattle.text_grammar.proofs.Items.{no-refusal}
 use Rattle.text_grammar.proofs.Left.{text-too-long}
 use Rattle.text_grammar.proofs.Meaning as meaning
 use Rattle.record_text.specs.Kind.{Part, start, recordKind}
-use Rattle.record_text.specs.Text.{recordRead, readRecord, recordItems, recordText}
+use Rattle.record_text.specs.Text.{readRecord, recordItems, recordText}
 use Rattle.record_text.proofs.Told.{words-told}
 use Rattle.record_text.proofs.Staged.{run-items}
 
-record-accepted : (x : Reading Part) (r : Record) → recordRead x ≡ accepted r → (s : Part) × (x ≡ accepted s) × (s .result ≡ r)
+record-accepted : (x : Reading Part) (r : Record) → partRead (λ (s : Part). s .result) x ≡ accepted r → (s : Part) × (x ≡ accepted s) × (s .result ≡ r)
 record-accepted (accepted s) r e = (s, refl, cc)
 record-accepted (refused n l) r e = no-refusal e
 
-pub record-means : meaning.Means recordKind start recordRead recordItems
+pub record-means : meaning.Means recordKind start (partRead (λ (s : Part). s .result)) recordItems
 record-means = record { told = words-told; meaning = λ s. s .result; back = record-accepted; run = run-items }
 
 -- a text of more than 16,384 bytes is refused
 pub too-long : (t : List ℕ) → 16384 < length t → refused 1 0 ≡ readRecord t
 unfolding readRecord
-too-long t h = ap recordRead (text-too-long recordKind start t h)
+too-long t h = ap (partRead (λ (s : Part). s .result)) (text-too-long recordKind start t h)
 
 pub accepted-short : (t : List ℕ) (r : Record) → readRecord t ≡ accepted r → length t ≤ 16384
 unfolding readRecord

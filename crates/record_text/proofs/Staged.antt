@@ -11,9 +11,10 @@ use Rattle.model.specs.declared.Spot.{Spot}
 use Rattle.model.specs.Meaning.{Record, least}
 use Rattle.record_text.specs.declared.RecordWord.{RecordWord}
 use Rattle.record_text.specs.declared.RecordWord.the-variants as word
+use Rattle.model.specs.Step.{next}
 use Rattle.text_grammar.specs.Line.{Value}
 use Rattle.text_grammar.specs.Words.{same, size}
-use Rattle.text_grammar.specs.Reading.{next, accepted}
+use Rattle.text_grammar.specs.Reading.{accepted}
 use Rattle.text_grammar.proofs.Every.{Every}
 use Rattle.text_grammar.proofs.Items.{WellFormed, runItems, check-next}
 use Rattle.text_grammar.proofs.Values.{heldOf, grows}

@@ -9,9 +9,10 @@ use Rattle.record_text.specs.declared.RecordWord.{RecordWord}
 use Rattle.record_text.specs.declared.RecordWord.the-variants as word
 use Rattle.model.specs.Meaning.{Record, none, least}
 use Rattle.model.specs.Limits.{mostMacs, mostBytes}
+use Rattle.model.specs.Step.{Step, next, check}
 use Rattle.text_grammar.specs.Line.{Value}
 use Rattle.text_grammar.specs.Words.{size}
-use Rattle.text_grammar.specs.Reading.{Kind, Last, before, after, isLast, Step, next, check}
+use Rattle.text_grammar.specs.Reading.{Kind, Last, before, after, isLast}
 use Rattle.record_text.specs.Words.{recordWords}
 
 -- what has been read: the word of the last line, and the record so far

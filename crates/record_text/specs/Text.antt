@@ -9,19 +9,14 @@ use Rattle.model.specs.Meaning.{Record, none, least}
 use Rattle.text_grammar.specs.Line.{number}
 use Rattle.text_grammar.specs.Words as grammar
 use Rattle.text_grammar.specs.Words.{itemsText}
-use Rattle.text_grammar.specs.Reading.{Reading, accepted, refused, readText}
+use Rattle.text_grammar.specs.Reading.{Reading, partRead, readText}
 use Rattle.text_grammar.specs.Writing.{Written, writeText}
 use Rattle.record_text.specs.Words.{recordWords}
-use Rattle.record_text.specs.Kind.{Part, start, recordKind}
-
--- the record that the lines of a text lead to, or their refusal
-abbrev pub recordRead : Reading Part → Reading Record
-recordRead (accepted s) = accepted (s .result)
-recordRead (refused n l) = refused n l
+use Rattle.record_text.specs.Kind.{start, recordKind}
 
 -- a text is accepted as the record that it means, or refused with number and line
 unfoldable pub readRecord : List ℕ → Reading Record
-readRecord text = recordRead (readText recordKind start text)
+readRecord text = partRead (λ s. s .result) (readText recordKind start text)
 
 -- ---- the lines of a record
 

@@ -3,8 +3,9 @@ use mathlib.Core.Path.{_≡_, refl, subst}
 use mathlib.Core.Bool.{Bool, true, false}
 use Prim.Native.Nat.{ℕ, zero, suc}
 use native.Mathlib.Omega.{arith}
-use Rattle.text_grammar.specs.Reading.{Kind, Step, fault, check, inPlace, stepWord}
-use Rattle.text_grammar.specs.Steps.{need, entryFault, Entered}
+use Rattle.text_grammar.specs.Reading.{Kind}
+use Rattle.model.specs.Step.{Step, fault, check}
+use Rattle.text_grammar.specs.Steps.{need, inPlace, onEntry, entryFault, Entered}
 
 passes : (b : Bool) (n m : ℕ) → need b (suc n) m ≡ 0 → (b ≡ true) × (m ≡ 0)
 passes true n m e = (refl, e)
@@ -16,11 +17,15 @@ foundOr zero more = more
 foundOr (suc n) more = fault (suc n)
 
 module _ {S : Type 0} where
+  pub found-none : (n : ℕ) (more : Step S) → n ≡ 0 → more ≡ foundOr n more
+  found-none zero more h = refl
+  found-none (suc n) more h = absurd (omega arith)
+
   pub found-fault : (n : ℕ) (more : Step S) → (n ≡ 0 → ⊥) → fault n ≡ foundOr n more
   found-fault zero more h = absurd (h refl)
   found-fault (suc n) more h = refl
 
-  found-check : (b : Bool) (n m : ℕ) (k more : Step S) → k ≡ foundOr m more → check b (suc n) k ≡ foundOr (need b (suc n) m) more
+  pub found-check : (b : Bool) (n m : ℕ) (k more : Step S) → k ≡ foundOr m more → check b (suc n) k ≡ foundOr (need b (suc n) m) more
   found-check true n m k more e = e
   found-check false n m k more e = refl
 
@@ -61,7 +66,7 @@ module _ {W S : Type 0} (k : Kind W S) (s : S) (w : W) where
 
   -- ---- the step of a line
 
-  pub step-word : (more : Step S) → stepWord k s w more ≡ foundOr (entryFault k s w) more
+  pub step-word : (more : Step S) → onEntry k s w more ≡ foundOr (entryFault k s w) more
   unfolding entryFault
   step-word more =
       found-check (inPlace k s w) 4 _ _ more

@@ -2,7 +2,7 @@
 -- Reading a line tests word, place, count and pins, then its fields. The line of an item passes the tests of word and form, so that only the tests of
 -- its values are left of reading its fields: `itemStep`. Back, each accepted line has its LF, a known word and fields that are read: its bytes are the
 -- text of that word and those values.
-use mathlib.Core.Path.{_≡_, refl, sym, ap, ap₂, _∙_, fun-ext}
+use mathlib.Core.Path.{_≡_, refl, sym, ap, ap₂, subst, _∙_, fun-ext}
 use mathlib.Core.Bool.{Bool, true, false}
 use mathlib.Core.List.{List, [], _∷_, _++_, append-assoc}
 use Prim.{tt}
@@ -12,12 +12,14 @@ use lib.Dec.{leb}
 use lib.ListN.{length}
 use lib.Seq.{append-snoc}
 use borrow.Author.Tests.{le-leb, leb-true}
-use Rattle.text_grammar.specs.Line.{comma, lineFeed, Line, lines, upTo, from, Value, Fields, got, faulty, fields, fieldsText}
-use Rattle.text_grammar.specs.Words.{Words, Found, known, unknown, wordIn, Item, itemText, itemsText}
-use Rattle.text_grammar.specs.Reading.{Step, next, fault, check, Reading, accepted, refused, Kind, inPlace, stepFields, stepWord, stepFound, stepBytes, stepLine, ending, onward, readLines, sized, readText}
+use Rattle.model.specs.Step.{Step, next, fault, check, onNext}
+use Rattle.text_grammar.specs.Line.{comma, lineFeed, Line, lines, upTo, from, Value, fields, fieldsText}
+use Rattle.text_grammar.specs.Words.{Words, wordIn, Item, itemText, itemsText}
+use Rattle.text_grammar.specs.Reading.{Reading, accepted, refused, onward, Kind, stepWord, stepBytes, stepLine, readLines, readText}
+use Rattle.text_grammar.specs.Steps.{inPlace, ending, onEntry}
 use Rattle.text_grammar.proofs.Lacks.{lacks, all-append}
 use Rattle.text_grammar.proofs.Cut.{up-to-from, up-to-clean, from-clean, feed, unlines, unlines-lines, lines-ended}
-use Rattle.text_grammar.proofs.FieldsText.{shaped, judged, fields-stop, fields-lack, fields-read, fields-written}
+use Rattle.text_grammar.proofs.FieldsText.{no-fault, shaped, judged, fields-stop, fields-lack, fields-read, fields-written}
 use Rattle.text_grammar.proofs.Words.{Told, word-spelled}
 use Rattle.text_grammar.proofs.Every.{Every}
 
@@ -28,7 +30,7 @@ module _ {W : Type 0} (d : Words W) where
 
   -- an item whose values pass their tests
   abbrev pub Within : Item W → Type 0
-  Within i = judged (d .form (i .word)) (i .values) ≡ got (i .values)
+  Within i = judged (d .form (i .word)) (i .values) ≡ next (i .values)
 
   -- what an item's line says before its LF
   abbrev lineBytes : Item W → List ℕ
@@ -52,11 +54,11 @@ module _ {W S : Type 0} (k : Kind W S) where
   WellFormed is = Every (Formed (k .words)) is
 
   unfoldable pub itemStep : S → Item W → Step S
-  itemStep s i = stepWord k s (i .word) (stepFields k s (i .word) (judged (k .words .form (i .word)) (i .values)))
+  itemStep s i = onEntry k s (i .word) (onNext (judged (k .words .form (i .word)) (i .values)) (k .add s (i .word)))
 
   unfoldable pub runItems : S → ℕ → List (Item W) → Reading S
-  runItems s n [] = ending k (k .complete s) s n
-  runItems s n (i ∷ is) = onward k (itemStep s i) n (λ t. runItems t (suc n) is)
+  runItems s n [] = ending k s n
+  runItems s n (i ∷ is) = onward (itemStep s i) n (λ t. runItems t (suc n) is)
 
   module _ (told : Told (k .words)) where
     step-item : (s : S) (i : Item W) → Formed (k .words) i → stepBytes k s (lineBytes (k .words) i) ≡ itemStep s i
@@ -73,12 +75,9 @@ module _ {W S : Type 0} (k : Kind W S) where
     read-items s n [] f = refl
     read-items s n (i ∷ is) f =
         rw (item-lines (k .words) told i (itemsText (k .words) is) (f .0), step-item s i (f .0))
-        (ap (onward k (itemStep s i) n) (fun-ext (λ t. read-items t (suc n) is (f .1))))
+        (ap (onward (itemStep s i) n) (fun-ext (λ t. read-items t (suc n) is (f .1))))
 
 module _ {S : Type 0} where
-  pub no-fault : {A : Type 0} {n : ℕ} {t : S} → fault n ≡ next t → A
-  no-fault e = absurd (let q : _≡_ {A = ℕ} 0 1 = cc in omega arith)
-
   pub no-refusal : {A : Type 0} {n l : ℕ} {t : S} → refused n l ≡ accepted t → A
   no-refusal e = absurd (let q : _≡_ {A = ℕ} 0 1 = cc in omega arith)
 
@@ -86,17 +85,17 @@ module _ {S : Type 0} where
   check-next true n x t e = (refl, e)
   check-next false n x t e = no-fault e
 
-module _ {W S : Type 0} (k : Kind W S) where
-  fields-next : (s : S) (w : W) (f : Fields) (t : S) → stepFields k s w f ≡ next t → (vs : List Value) × (f ≡ got vs)
-  fields-next s w (got vs) t e = (vs, refl)
-  fields-next s w (faulty n) t e = no-fault e
-
-  pub onward-accepted : (x : Step S) (n : ℕ) (more : S → Reading S) (t : S) → onward k x n more ≡ accepted t → (m : S) × (x ≡ next m) × (more m ≡ accepted t)
+  pub onward-accepted : (x : Step S) (n : ℕ) (more : S → Reading S) (t : S) → onward x n more ≡ accepted t → (m : S) × (x ≡ next m) × (more m ≡ accepted t)
   onward-accepted (next m) n more t e = (m, refl, e)
   onward-accepted (fault f) n more t e = no-refusal e
 
+module _ {W S : Type 0} (k : Kind W S) where
+  fields-next : (s : S) (w : W) (f : Step (List Value)) (t : S) → onNext f (k .add s w) ≡ next t → (vs : List Value) × (f ≡ next vs)
+  fields-next s w (next vs) t e = (vs, refl)
+  fields-next s w (fault n) t e = no-fault e
+
   -- a word that passes the tests before the fields
-  pub word-next : (s : S) (w : W) (x : Step S) (t : S) → stepWord k s w x ≡ next t → (inPlace k s w ≡ true) × (x ≡ next t)
+  pub word-next : (s : S) (w : W) (x : Step S) (t : S) → onEntry k s w x ≡ next t → (inPlace k s w ≡ true) × (x ≡ next t)
   word-next s w x t e =
       let d = check-next (inPlace k s w) 5 _ t e in
       let g = check-next (k .hasRoom s w) 6 _ t (d .1) in
@@ -111,15 +110,15 @@ module _ {W S : Type 0} (k : Kind W S) where
       formed : Formed (k .words) item
       within : Within (k .words) item
 
-    word-item : (s t : S) (b : List ℕ) (x : Found W) → wordIn (k .words) (k .words .all) (upTo comma b) ≡ x → stepFound k s x (from comma b) ≡ next t → ItemOf s t b
+    word-item : (s t : S) (b : List ℕ) (x : Step W) → wordIn (k .words) (k .words .all) (upTo comma b) ≡ x → onNext x (λ w. stepWord k s w (from comma b)) ≡ next t → ItemOf s t b
     unfolding itemStep
-    word-item s t b (known w) q e =
-        let c = word-next s w (stepFields k s w (fields (k .words .form w) (from comma b))) t e in
+    word-item s t b (next w) q e =
+        let c = word-next s w (onNext (fields (k .words .form w) (from comma b)) (k .add s w)) t e in
         let f = fields-next s w (fields (k .words .form w) (from comma b)) t (c .1) in
         let g = fields-written (k .words .form w) (from comma b) (f .0) (told .formed w) (f .1) in
         let p : upTo comma b ≡ k .words .spell w = word-spelled (k .words) (k .words .all) (upTo comma b) w q in
-        record { item = record { word = w; values = f .0 }; text = sym (up-to-from comma b) ∙ cc (p, g .text); step = rw (g .passes, ← f .1) e; formed = g .shape; within = g .passes }
-    word-item s t b unknown q e = no-fault e
+        record { item = record { word = w; values = f .0 }; text = sym (up-to-from comma b) ∙ cc (p, g .text); step = rw (g .passes) (subst (λ (x : Step (List Value)). onEntry k s w (onNext x (k .add s w)) ≡ next t) (f .1) e); formed = g .shape; within = g .passes }
+    word-item s t b (fault n) q e = no-fault e
 
     line-item : (s t : S) (b : List ℕ) → stepBytes k s b ≡ next t → ItemOf s t b
     unfolding stepBytes
@@ -146,10 +145,6 @@ module _ {W S : Type 0} (k : Kind W S) where
     pub items-read : (s s′ : S) (n : ℕ) (t : List ℕ) → readLines k s n (lines t) ≡ accepted s′ → ItemsOf s s′ n t
     items-read s s′ n t e = rw unlines-lines at (lines-items s s′ n (lines t) e)
 
-  sized-accepted : (b : Bool) (r : Reading S) (s : S) → sized k b r ≡ accepted s → b ≡ true
-  sized-accepted true r s e = refl
-  sized-accepted false r s e = no-refusal e
-
   module _ (start : S) (t : List ℕ) where
     pub read-text-short : length t ≤ k .mostBytes → readText k start t ≡ readLines k start 1 (lines t)
     unfolding readText
@@ -158,7 +153,9 @@ module _ {W S : Type 0} (k : Kind W S) where
     module _ (s′ : S) (e : readText k start t ≡ accepted s′) where
       pub read-text-length : length t ≤ k .mostBytes
       unfolding readText
-      read-text-length = leb-true (length t) (k .mostBytes) (sized-accepted (leb (length t) (k .mostBytes)) (readLines k start 1 (lines t)) s′ e)
+      read-text-length =
+          let o = onward-accepted (check (leb (length t) (k .mostBytes)) 1 (next start)) 0 (λ s. readLines k s 1 (lines t)) s′ e in
+          leb-true (length t) (k .mostBytes) (check-next (leb (length t) (k .mostBytes)) 1 (next start) (o .0) (o .1) .0)
 
       pub read-text-lines : readLines k start 1 (lines t) ≡ accepted s′
       read-text-lines = sym (read-text-short read-text-length) ∙ e

@@ -5,9 +5,10 @@ use Prim.Native.Nat.{ℕ, suc, _+_, _≤_, _<_}
 use native.Mathlib.Numerals.{add-one}
 use lib.ListN.{length, drop, drop-of-length-le}
 use borrow.Author.Tests.{le-leb, lt-leb}
+use Rattle.model.specs.Step.{Step, next, fault}
 use Rattle.text_grammar.specs.Line.{lines}
-use Rattle.text_grammar.specs.Reading.{Kind, Step, next, fault, refused, stepLine, readLines, onward, ending, readText}
-use Rattle.text_grammar.specs.Steps.{lineEnd, lineAt}
+use Rattle.text_grammar.specs.Reading.{Kind, refused, onward, stepLine, readLines, readText}
+use Rattle.text_grammar.specs.Steps.{ending, lineEnd, lineAt}
 use Rattle.text_grammar.proofs.LineAt.{lines-from}
 
 module _ {W S : Type 0} (k : Kind W S) (start : S) (text : List ℕ) where
@@ -29,7 +30,7 @@ module _ {W S : Type 0} (k : Kind W S) (start : S) (text : List ℕ) where
     -- ---- a line
 
     module _ (z : ℕ) (end : z ≡ lineEnd text a) (h : a < length text) where
-      rest-lines : (t : Step S) → t ≡ stepLine k s (lineAt text a z) → readText k start text ≡ onward k t line (λ p. readLines k p (suc line) (lines (drop (suc z) text)))
+      rest-lines : (t : Step S) → t ≡ stepLine k s (lineAt text a z) → readText k start text ≡ onward t line (λ p. readLines k p (suc line) (lines (drop (suc z) text)))
       unfolding readLines
       rest-lines t e = left .rest ∙ rw (lines-from text a z end h, e)
 
@@ -41,6 +42,6 @@ module _ {W S : Type 0} (k : Kind W S) (start : S) (text : List ℕ) where
 
     -- ---- after the last line
 
-    pub text-ends : length text ≤ a → readText k start text ≡ ending k (k .complete s) s line
+    pub text-ends : length text ≤ a → readText k start text ≡ ending k s line
     unfolding readLines lines
     text-ends h = left .rest ∙ rw (drop-of-length-le text {i = a} h)

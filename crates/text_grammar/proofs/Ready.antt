@@ -4,9 +4,10 @@ use mathlib.Core.Path.{_≡_}
 use mathlib.Core.Bool.{true, false}
 use mathlib.Core.List.{List, [], _∷_, _++_}
 use Prim.Native.Nat.{ℕ}
+use Rattle.model.specs.Step.{next}
 use Rattle.text_grammar.specs.Line.{Value}
 use Rattle.text_grammar.specs.Words.{Item}
-use Rattle.text_grammar.specs.Reading.{Kind, next, accepted}
+use Rattle.text_grammar.specs.Reading.{Kind, accepted}
 use Rattle.text_grammar.proofs.Every.{Every}
 use Rattle.text_grammar.proofs.Words.{Told, every-in}
 use Rattle.text_grammar.proofs.Items.{Formed, WellFormed, runItems}

@@ -9,10 +9,11 @@ use lib.IntN.{ℤ, pos, negsuc, natAbs}
 use lib.ListN.{getD}
 use lib.Signed.{leZ}
 use Rattle.model.specs.Limits.{isWithin}
-use Rattle.text_grammar.specs.Line.{Sort, numbers, strings, Value, number, string, absent, value, isString, tested, ranged, Form, over, one, either, got, andThen, valued, ifAbsent}
+use Rattle.model.specs.Step.{next, check}
+use Rattle.text_grammar.specs.Line.{Sort, numbers, strings, Value, number, string, absent, isString, Form, over, one, either, andThen, ifAbsent}
 use Rattle.text_grammar.specs.Words.{Words, Item, numberIn}
 use Rattle.text_grammar.proofs.Lacks.{and-left, and-right}
-use Rattle.text_grammar.proofs.FieldsText.{suits, judge, shaped, judged, valued-got, and-then-got, no-value, Choice, left-out, taken, choose, suits-here}
+use Rattle.text_grammar.proofs.FieldsText.{suits, judge, shaped, judged, valued, valued-got, and-then-got, no-fault, Choice, left-out, taken, choose, suits-here}
 
 abbrev whole : Bool → ℤ → ℤ
 whole true z = pos (natAbs z)
@@ -35,18 +36,18 @@ whole-same true (pos m) (negsuc n) h g = cc
 whole-same true (negsuc m) (negsuc n) h g = cc
 whole-same false l z h g = refl
 
-kept-same : (o : Sort) (v w : Value) → suits o v ≡ true → judge o v ≡ value w → kept o v ≡ v
+kept-same : (o : Sort) (v w : Value) → suits o v ≡ true → judge o v ≡ next w → kept o v ≡ v
 unfolding suits
 kept-same (numbers r) (number z) w h e = by (isWithin r z) refl e
   where
-    by : (t : Bool) → isWithin r z ≡ t → ranged t z ≡ value w → number (whole (leZ (pos 0) (r .least)) z) ≡ number z
+    by : (t : Bool) → isWithin r z ≡ t → check t 4 (next (number z)) ≡ next w → number (whole (leZ (pos 0) (r .least)) z) ≡ number z
     by true q g = ap number (whole-same (leZ (pos 0) (r .least)) (r .least) z refl (and-left (leZ (r .least) z) (leZ z (r .most)) q))
-    by false q g = no-value g
-kept-same (numbers r) (string s) w h e = no-value e
-kept-same (numbers r) absent w h e = no-value e
+    by false q g = no-fault g
+kept-same (numbers r) (string s) w h e = no-fault e
+kept-same (numbers r) absent w h e = no-fault e
 kept-same (strings set lo hi) v w h e = refl
 
-pub held-same : (f : Form) (vs us : List Value) → shaped f vs ≡ true → judged f vs ≡ got us → held f (λ i. getD vs i absent) ≡ vs
+pub held-same : (f : Form) (vs us : List Value) → shaped f vs ≡ true → judged f vs ≡ next us → held f (λ i. getD vs i absent) ≡ vs
 unfolding judged shaped
 held-same over [] us h e = refl
 held-same over (v ∷ vs) us h e = cc
@@ -60,7 +61,7 @@ held-same (either r f g) (v ∷ vs) us h e = by (choose (r .sort) v (shaped f vs
     rest : ℕ → Value
     rest i = getD vs i absent
 
-    by : Choice (r .sort) v (shaped f vs) (shaped g vs) → ((ts : List Value) → shaped f vs ≡ true → judged f vs ≡ got ts → held f rest ≡ vs) → ((ts : List Value) → shaped g vs ≡ true → judged g vs ≡ got ts → held g rest ≡ vs) → ifAbsent v (absent ∷ held g rest) (kept (r .sort) v ∷ held f rest) ≡ v ∷ vs
+    by : Choice (r .sort) v (shaped f vs) (shaped g vs) → ((ts : List Value) → shaped f vs ≡ true → judged f vs ≡ next ts → held f rest ≡ vs) → ((ts : List Value) → shaped g vs ≡ true → judged g vs ≡ next ts → held g rest ≡ vs) → ifAbsent v (absent ∷ held g rest) (kept (r .sort) v ∷ held f rest) ≡ v ∷ vs
     by (left-out q t) first second =
         let k = and-then-got absent (judged g vs) us (rw q at e) in
         rw q (ap (λ (x : List Value). absent ∷ x) (second (k .0) t (k .1)))
@@ -95,23 +96,23 @@ Passing (either r f g) (absent ∷ vs) = Passing g vs
 Passing (either r f g) (number z ∷ vs) = Passes (r .sort) (number z) × Passing f vs
 Passing (either r f g) (string s ∷ vs) = Passes (r .sort) (string s) × Passing f vs
 
-passes : (o : Sort) (v w : Value) → judge o v ≡ value w → Passes o v
+passes : (o : Sort) (v w : Value) → judge o v ≡ next w → Passes o v
 passes (numbers r) (number z) w e = by (isWithin r z) refl e
   where
-    by : (t : Bool) → isWithin r z ≡ t → ranged t z ≡ value w → isWithin r z ≡ true
+    by : (t : Bool) → isWithin r z ≡ t → check t 4 (next (number z)) ≡ next w → isWithin r z ≡ true
     by true q g = q
-    by false q g = no-value g
-passes (numbers r) (string s) w e = no-value e
-passes (numbers r) absent w e = no-value e
-passes (strings set lo hi) (number z) w e = no-value e
+    by false q g = no-fault g
+passes (numbers r) (string s) w e = no-fault e
+passes (numbers r) absent w e = no-fault e
+passes (strings set lo hi) (number z) w e = no-fault e
 passes (strings set lo hi) (string s) w e = by (isString set lo hi s) refl e
   where
-    by : (t : Bool) → isString set lo hi s ≡ t → tested t s ≡ value w → isString set lo hi s ≡ true
+    by : (t : Bool) → isString set lo hi s ≡ t → check t 3 (next (string s)) ≡ next w → isString set lo hi s ≡ true
     by true q g = q
-    by false q g = no-value g
-passes (strings set lo hi) absent w e = no-value e
+    by false q g = no-fault g
+passes (strings set lo hi) absent w e = no-fault e
 
-pub passing : (f : Form) (vs us : List Value) → judged f vs ≡ got us → Passing f vs
+pub passing : (f : Form) (vs us : List Value) → judged f vs ≡ next us → Passing f vs
 unfolding judged
 passing over vs us e = tt
 passing (one r f) [] us e = tt

@@ -4,13 +4,13 @@ use mathlib.Core.Path.{_≡_, refl, sym, ap, subst, _∙_}
 use mathlib.Core.Bool.{Bool, true, false, _&&_, _||_, false≢true}
 use mathlib.Core.List.{List, [], _∷_}
 use Prim.Native.Nat.{ℕ}
-use native.Mathlib.Omega.{arith}
 use lib.Dec.{eqb}
 use borrow.Author.Tests.{eqb-true}
+use Rattle.model.specs.Step.{next}
 use Rattle.text_grammar.specs.Line.{comma, lineFeed}
-use Rattle.text_grammar.specs.Words.{same, Words, known, unknown, isWord, isIn, wordIn}
+use Rattle.text_grammar.specs.Words.{same, Words, isWord, isIn, wordIn}
 use Rattle.text_grammar.proofs.Lacks.{lacks, and-left, and-right}
-use Rattle.text_grammar.proofs.FieldsText.{isForm}
+use Rattle.text_grammar.proofs.FieldsText.{isForm, no-fault}
 use Rattle.text_grammar.proofs.Every.{Every}
 
 -- words as the reader wants them
@@ -18,13 +18,13 @@ pub record Told {W : Type 0} (d : Words W) : Type 0 where
   pub no-comma : (w : W) → lacks comma (d .spell w) ≡ true
   pub no-feed : (w : W) → lacks lineFeed (d .spell w) ≡ true
   pub formed : (w : W) → isForm (d .form w) ≡ true
-  pub found : (w : W) → wordIn d (d .all) (d .spell w) ≡ known w
+  pub found : (w : W) → wordIn d (d .all) (d .spell w) ≡ next w
 
 -- the same of one word, as a test that computes
 abbrev pub isTold : {W : Type 0} → Words W → W → Bool
 isTold d w = lacks comma (d .spell w) && (lacks lineFeed (d .spell w) && isForm (d .form w))
 
-pub told-by : {W : Type 0} (d : Words W) → ((w : W) → isTold d w ≡ true) → ((w : W) → wordIn d (d .all) (d .spell w) ≡ known w) → Told d
+pub told-by : {W : Type 0} (d : Words W) → ((w : W) → isTold d w ≡ true) → ((w : W) → wordIn d (d .all) (d .spell w) ≡ next w) → Told d
 told-by d fine found = record {
   no-comma = λ w. and-left (lacks comma (d .spell w)) _ (fine w);
   no-feed = λ w. and-left (lacks lineFeed (d .spell w)) (isForm (d .form w)) (and-right (lacks comma (d .spell w)) _ (fine w));
@@ -40,23 +40,20 @@ same-equal (a ∷ s) [] e = cc
 same-equal (a ∷ s) (b ∷ t) e = let p = eqb-true a b (and-left (eqb a b) (same s t) e) in let q = same-equal s t (and-right (eqb a b) (same s t) e) in cc
 
 module _ {W : Type 0} (d : Words W) where
-  pub no-word : {A : Type 0} {w : W} → unknown ≡ known w → A
-  no-word e = absurd (let q : _≡_ {A = ℕ} 0 1 = cc in omega arith)
-
   -- a text that is a word's is that word's spelling
-  pub word-spelled : (ws : List W) (s : List ℕ) (w : W) → wordIn d ws s ≡ known w → s ≡ d .spell w
+  pub word-spelled : (ws : List W) (s : List ℕ) (w : W) → wordIn d ws s ≡ next w → s ≡ d .spell w
   unfolding wordIn
-  word-spelled [] s w e = no-word e
+  word-spelled [] s w e = no-fault e
   word-spelled (a ∷ ws) s w e = by (same (d .spell a) s) refl (word-spelled ws s w)
     where
-      by : (t : Bool) → same (d .spell a) s ≡ t → (wordIn d ws s ≡ known w → s ≡ d .spell w) → s ≡ d .spell w
-      by true q ih = let p : known a ≡ known w = rw (q, wordIn) at e in let r : a ≡ w = cc in sym (same-equal (d .spell a) s q) ∙ ap (d .spell) r
+      by : (t : Bool) → same (d .spell a) s ≡ t → (wordIn d ws s ≡ next w → s ≡ d .spell w) → s ≡ d .spell w
+      by true q ih = let p : next a ≡ next w = rw (q, wordIn) at e in let r : a ≡ w = cc in sym (same-equal (d .spell a) s q) ∙ ap (d .spell) r
       by false q ih = ih (rw (q, wordIn) at e)
 
   module _ (told : Told d) where
     pub is-word-equal : (a b : W) → isWord d a b ≡ true → a ≡ b
     is-word-equal a b e =
-        let p : known a ≡ known b = sym (told .found a) ∙ (ap (wordIn d (d .all)) (same-equal (d .spell a) (d .spell b) e) ∙ told .found b) in
+        let p : next a ≡ next b = sym (told .found a) ∙ (ap (wordIn d (d .all)) (same-equal (d .spell a) (d .spell b) e) ∙ told .found b) in
         cc
 
     pub every-in : (P : W → Type 0) (ws : List W) → Every P ws → (w : W) → isIn d w ws ≡ true → P w

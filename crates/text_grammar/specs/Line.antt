@@ -8,6 +8,7 @@ use lib.ListN.{length}
 use lib.IntN.{ℤ}
 use Rattle.num_text.specs.Number.{Numeral, noNumber, numeralOf, numberText, allOf}
 use Rattle.num_text.specs.Number as decimal
+use Rattle.model.specs.Step.{Step, next, fault, check, onNext}
 use Rattle.model.specs.Limits.{Range, isWithin}
 
 -- the byte `,`
@@ -61,25 +62,10 @@ pub data Value : Type 0 where
   string : List ℕ → Value
   absent : Value
 
--- the value of a field, or the number of its fault
-pub data Valued : Type 0 where
-  value : Value → Valued
-  noValue : ℕ → Valued
-
--- a string that passes its test; another one is fault 3
-abbrev pub tested : Bool → List ℕ → Valued
-tested true s = value (string s)
-tested false s = noValue 3
-
--- a number within its range; one outside it is fault 4
-abbrev pub ranged : Bool → ℤ → Valued
-ranged true z = value (number z)
-ranged false z = noValue 4
-
--- a number of the range; no number is fault 3
-abbrev pub numbered : Numeral → Range → Valued
-numbered (decimal.number z) r = ranged (isWithin r z) z
-numbered noNumber r = noValue 3
+-- a number of the range: no number is fault 3, and one outside the range fault 4
+abbrev pub numbered : Numeral → Range → Step Value
+numbered (decimal.number z) r = check (isWithin r z) 4 (next (number z))
+numbered noNumber r = fault 3
 
 -- b is one of the bytes of a set
 unfoldable pub isOf : List ℕ → ℕ → Bool
@@ -90,10 +76,10 @@ isOf (a ∷ set) b = eqb b a || isOf set b
 abbrev pub isString : List ℕ → ℕ → ℕ → List ℕ → Bool
 isString set lo hi s = allOf (isOf set) s && (leb lo (length s) && leb (length s) hi)
 
--- the value that the bytes s are
-abbrev pub valueOf : Sort → List ℕ → Valued
+-- the value that the bytes s are; a string that is none of its set or of another length is fault 3
+abbrev pub valueOf : Sort → List ℕ → Step Value
 valueOf (numbers r) s = numbered (numeralOf s) r
-valueOf (strings set lo hi) s = tested (isString set lo hi s) s
+valueOf (strings set lo hi) s = check (isString set lo hi s) 3 (next (string s))
 
 -- the text of a value
 abbrev pub valueText : Value → List ℕ
@@ -123,42 +109,26 @@ pub data Form : Type 0 where
 abbrev pub named : List ℕ → Range → Form → Form
 named name r more = one (field name (numbers r)) more
 
--- what follows a mark at the front of some bytes, or that the mark is not there
-pub data Rest : Type 0 where
-  rest : List ℕ → Rest
-  noMark : Rest
-
--- what follows the mark at the front of s
-unfoldable pub strip : List ℕ → List ℕ → Rest
-strip [] s = rest s
-strip (a ∷ m) [] = noMark
-strip (a ∷ m) (b ∷ s) = elim (eqb b a) [ true ↦ strip m s | false ↦ noMark ]
-
--- the values of a line's fields, or the number of its first fault
-pub data Fields : Type 0 where
-  got : List Value → Fields
-  faulty : ℕ → Fields
+-- what follows the mark m at the front of s; where the mark is not there, fault 2
+unfoldable pub strip : List ℕ → List ℕ → Step (List ℕ)
+strip [] s = next s
+strip (a ∷ m) [] = fault 2
+strip (a ∷ m) (b ∷ s) = elim (eqb b a) [ true ↦ strip m s | false ↦ fault 2 ]
 
 -- the value v in front of the values of the further fields
-abbrev pub andThen : Value → Fields → Fields
-andThen v (got vs) = got (v ∷ vs)
-andThen v (faulty n) = faulty n
-
--- a field's value and the further fields, or its fault
-abbrev pub valued : Valued → Fields → Fields
-valued (value v) more = andThen v more
-valued (noValue n) more = faulty n
+abbrev pub andThen : Value → Step (List Value) → Step (List Value)
+andThen v more = onNext more (λ vs. next (v ∷ vs))
 
 -- the field after its mark and the further fields; where the mark is not there, something else
-abbrev pub marked : Rest → Rule → (List ℕ → Fields) → Fields → Fields
-marked (rest s) r more else = valued (valueOf (r .sort) (upTo comma s)) (more (from comma s))
-marked noMark r more else = else
+abbrev pub marked : Step (List ℕ) → Rule → (List ℕ → Step (List Value)) → Step (List Value) → Step (List Value)
+marked (next s) r more else = onNext (valueOf (r .sort) (upTo comma s)) (λ v. andThen v (more (from comma s)))
+marked (fault n) r more else = else
 
--- the fields of a line in the bytes after its word: a missing comma or name is fault 2, and so are leftover bytes
-unfoldable pub fields : Form → List ℕ → Fields
-fields over [] = got []
-fields over (b ∷ s) = faulty 2
-fields (one r f) s = marked (strip (r .mark) s) r (λ t. fields f t) (faulty 2)
+-- the values of a line's fields in the bytes after its word: a missing comma or name is fault 2, and so are leftover bytes
+unfoldable pub fields : Form → List ℕ → Step (List Value)
+fields over [] = next []
+fields over (b ∷ s) = fault 2
+fields (one r f) s = marked (strip (r .mark) s) r (λ t. fields f t) (fault 2)
 fields (either r f g) s = marked (strip (r .mark) s) r (λ t. fields f t) (andThen absent (fields g s))
 
 -- the text of a field, its mark and its value, and of those after it

@@ -5,9 +5,10 @@ use mathlib.Core.List.{List}
 use mathlib.Core.Bool.{Bool, true, false}
 use lib.Dec.{ltb}
 use lib.ListN.{length, take, drop}
-use Rattle.text_grammar.specs.Line.{Line, Value, got, fields, lineFeed, upTo}
-use Rattle.text_grammar.specs.Words.{Words}
-use Rattle.text_grammar.specs.Reading.{Kind, inPlace}
+use Rattle.model.specs.Step.{Step, next, check}
+use Rattle.text_grammar.specs.Line.{Line, Value, fields, lineFeed, upTo}
+use Rattle.text_grammar.specs.Words.{Words, isIn}
+use Rattle.text_grammar.specs.Reading.{Reading, accepted, onward, Kind}
 
 -- a test, the number where it fails, and what follows where it passes
 abbrev pub need : Bool → ℕ → ℕ → ℕ
@@ -15,10 +16,21 @@ need true n more = more
 need false n more = n
 
 module _ {W S : Type 0} (k : Kind W S) (s : S) (w : W) where
+  -- the word w may stand here: place
+  abbrev pub inPlace : Bool
+  inPlace = isIn (k .words) w (k .followers s)
+
+  -- the tests before the fields, and what follows where they pass
+  abbrev pub onEntry : Step S → Step S
+  onEntry more =
+      check inPlace 5
+      (check (k .hasRoom s w) 6
+      (check (k .hasPin s w) 7 more))
+
   -- the first fault before the fields of a line with a known word, or 0
   unfoldable pub entryFault : ℕ
   entryFault =
-      need (inPlace k s w) 5
+      need inPlace 5
       (need (k .hasRoom s w) 6
       (need (k .hasPin s w) 7 0))
 
@@ -26,10 +38,14 @@ module _ {W S : Type 0} (k : Kind W S) (s : S) (w : W) where
   pub record Entered : Type 0 where
     pub clear : entryFault ≡ 0
 
+-- the end of a text, where line n would begin: s, if the last line has been read
+abbrev pub ending : {W S : Type 0} → Kind W S → S → ℕ → Reading S
+ending k s n = onward (check (k .complete s) 5 (next s)) n accepted
+
 -- vs are the values that the fields of some line with the word w are read as
 pub record ReadAs {W : Type 0} (d : Words W) (w : W) (vs : List Value) : Type 0 where
   pub bytes : List ℕ
-  pub read : fields (d .form w) bytes ≡ got vs
+  pub read : fields (d .form w) bytes ≡ next vs
 
 -- the place of the first LF from a on, or the end of the text
 abbrev pub lineEnd : List ℕ → ℕ → ℕ

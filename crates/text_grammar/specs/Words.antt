@@ -5,6 +5,7 @@ use mathlib.Core.Bool.{Bool, true, false, _&&_, _||_}
 use lib.Dec.{eqb}
 use lib.ListN.{getD}
 use lib.IntN.{ℤ, pos, natAbs}
+use Rattle.model.specs.Step.{Step, next, fault}
 use Rattle.text_grammar.specs.Line.{Value, number, string, absent, Form, lineFeed, fieldsText}
 
 -- two texts are the same bytes
@@ -19,11 +20,6 @@ pub record Words (W : Type 0) : Type 0 where
   pub all : List W
   pub spell : W → List ℕ
   pub form : W → Form
-
--- the word that some bytes spell, or that there is none
-pub data Found (W : Type 0) : Type 0 where
-  known : W → Found W
-  unknown : Found W
 
 -- a line as a word and the values of its fields
 pub record Item (W : Type 0) : Type 0 where
@@ -40,10 +36,10 @@ module _ {W : Type 0} (d : Words W) where
   isIn w [] = false
   isIn w (a ∷ ws) = isWord w a || isIn w ws
 
-  -- the first word of ws that the bytes s spell
-  unfoldable pub wordIn : List W → List ℕ → Found W
-  wordIn [] s = unknown
-  wordIn (w ∷ ws) s = elim (same (d .spell w) s) [ true ↦ known w | false ↦ wordIn ws s ]
+  -- the first word of ws that the bytes s spell; an unknown word is fault 2
+  unfoldable pub wordIn : List W → List ℕ → Step W
+  wordIn [] s = fault 2
+  wordIn (w ∷ ws) s = elim (same (d .spell w) s) [ true ↦ next w | false ↦ wordIn ws s ]
 
   -- the text of a line
   unfoldable pub itemText : Item W → List ℕ

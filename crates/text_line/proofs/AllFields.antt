@@ -9,12 +9,14 @@ use lib.Seq.{drop-cons, take-all}
 use mathlib.Core.Bool.{Bool, not, true}
 use borrow.Author.Tests.{not-true}
 use Rattle.model.specs.declared.Refusal.{Refusal}
-use Rattle.model.specs.Held.{filled, raised, Holds}
+use Rattle.model.specs.Counted.{Holds}
+use Rattle.model.specs.Held.{filled, raised}
 use Rattle.model.proofs.FirstOf.{first-take}
 use Rattle.model.proofs.Holding.{holds-more, holds-none, holds-all, filled-again}
 use Rattle.model.proofs.HeldAgain.{raised-again}
 use Rattle.text_grammar.specs.Reading.{accepted, refused}
-use Rattle.text_grammar.specs.Line.{Value, number, Fields, got, faulty, andThen, fields}
+use Rattle.model.specs.Step.{Step, next, fault}
+use Rattle.text_grammar.specs.Line.{Value, number, andThen, fields}
 use Rattle.text_line.specs.declared.Rule.{Rule as HeldRule}
 use Rattle.text_line.specs.declared.Field.{Field}
 use Rattle.text_line.specs.declared.Field.the-variants as field
@@ -25,21 +27,21 @@ use Rattle.text_line.specs.Steps.{Got, Faulty, FieldOk}
 use Rattle.text_line.proofs.Laid.{few, next-rule, next-up, rules-length, ups-length}
 
 -- the values zs in front of those that follow
-pub prefixed : List Value → Fields → Fields
+pub prefixed : List Value → Step (List Value) → Step (List Value)
 prefixed [] f = f
 prefixed (z ∷ zs) f = andThen z (prefixed zs f)
 
-prefixed-more : (zs : List Value) (z : Value) (f : Fields) → prefixed zs (andThen z f) ≡ prefixed (zs ++ (z ∷ [])) f
+prefixed-more : (zs : List Value) (z : Value) (f : Step (List Value)) → prefixed zs (andThen z f) ≡ prefixed (zs ++ (z ∷ [])) f
 unfolding prefixed
 prefixed-more [] z f = refl
 prefixed-more (y ∷ zs) z f = rw (prefixed-more zs z f)
 
-prefixed-faulty : (zs : List Value) (n : ℕ) → prefixed zs (faulty n) ≡ faulty n
+prefixed-faulty : (zs : List Value) (n : ℕ) → prefixed zs (fault n) ≡ fault n
 unfolding prefixed
 prefixed-faulty [] n = refl
 prefixed-faulty (z ∷ zs) n = rw (prefixed-faulty zs n)
 
-prefixed-all : (zs : List Value) → prefixed zs (got []) ≡ got zs
+prefixed-all : (zs : List Value) → prefixed zs (next []) ≡ next zs
 unfolding prefixed
 prefixed-all [] = refl
 prefixed-all (z ∷ zs) = rw (prefixed-all zs)

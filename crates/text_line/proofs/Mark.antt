@@ -10,7 +10,8 @@ use native.Mathlib.Omega.{arith}
 use lib.ListN.{length, getD, take, drop, length-take, length-drop, drop-of-length-le}
 use lib.Seq.{drop-cons, drop-drop, getD-take}
 use borrow.Author.Tests.{eq-eqb, ne-eqb}
-use Rattle.text_grammar.specs.Line.{noMark, strip}
+use Rattle.model.specs.Step.{fault}
+use Rattle.text_grammar.specs.Line.{strip}
 use Rattle.text_line.specs.Steps.{Starts}
 
 module _ (a b : ℕ) (m s : List ℕ) where
@@ -18,21 +19,21 @@ module _ (a b : ℕ) (m s : List ℕ) where
   unfolding strip
   strip-same e = rw (eq-eqb b a e, strip)
 
-  strip-other : (b ≡ a → ⊥) → strip (a ∷ m) (b ∷ s) ≡ noMark
+  strip-other : (b ≡ a → ⊥) → strip (a ∷ m) (b ∷ s) ≡ fault 2
   unfolding strip
   strip-other n = rw (ne-eqb b a n, strip)
 
-strip-short : (m s : List ℕ) → length s < length m → strip m s ≡ noMark
+strip-short : (m s : List ℕ) → length s < length m → strip m s ≡ fault 2
 unfolding strip
 strip-short [] s h = absurd (omega arith)
 strip-short (a ∷ m) [] h = refl
 strip-short (a ∷ m) (b ∷ s) h = by (ℕ-discrete b a) (strip-short m s (omega arith))
   where
-    by : Dec (b ≡ a) → strip m s ≡ noMark → strip (a ∷ m) (b ∷ s) ≡ noMark
+    by : Dec (b ≡ a) → strip m s ≡ fault 2 → strip (a ∷ m) (b ∷ s) ≡ fault 2
     by (yes e) ih = strip-same a b m s e ∙ ih
     by (no n) ih = strip-other a b m s n
 
-absent : (mark : List ℕ) (n : ℕ) (s : List ℕ) → strip (take n mark) s ≡ noMark → Starts mark n s false
+absent : (mark : List ℕ) (n : ℕ) (s : List ℕ) → strip (take n mark) s ≡ fault 2 → Starts mark n s false
 absent mark n s e = record { left = e; fits = λ t. absurd (true≢false (sym t)) }
 
 module _ (text mark : List ℕ) (a size : ℕ) (k : length mark ≡ 4) (f : size ≤ 4) where

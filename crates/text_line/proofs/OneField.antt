@@ -14,19 +14,21 @@ use Rattle.num_text.specs.declared.Number.{Number}
 use Rattle.num_text.specs.declared.Number.the-variants as held
 use Rattle.num_text.specs.Number.{Numeral, number, noNumber, numeralOf}
 use Rattle.num_text.specs.Held.{cap, heldNumber}
-use Rattle.text_grammar.specs.Line.{Fields, faulty, comma, upTo, strip, ranged, numbered, valued, marked}
+use Rattle.model.specs.Step.{Step, fault}
+use Rattle.text_grammar.specs.Line.{comma, upTo, strip, numbered, marked, Value}
+use Rattle.text_grammar.proofs.FieldsText.{valued}
 use Rattle.text_line.specs.declared.Rule.{Rule as HeldRule}
 use Rattle.text_line.specs.declared.Field.{Field}
 use Rattle.text_line.specs.Held.{lowered}
 use Rattle.text_line.specs.Layout.{markOf, rangeOf, ruleOf, Sane}
 use Rattle.text_line.specs.Steps.{Starts, ifInRange, within, Faulty, FieldOk}
 use Rattle.text_grammar.proofs.Cut.{up-to-take, from-drop, up-to-short}
-use Rattle.text_line.proofs.Range.{never, no-number-held, positive-held, negative-held, below-held}
+use Rattle.text_line.proofs.Range.{ranged, never, no-number-held, positive-held, negative-held, below-held}
 
 -- ---- the answer
 
 module _ (text : List ℕ) (a : ℕ) (r : HeldRule) (l b v : ℕ) (h : b ≤ length text) where
-  answered : (t : Bool) (f : Field) → f ≡ ifInRange t v b l → ((more : List ℕ → Fields) → marked (strip (markOf r) (drop a text)) (ruleOf r) more (faulty 2) ≡ valued (ranged t (lowered (r .up) v)) (more (drop b text))) → FieldOk text a r l f
+  answered : (t : Bool) (f : Field) → f ≡ ifInRange t v b l → ((more : List ℕ → Step (List Value)) → marked (strip (markOf r) (drop a text)) (ruleOf r) more (fault 2) ≡ valued (ranged t (lowered (r .up) v)) (more (drop b text))) → FieldOk text a r l f
   answered true f e p = rw e (record { place = h; read = p })
   answered false f e p = rw e (record { at = refl; read = p })
 
@@ -60,7 +62,7 @@ module _ (text : List ℕ) (a : ℕ) (r : HeldRule) (t : Bool) (st : Starts (r .
       pub field-end-fits : length text < 2 ^ 64 → Fits w64 (past a r + n)
       field-end-fits f = let q = field-end in omega arith
 
-      read-number : (more : List ℕ → Fields) → marked (strip (markOf r) (drop a text)) (ruleOf r) more (faulty 2) ≡ valued (numbered (numeralAt text (past a r) n) (rangeOf r)) (more (drop (past a r + n) text))
+      read-number : (more : List ℕ → Step (List Value)) → marked (strip (markOf r) (drop a text)) (ruleOf r) more (fault 2) ≡ valued (numbered (numeralAt text (past a r) n) (rangeOf r)) (more (drop (past a r + n) text))
       read-number more =
           let q : past a r + n - past a r ≡ length (upTo comma (drop (past a r) text)) = omega (arith, cut) in
           rw (st .left, not-false t y, drop-drop, q, ← up-to-take comma (drop (past a r) text), from-drop, ← cut, drop-drop)

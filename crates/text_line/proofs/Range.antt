@@ -1,6 +1,7 @@
 -- The range of a value, as held and as a number. A number that the reader has cut to its cap is out of every range.
 use mathlib.Core.Path.{_≡_, refl, sym, ap, _∙_}
-use mathlib.Core.Bool.{true, false, and-false, true≢false}
+use mathlib.Core.Bool.{Bool, true, false, and-false, true≢false}
+use mathlib.Core.List.{List}
 use Prim.Native.Nat.{ℕ, zero, suc, _+_, _-_, _≤_, _<_, min}
 use native.Mathlib.Decide.{decLe, decLt}
 use native.Mathlib.Omega.{arith}
@@ -11,7 +12,10 @@ use borrow.Author.Tests.{le-leb, lt-leb, lt-ltb, le-ltb}
 use Rattle.num_text.specs.declared.Number.the-variants as held
 use Rattle.num_text.specs.Number.{Numeral, number, noNumber}
 use Rattle.num_text.specs.Held.{cap, heldNumber}
-use Rattle.text_grammar.specs.Line.{Fields, faulty, ranged, numbered, valued}
+use Rattle.model.specs.Step.{Step, next, fault, check}
+use Rattle.text_grammar.specs.Line.{Value, numbered}
+use Rattle.text_grammar.specs.Line as line
+use Rattle.text_grammar.proofs.FieldsText.{valued}
 use Rattle.model.specs.Limits.{isWithin}
 use Rattle.text_line.specs.declared.Rule.{Rule as HeldRule}
 use Rattle.text_line.specs.declared.Field.the-variants as field
@@ -64,7 +68,11 @@ never e = absurd (true≢false e)
 
 -- ---- the range test of the program is that of the rule
 
-module _ (r : HeldRule) (k : r .most < cap) (more : Fields) where
+-- the number z, where its test passes
+abbrev pub ranged : Bool → ℤ → Step Value
+ranged b z = check b 4 (next (line.number z))
+
+module _ (r : HeldRule) (k : r .most < cap) (more : Step (List Value)) where
   held-range : (z : ℤ) (v : ℕ) → z ≡ lowered (r .up) v → valued (ranged (isWithin (rangeOf r) z) z) more ≡ valued (ranged (within r v) (lowered (r .up) v)) more
   held-range z v e = rw (e, lowered-order (r .up) (r .least) v, lowered-order (r .up) v (r .most))
 
@@ -79,7 +87,7 @@ module _ (r : HeldRule) (k : r .most < cap) (more : Fields) where
       by (yes h) = ap (λ (x : ℕ). valued (ranged (within r (r .up + x)) (lowered (r .up) (r .up + x))) more) (omega arith)
       by (no h) = rw (lt-leb (r .up + n) (r .most) (omega arith), lt-leb (r .up + m) (r .most) (omega arith)) (simp and-false)
 
-  pub no-number-held : (q : Numeral) → held.Bad ≡ heldNumber q → valued (numbered q (rangeOf r)) more ≡ faulty 3
+  pub no-number-held : (q : Numeral) → held.Bad ≡ heldNumber q → valued (numbered q (rangeOf r)) more ≡ fault 3
   no-number-held (number (pos n)) e = never (cc)
   no-number-held (number (negsuc n)) e = never (cc)
   no-number-held noNumber e = refl
@@ -105,7 +113,7 @@ module _ (r : HeldRule) (k : r .most < cap) (more : Fields) where
       by (yes l) = rw (lowered-below (r .up) (r .least) l, lt-leb n (r .up - suc (r .least)) (omega arith))
       by (no l) = rw (lowered-above (r .up) (r .least) (omega arith))
 
-  pub below-held : (q : Numeral) (m : ℕ) → held.Value true m ≡ heldNumber q → r .up < m → valued (numbered q (rangeOf r)) more ≡ faulty 4
+  pub below-held : (q : Numeral) (m : ℕ) → held.Value true m ≡ heldNumber q → r .up < m → valued (numbered q (rangeOf r)) more ≡ fault 4
   below-held (number (pos n)) m e h = never (cc)
   below-held (number (negsuc n)) m e h = let c : m ≡ min cap (suc n) = cc in rw (far-below n (omega arith))
   below-held noNumber m e h = never (cc)

@@ -11,7 +11,8 @@ use Rattle.model.specs.Limits.{Range}
 use Rattle.model.specs.Meaning.{pinUp}
 use Rattle.model.specs.Held.{filled, raised}
 use Rattle.num_text.specs.Held.{cap}
-use Rattle.text_grammar.specs.Line.{Sort, numbers, strings, Value, Rule, Form, over, one, either, Fields, got, faulty, fields}
+use Rattle.model.specs.Step.{Step, next, fault}
+use Rattle.text_grammar.specs.Line.{Sort, numbers, strings, Value, Rule, Form, over, one, either, fields}
 use Rattle.text_grammar.specs.Reading.{Reading, accepted, refused}
 use Rattle.text_line.specs.declared.Rule.{Rule as HeldRule}
 use Rattle.text_line.specs.declared.Layout.{Layout}
@@ -124,9 +125,9 @@ pub record Laid (n : ℕ) (rs : List HeldRule) : Type 0 where
 -- ---- reading
 
 -- the fields of a line, with the line's number in a refusal
-abbrev pub located : ℕ → Fields → Reading (List Value)
-located l (got vs) = accepted vs
-located l (faulty n) = refused n l
+abbrev pub located : ℕ → Step (List Value) → Reading (List Value)
+located l (next vs) = accepted vs
+located l (fault n) = refused n l
 
 -- what the bytes s after the word mean, in line l; a layout beyond the limits is refused by 2
 unfoldable pub readFields : ℕ → List HeldRule → ℕ → List ℕ → Reading (List Value)

@@ -6,8 +6,8 @@ use mathlib.Core.Bool.{Bool, true, false, _&&_}
 use lib.Dec.{leb}
 use lib.ListN.{length, take, drop}
 use Rattle.model.specs.declared.Refusal.{Refusal}
-use Rattle.text_grammar.specs.Reading.{Step, next, fault as faultBy}
-use Rattle.text_grammar.specs.Line.{number, Rest, rest, noMark, strip, Fields, faulty, andThen, marked}
+use Rattle.model.specs.Step.{Step, next, fault as faultBy, check}
+use Rattle.text_grammar.specs.Line.{Value, number, strip, andThen, marked}
 use Rattle.text_line.specs.declared.Rule.{Rule as HeldRule}
 use Rattle.text_line.specs.declared.Field.{Field}
 use Rattle.text_line.specs.declared.Field.the-variants as field
@@ -18,14 +18,9 @@ use Rattle.text_line.specs.Layout.{markOf, ruleOf}
 
 -- ---- a mark
 
--- what follows a mark, by whether it is there
-abbrev pub restIf : Bool → List ℕ → Rest
-restIf true s = rest s
-restIf false s = noMark
-
 -- r says whether the first n bytes of the mark stand at the front of s
 pub record Starts (mark : List ℕ) (n : ℕ) (s : List ℕ) (r : Bool) : Type 0 where
-  pub left : strip (take n mark) s ≡ restIf r (drop n s)
+  pub left : strip (take n mark) s ≡ check r 2 (next (drop n s))
   pub fits : r ≡ true → n ≤ length s
 
 -- ---- one field
@@ -46,13 +41,13 @@ within r v = leb (r .least) v && leb v (r .most)
 -- the field with the rule r at a has the value v, and b is the place after it
 pub record Got (text : List ℕ) (a : ℕ) (r : HeldRule) (v b : ℕ) : Type 0 where
   pub place : b ≤ length text
-  pub read : (more : List ℕ → Fields) → marked (strip (markOf r) (drop a text)) (ruleOf r) more (faulty 2)
+  pub read : (more : List ℕ → Step (List Value)) → marked (strip (markOf r) (drop a text)) (ruleOf r) more (faultBy 2)
       ≡ andThen (number (lowered (r .up) v)) (more (drop b text))
 
 -- the field with the rule r at a is refused by f
 pub record Faulty (text : List ℕ) (a : ℕ) (r : HeldRule) (l : ℕ) (f : Refusal) : Type 0 where
   pub at : f .line ≡ l
-  pub read : (more : List ℕ → Fields) → marked (strip (markOf r) (drop a text)) (ruleOf r) more (faulty 2) ≡ faulty (f .no)
+  pub read : (more : List ℕ → Step (List Value)) → marked (strip (markOf r) (drop a text)) (ruleOf r) more (faultBy 2) ≡ faultBy (f .no)
 
 -- the answer of the reader of one field, by its case
 abbrev pub FieldOk : List ℕ → ℕ → HeldRule → ℕ → Field → Type 0

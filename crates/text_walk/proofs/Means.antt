@@ -8,9 +8,10 @@ use native.Mathlib.Omega.{arith}
 use lib.Dec.{ltb}
 use lib.ListN.{length, getD, take, length-map}
 use borrow.Author.Tests.{le-ltb, lt-ltb}
-use Rattle.text_grammar.specs.Line.{Line, comma, upTo, from, Value, Fields, got, faulty, fields}
-use Rattle.text_grammar.specs.Words.{same, Words, Found, known, unknown, wordIn}
-use Rattle.text_grammar.specs.Reading.{Kind, Step, fault, check, stepFields, stepFound, stepBytes, stepLine}
+use Rattle.model.specs.Step.{Step, next, fault, check, onNext}
+use Rattle.text_grammar.specs.Line.{Line, comma, upTo, from, Value, fields}
+use Rattle.text_grammar.specs.Words.{same, Words, wordIn}
+use Rattle.text_grammar.specs.Reading.{Kind, stepWord, stepBytes, stepLine}
 use Rattle.text_grammar.specs.Steps.{entryFault, Entered, ReadAs}
 use Rattle.text_grammar.proofs.Entry.{foundOr, step-word}
 use Rattle.text_line.specs.declared.Spelling.{Spelling}
@@ -44,12 +45,8 @@ module _ {W S : Type 0} (k : Kind W S) (z : W) where
 
   -- ---- the word
 
-  abbrev foundBy : Bool → W → Found W
-  foundBy true w = known w
-  foundBy false w = unknown
-
-  abbrev foundAt : List W → ℕ → Found W
-  foundAt ws i = foundBy (ltb i (length ws)) (getD ws i z)
+  abbrev foundAt : List W → ℕ → Step W
+  foundAt ws i = check (ltb i (length ws)) 2 (next (getD ws i z))
 
   next-at : (w : W) (ws : List W) (i : ℕ) → foundAt ws i ≡ foundAt (w ∷ ws) (suc i)
   next-at w ws i = by (decLt i (length ws))
@@ -84,11 +81,11 @@ module _ {W S : Type 0} (k : Kind W S) (z : W) where
     abbrev w : W
     w = getD (d .all) i z
 
-    fields-mean : (x : Fields) → fields (d .form w) rest ≡ x → Entered k s w → Means s (byFields i (located l x)) (stepFields k s w x)
-    fields-mean (got vs) q e = record { inside = h; entered = e; read = record { bytes = rest; read = q }; adds = refl }
-    fields-mean (faulty n) q e = refl
+    fields-mean : (x : Step (List Value)) → fields (d .form w) rest ≡ x → Entered k s w → Means s (byFields i (located l x)) (onNext x (k .add s w))
+    fields-mean (next vs) q e = record { inside = h; entered = e; read = record { bytes = rest; read = q }; adds = refl }
+    fields-mean (fault n) q e = refl
 
-    word-means : (m : ℕ) → m ≡ entryFault k s w → Means s (unlessFault m (byFields i (located l (fields (d .form w) rest)))) (foundOr m (stepFields k s w (fields (d .form w) rest)))
+    word-means : (m : ℕ) → m ≡ entryFault k s w → Means s (unlessFault m (byFields i (located l (fields (d .form w) rest)))) (foundOr m (onNext (fields (d .form w) rest) (k .add s w)))
     word-means zero q = fields-mean (fields (d .form w) rest) refl (record { clear = sym q })
     word-means (suc m) q = refl
 
@@ -107,13 +104,13 @@ module _ {W S : Type 0} (k : Kind W S) (z : W) where
     unfolding walkBytes
     walk-at = ap (λ (q : List Spelling). walkWord ys fs (length q) l (findIn q (upTo comma b)) (from comma b)) (t .spells) ∙ rw (length-map (d .all) (λ w. spelled (d .spell w)))
 
-    step-at : stepBytes k s b ≡ stepFound k s (foundAt (d .all) i) (from comma b)
+    step-at : stepBytes k s b ≡ onNext (foundAt (d .all) i) (λ w. stepWord k s w (from comma b))
     unfolding stepBytes
-    step-at = ap (λ (x : Found W). stepFound k s x (from comma b)) (find-word (d .all) (upTo comma b))
+    step-at = ap (λ (x : Step W). onNext x (λ w. stepWord k s w (from comma b))) (find-word (d .all) (upTo comma b))
 
     known-means : i < length (d .all) → Means s (walkBytes ps ys n fs l b) (stepBytes k s b)
     known-means h =
-        rw (walk-at, step-at, lt-ltb i (length (d .all)) h, f .at i h, read-is (getD ys i blankLayout) here l (from comma b) (t .laid i h) (t .lays here), step-word k s here (stepFields k s here (fields (d .form here) (from comma b))))
+        rw (walk-at, step-at, lt-ltb i (length (d .all)) h, f .at i h, read-is (getD ys i blankLayout) here l (from comma b) (t .laid i h) (t .lays here), step-word k s here (onNext (fields (d .form here) (from comma b)) (k .add s here)))
         (word-means s l i (from comma b) h (entryFault k s here) refl)
 
     unknown-means : length (d .all) ≤ i → Means s (walkBytes ps ys n fs l b) (stepBytes k s b)

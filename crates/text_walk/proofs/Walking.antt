@@ -1,14 +1,15 @@
 -- The steps of the walk, in the form of the needs of its functions.
 use mathlib.Core.Path.{_≡_, refl, sym, ap, _∙_}
 use mathlib.Core.Bool.{Bool, true, false}
-use mathlib.Core.List.{List, [], _∷_}
+use mathlib.Core.List.{List}
 use Prim.Native.Nat.{ℕ, zero, suc, _-_, _≤_, _<_}
 use native.Mathlib.Omega.{arith}
 use lib.ListN.{length, getD, take, drop, length-take, length-drop}
 use lib.Seq.{take-all}
 use borrow.Author.Tests.{le-ltb, lt-ltb}
 use Rattle.model.specs.declared.Refusal.{Refusal}
-use Rattle.text_grammar.specs.Line.{comma, upTo, from, Fields, got, faulty, fields}
+use Rattle.model.specs.Step.{Step, next, fault}
+use Rattle.text_grammar.specs.Line.{comma, upTo, from, Value, fields}
 use Rattle.text_grammar.specs.Reading.{refused}
 use Rattle.text_grammar.specs.Steps.{lineEnd, lineAt}
 use Rattle.text_grammar.proofs.Cut.{up-to-take, from-drop}
@@ -25,9 +26,9 @@ use Rattle.text_walk.specs.Walk.{Walk, stop, blankLayout, findIn, byFiel
 -- ---- the fields
 
 -- a refusal of fields has their line
-no-fields : (l : ℕ) (x : Fields) (m j : ℕ) → refused m j ≡ located l x → j ≡ l
-no-fields l (got vs) m j e = cc
-no-fields l (faulty n) m j e = cc
+no-fields : (l : ℕ) (x : Step (List Value)) (m j : ℕ) → refused m j ≡ located l x → j ≡ l
+no-fields l (next vs) m j e = cc
+no-fields l (fault n) m j e = cc
 
 own-line : (n : ℕ) (rs : List Rule) (l : ℕ) (s : List ℕ) (m j : ℕ) → refused m j ≡ readFields n rs l s → j ≡ l
 unfolding readFields

@@ -1,4 +1,4 @@
-use Rattle.chip_faults.proofs.Needs.{made-fails, made-rest, no-room, room-rest, need-fails, need-rest}
+use Rattle.chip_faults.proofs.Needs.{made-fails, made-rest, no-room, room-rest}
 use Rattle.model.specs.Made.{meantFix}
 use borrow.Author.Needs.{needs}
 use Rattle.chip_faults.proofs.fix_fault.Statement.{statement}
@@ -25,20 +25,11 @@ enum-told-2 c = search needs
 returns-2 : tie.Need-returns-2
 returns-2 c = search (room-rest, made-fails meantFix)
 
-fix-in-die-requires : tie.Need-fix-in-die-requires
-fix-in-die-requires c κs = search needs
+placed-fault-requires : tie.Need-placed-fault-requires
+placed-fault-requires c κs = search needs
 
 returns-3 : tie.Need-returns-3
-returns-3 c = search (room-rest, made-rest meantFix, need-rest, need-fails)
-
-clear-of-fixes-requires : tie.Need-clear-of-fixes-requires
-clear-of-fixes-requires c κs = search needs
-
-returns-4 : tie.Need-returns-4
-returns-4 c = search (room-rest, made-rest meantFix, need-rest, need-fails)
-
-returns-5 : tie.Need-returns-5
-returns-5 c = search (room-rest, made-rest meantFix, need-rest)
+returns-3 c = search (room-rest, made-rest meantFix)
 
 pub fix-fault-spec : {M : Type 1} → statement M
 fix-fault-spec =
@@ -51,8 +42,5 @@ fix-fault-spec =
     enum-told
     enum-told-2
     returns-2
-    fix-in-die-requires
-    returns-3
-    clear-of-fixes-requires
-    returns-4
-    returns-5)
+    placed-fault-requires
+    returns-3)

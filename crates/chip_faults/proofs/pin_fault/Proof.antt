@@ -1,4 +1,4 @@
-use Rattle.chip_faults.proofs.Needs.{made-fails, made-rest, no-room, room-rest, no-such, such-rest}
+use Rattle.chip_faults.proofs.Needs.{made-fails, made-rest, no-room, room-rest}
 use Rattle.model.specs.Made.{meantPin}
 use borrow.Author.Needs.{needs}
 use Rattle.chip_faults.proofs.pin_fault.Statement.{statement}
@@ -25,11 +25,11 @@ enum-told-2 c = search needs
 returns-2 : tie.Need-returns-2
 returns-2 c = search (room-rest, made-fails meantPin)
 
-returns-3 : tie.Need-returns-3
-returns-3 c = search (room-rest, made-rest meantPin, no-such)
+macro-fault-requires : tie.Need-macro-fault-requires
+macro-fault-requires c κs = search needs
 
-returns-4 : tie.Need-returns-4
-returns-4 c = search (room-rest, made-rest meantPin, such-rest)
+returns-3 : tie.Need-returns-3
+returns-3 c = search (room-rest, made-rest meantPin)
 
 pub pin-fault-spec : {M : Type 1} → statement M
 pin-fault-spec =
@@ -42,5 +42,5 @@ pin-fault-spec =
     enum-told
     enum-told-2
     returns-2
-    returns-3
-    returns-4)
+    macro-fault-requires
+    returns-3)

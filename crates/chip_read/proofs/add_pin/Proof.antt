@@ -29,6 +29,9 @@ with-fault-requires c κs = search needs
 returns : tie.Need-returns
 returns c = search (needs, pin-never)
 
+macro-fault-requires : tie.Need-macro-fault-requires
+macro-fault-requires c κs = search needs
+
 with-fault-requires-2 : tie.Need-with-fault-requires-2
 with-fault-requires-2 c κs = search needs
 
@@ -47,8 +50,8 @@ element-copy-out-net c = search needs
 add-pin : tie.Need-add-pin
 add-pin c = search net-fits-one
 
-mul-t27 : tie.Need-mul-t27
-mul-t27 c = search needs
+mul-t28 : tie.Need-mul-t28
+mul-t28 c = search needs
 
 element-set-from-chip : tie.Need-element-set-from-chip
 element-set-from-chip c = search needs
@@ -59,11 +62,11 @@ mul-pin c = search needs
 element-set-from-pin : tie.Need-element-set-from-pin
 element-set-from-pin c = search pin-fits
 
-add-t27 : tie.Need-add-t27
-add-t27 c = search needs
+add-t28 : tie.Need-add-t28
+add-t28 c = search needs
 
 returns-3 : tie.Need-returns-3
 returns-3 c = search (needs, pin-added)
 
 pub add-pin-spec : {M : Type 1} → statement M
-add-pin-spec = tie.close (tie.spec array-read-m array-read-held array-read-held-2 held-requires enum-known-pin enum-told with-fault-requires returns with-fault-requires-2 returns-2 sub-last mul-net element-copy-out-net add-pin mul-t27 element-set-from-chip mul-pin element-set-from-pin add-t27 returns-3)
+add-pin-spec = tie.close (tie.spec array-read-m array-read-held array-read-held-2 held-requires enum-known-pin enum-told with-fault-requires returns macro-fault-requires with-fault-requires-2 returns-2 sub-last mul-net element-copy-out-net add-pin mul-t28 element-set-from-chip mul-pin element-set-from-pin add-t28 returns-3)

@@ -1,5 +1,5 @@
 use Rattle.chip_text.specs.Text.{readChip}
-use Rattle.chip_read.specs.Answer.{ReadOk}
+use Rattle.chip_read.specs.State.{ReadOk}
 use Rattle.chip_read.proofs.Lines.{too-long-read}
 use borrow.Author.Needs.{needs}
 use Rattle.chip_read.proofs.read_chip.Statement.{statement}

@@ -1,0 +1,17 @@
+-- A thing that a test or a step leads to, or the number of the fault that stands in its place.
+use Prim.Native.Nat.{ℕ}
+use mathlib.Core.Bool.{Bool, true, false}
+
+pub data Step (A : Type 0) : Type 0 where
+  next : A → Step A
+  fault : ℕ → Step A
+
+-- what follows where a test passes, or fault n
+abbrev pub check : {A : Type 0} → Bool → ℕ → Step A → Step A
+check true n more = more
+check false n more = fault n
+
+-- what follows a thing, or its fault
+abbrev pub onNext : {A B : Type 0} → Step A → (A → Step B) → Step B
+onNext (next a) more = more a
+onNext (fault n) more = fault n
