@@ -31,7 +31,7 @@ use Rattle.chip_read.proofs.MadeOf.{the-die, the-fix, the-mac, the-net}
 use Rattle.chip_text.specs.declared.ChipWord.{ChipWord}
 use Rattle.chip_text.specs.declared.ChipWord.the-variants as word
 use Rattle.chip_text.specs.Words.{chipWords}
-use Rattle.chip_words.specs.declared.ChipLast.the-variants as last
+use Rattle.chip_text.specs.declared.ChipLast.the-variants as last
 use Rattle.chip_text.specs.Kind.{chipKind, addFix, add, readTo, withDie, withMac, withNet, withFix}
 use Rattle.chip_text.specs.Faults.{placedFault}
 use Rattle.chip_text.proofs.Faults.{fix-adds}

@@ -8,7 +8,7 @@ use Rattle.text_grammar.proofs.Entry.{in-place, has-room}
 use Rattle.chip_text.specs.declared.ChipWord.{ChipWord}
 use Rattle.chip_text.specs.declared.ChipWord.the-variants as word
 use Rattle.chip_text.specs.Kind.{Counts, counts, countsOf, room, chipKind}
-use Rattle.chip_words.specs.Meant.{lastOf}
+use Rattle.chip_text.specs.Tests.{lastOf}
 use Rattle.chip_read.specs.declared.State.{State}
 use Rattle.chip_read.specs.State.{partOf, Sound}
 use Rattle.chip_read.proofs.Follow.{after-net}

@@ -18,10 +18,9 @@ use Rattle.text_grammar.specs.Steps.{ending, lineEnd, lineAt}
 use Rattle.text_grammar.proofs.Left.{Left, text-left, text-fails, text-goes-on, text-ends}
 use Rattle.chip_text.specs.declared.ChipWord.the-variants as word
 use Rattle.chip_text.specs.Words.{chipWords}
-use Rattle.chip_words.specs.declared.ChipLast.the-variants as last
-use Rattle.chip_words.specs.Meant.{lastOf}
+use Rattle.chip_text.specs.declared.ChipLast.the-variants as last
+use Rattle.chip_text.specs.Tests.{lastOf}
 use Rattle.chip_text.specs.Kind.{start, chipKind, Part}
-use Rattle.chip_text.proofs.ReadText.{too-long}
 use Rattle.chip_text.specs.Text.{readChip}
 use Rattle.chip_read.specs.declared.State.{State}
 use Rattle.text_line.specs.declared.Fault.the-variants as held
@@ -35,16 +34,13 @@ refuses r f read e q = rw (e, ← q) (record { meant = refl; whole = refl })
 
 -- ---- before the first line
 
-pub too-long-read : (text : List ℕ) → 16384 < length text → (r : ChipRead) → r ≡ refusedAt (record { no = 1; line = 0 }) → ReadOk (readChip text) r
-too-long-read text h r e = refuses r (record { no = 1; line = 0 }) (readChip text) e (too-long text h)
-
 abbrev empty : HeldChip → State
 empty c = record { last = last.Before; pins = 0; chip = c }
 
 module _ (c : HeldChip) (e : c ≡ heldChip (start .chip)) where
-  pub all-left : (text : List ℕ) → length text ≤ 16384 → Left chipKind start text (partOf (empty c)) 0 1
+  pub all-left : (text : List ℕ) → length text ≤ 16384 → (l : ℕ) → l ≡ 1 → Left chipKind start text (partOf (empty c)) 0 l
   unfolding chipOf firstOf netsOf
-  all-left text h = rw e (text-left chipKind start text h)
+  all-left text h l q = rw (q, e) (text-left chipKind start text h)
 
   pub empty-sound : Sound (empty c)
   unfolding firstOf taken flatMap

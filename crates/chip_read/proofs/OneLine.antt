@@ -10,6 +10,7 @@ use Rattle.text_grammar.specs.Steps.{Entered, ReadAs}
 use Rattle.text_line.specs.declared.Spelling.{Spelling}
 use Rattle.text_line.specs.declared.Layout.{Layout}
 use Rattle.text_line.specs.declared.Fault.the-variants as fault
+use Rattle.text_walk.specs.declared.Tests.{Tests}
 use Rattle.text_walk.specs.declared.LineWalked.{LineWalked}
 use Rattle.text_walk.specs.Walk.{walkLine, WalkOk}
 use Rattle.text_walk.proofs.Means.{TableOf, FaultsOf, walked-stops, walked-entered, walked-read, walked-adds}
@@ -17,14 +18,15 @@ use Rattle.chip_text.specs.declared.ChipWord.{ChipWord}
 use Rattle.chip_text.specs.declared.ChipWord.the-variants as word
 use Rattle.chip_text.specs.Words.{chipWords}
 use Rattle.chip_text.specs.Kind.{chipKind, add}
-use Rattle.chip_words.specs.Meant.{lastOf, chipSpellings, chipLayouts, chipFaults}
+use Rattle.chip_text.specs.Tests.{lastOf}
+use Rattle.chip_words.specs.Meant.{chipSpellings, chipLayouts, chipTests}
 use Rattle.chip_words.proofs.Table.{table-of, faults-of}
 use Rattle.chip_read.specs.declared.State.{State}
 use Rattle.chip_read.specs.declared.Taken.{Taken}
 use Rattle.chip_read.specs.State.{Sound, partOf, chipValues, withFault, TakenOk}
 use Rattle.chip_read.proofs.Room.{held-counts}
 
-module _ (s : State) (sound : Sound s) (ps : List Spelling) (ys : List Layout) (fs : List ℕ) (es : ps ≡ chipSpellings) (el : ys ≡ chipLayouts) (ef : fs ≡ chipFaults (lastOf (s .last)) (record { fixes = s .chip .k; macs = s .chip .n; nets = s .chip .t; pins = s .pins })) (l : ℕ) (x : Line) (w : LineWalked) (ok : WalkOk ys l (walkLine ps ys 6 fs l x) w) (r : Taken) where
+module _ (s : State) (sound : Sound s) (ps : List Spelling) (ys : List Layout) (fs : Tests) (es : ps ≡ chipSpellings) (el : ys ≡ chipLayouts) (ef : fs ≡ chipTests (lastOf (s .last)) (record { fixes = s .chip .k; macs = s .chip .n; nets = s .chip .t; pins = s .pins })) (l : ℕ) (x : Line) (w : LineWalked) (ok : WalkOk ys l (walkLine ps ys 6 fs l x) w) (r : Taken) where
   table : TableOf chipKind word.Die ps ys 6
   table = table-of ps ys es el
 

@@ -22,7 +22,7 @@ use Rattle.model.specs.Step.{Step, fault}
 use Rattle.text_grammar.specs.Steps.{Entered}
 use Rattle.chip_read.proofs.MadeOf.{the-pin}
 use Rattle.chip_text.specs.declared.ChipWord.the-variants as word
-use Rattle.chip_words.specs.declared.ChipLast.the-variants as last
+use Rattle.chip_text.specs.declared.ChipLast.the-variants as last
 use Rattle.chip_text.specs.Kind.{Part, chipKind, add, addPin, readTo, withPin}
 use Rattle.chip_text.specs.Faults.{macroFault}
 use Rattle.chip_text.proofs.Faults.{pin-adds}

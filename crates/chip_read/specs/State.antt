@@ -19,8 +19,8 @@ use Rattle.chip_text.specs.declared.ChipWord.{ChipWord}
 use Rattle.chip_text.specs.declared.ChipWord.the-variants as word
 use Rattle.chip_text.specs.Words.{form, chipWords}
 use Rattle.chip_text.specs.Kind.{Part, start}
-use Rattle.chip_words.specs.declared.ChipLast.the-variants as last
-use Rattle.chip_words.specs.Meant.{lastOf}
+use Rattle.chip_text.specs.declared.ChipLast.the-variants as last
+use Rattle.chip_text.specs.Tests.{lastOf}
 use Rattle.chip_read.specs.declared.ChipAnswer.the-variants as answer
 use Rattle.chip_read.specs.declared.ChipRead.{ChipRead}
 use Rattle.chip_read.specs.Answer.{meantChip, chipAnswer}

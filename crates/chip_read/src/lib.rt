@@ -1,7 +1,7 @@
 // Reading a chip from its text.
+use chip_text::ChipLast;
 use chip_text::ChipWord;
-use chip_words::ChipLast;
-use chip_words::Counts;
+use chip_text::Counts;
 use model::Chip;
 use model::Die;
 use model::DieMade;
@@ -247,10 +247,10 @@ fn next_line(text: &[u8], a: usize, s: State, line: usize) -> Taken
         nets: s.chip.t,
         pins: s.pins,
     };
-    let faults = chip_words::entry_faults(last, held);
+    let tests = chip_words::entry_tests(last, held);
     let spellings = chip_words::spellings();
     let layouts = chip_words::layouts();
-    let walked = text_walk::next_line(text, a, spellings, layouts, chip_words::COUNT, faults, line);
+    let walked = text_walk::next_line(text, a, spellings, layouts, chip_words::COUNT, tests, line);
     let fault = walked.fault;
     let values = walked.values;
     match fault {
@@ -276,7 +276,7 @@ fn finish(s: State, line: usize) -> ChipRead
 {
     let last = s.last;
     let chip = s.chip;
-    if !chip_words::is_last(last, ChipWord::End) {
+    if !chip_text::is_over(last) {
         return refused(Refusal { no: 5, line });
     }
     ChipRead {
@@ -296,7 +296,7 @@ fn read_lines(text: &[u8]) -> ChipRead
         chip: blank_chip(),
     };
     let mut a: usize = 0;
-    let mut line: usize = 1;
+    let mut line = text_grammar::first_line();
     while a < text.len() {
         let e = text_line::line_end(text, a);
         let taken = next_line(text, a, s, line);
@@ -320,8 +320,9 @@ pub fn read_chip(text: &[u8]) -> ChipRead
     ensures { λ r. ⌜ meantChip r ≡ readChip (now (text .entry)) ⌝ }
     ensures { λ r. ⌜ r ≡ chipAnswer (readChip (now (text .entry))) ⌝ }
 {
-    if TEXT_MOST < text.len() {
-        return refused(Refusal { no: 1, line: 0 });
+    let no = text_grammar::length_fault(text.len(), TEXT_MOST);
+    if no != 0 {
+        return refused(Refusal { no, line: 0 });
     }
     read_lines(text)
 }

@@ -16,3 +16,4 @@ pub mod HeldChip
 pub mod Passing
 pub mod Numbers
 pub mod Faults
+pub mod Tests

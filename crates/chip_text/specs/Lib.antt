@@ -4,3 +4,4 @@ pub mod Text
 pub mod Valid
 pub mod Passed
 pub mod Faults
+pub mod Tests

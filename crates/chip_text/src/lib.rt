@@ -1,10 +1,17 @@
-// What the text of a chip means, and that a chip has one text; and the last tests of a line, which reading and testing share.
+// What the text of a chip means, and that a chip has one text; and the tests of a line before its fields and after them.
 use model::Die;
 use model::Fix;
+use model::Mac;
+use model::Net;
+use model::Pin;
+use text_grammar::WORDS;
 ghost use mathlib.Core.Path.{_≡_};
 ghost use mathlib.Core.List.{map};
 ghost use lib.ListN.{take};
 ghost use Rattle.geometry.specs.Box.{boxOf, clearOf};
+ghost use Rattle.text_grammar.specs.Reading.{isLast};
+ghost use Rattle.chip_text.specs.Words.{chipWords};
+ghost use Rattle.chip_text.specs.Tests.{lastOf, countsIn, chipPlaces, chipRooms, chipPinned};
 ghost use Rattle.chip_text.specs.Faults.{placedFault, macroFault};
 
 // The words of chip files.
@@ -15,6 +22,84 @@ pub enum ChipWord {
     Net,
     Pin,
     End,
+}
+
+// The word of the last line, or that there was none yet.
+pub enum ChipLast {
+    Before,
+    After(ChipWord),
+}
+
+// How many fixes, macros, nets and pins have been read.
+pub struct Counts {
+    pub fixes: usize,
+    pub macs: usize,
+    pub nets: usize,
+    pub pins: usize,
+}
+
+// The tests before the fields of a line are tables with an entry for each word: die, fix, mac, net, pin, end, and two more.
+
+// Place: the words that may stand after the last word.
+pub fn places(last: ChipLast) -> [bool; WORDS]
+    ensures { λ r. ⌜ r ≡ chipPlaces (lastOf last) ⌝ }
+{
+    let ChipLast::After(v) = last else {
+        return [true, false, false, false, false, false, false, false];
+    };
+    match v {
+        ChipWord::Die => [false, true, true, true, false, true, false, false],
+        ChipWord::Fix => [false, true, true, true, false, true, false, false],
+        ChipWord::Mac => [false, false, true, true, false, true, false, false],
+        ChipWord::Net => [false, false, false, true, true, true, false, false],
+        ChipWord::Pin => [false, false, false, true, true, true, false, false],
+        ChipWord::End => [false, false, false, false, false, false, false, false],
+    }
+}
+
+// Count: the words that there is room for one more of.
+pub fn rooms(held: Counts) -> [bool; WORDS]
+    ensures { λ r. ⌜ r ≡ chipRooms (countsIn held) ⌝ }
+{
+    let fix = held.fixes < Fix::COUNT;
+    let mac = held.macs < Mac::COUNT;
+    let net = held.nets < Net::COUNT;
+    let pin = held.pins < Pin::COUNT;
+    [true, fix, mac, net, pin, true, true, true]
+}
+
+// The words that may stand here for the net above: after a net a pin alone.
+pub fn pinned(last: ChipLast) -> [bool; WORDS]
+    ensures { λ r. ⌜ r ≡ chipPinned (lastOf last) ⌝ }
+{
+    let ChipLast::After(v) = last else {
+        return [true; WORDS];
+    };
+    match v {
+        ChipWord::Die => [true; WORDS],
+        ChipWord::Fix => [true; WORDS],
+        ChipWord::Mac => [true; WORDS],
+        ChipWord::Net => [false, false, false, false, true, false, true, true],
+        ChipWord::Pin => [true; WORDS],
+        ChipWord::End => [true; WORDS],
+    }
+}
+
+// Whether the last line is `end`.
+pub fn is_over(last: ChipLast) -> bool
+    ensures { λ r. ⌜ r ≡ isLast chipWords (lastOf last) ChipWord.End ⌝ }
+{
+    let ChipLast::After(v) = last else {
+        return false;
+    };
+    match v {
+        ChipWord::Die => false,
+        ChipWord::Fix => false,
+        ChipWord::Mac => false,
+        ChipWord::Net => false,
+        ChipWord::Pin => false,
+        ChipWord::End => true,
+    }
 }
 
 // Whether a fix overlaps none of the first k fixes.

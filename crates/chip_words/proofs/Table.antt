@@ -1,5 +1,6 @@
 -- The tables of the words of chips, as the walk takes them.
 use mathlib.Core.Path.{_≡_, refl, sym, subst, _∙_}
+use mathlib.Core.Bool.{Bool}
 use mathlib.Core.List.{List, [], _∷_}
 use Prim.Native.Nat.{ℕ, zero, suc, _≤_, _<_}
 use native.Mathlib.Omega.{arith}
@@ -10,16 +11,17 @@ use Rattle.text_line.specs.declared.Spelling.{Spelling}
 use Rattle.text_line.specs.declared.Layout.{Layout}
 use Rattle.text_line.specs.Held.{spelled}
 use Rattle.text_line.specs.Layout.{layoutFor}
-use Rattle.text_walk.specs.Walk.{blankLayout}
+use Rattle.text_walk.specs.declared.Tests.{Tests}
+use Rattle.text_walk.specs.Walk.{blankLayout, faultAt}
 use Rattle.text_walk.proofs.Means.{TableOf, FaultsOf}
 use Rattle.chip_text.specs.declared.ChipWord.{ChipWord}
 use Rattle.chip_text.specs.declared.ChipWord.the-variants as word
 use Rattle.chip_text.specs.Words.{spell, form, chipWords}
 use Rattle.chip_text.specs.Kind.{Part, Counts, countsOf, chipKind}
 use Rattle.text_grammar.specs.Reading.{Last}
-use Rattle.chip_words.specs.Meant.{chipEntry, chipSpellings, chipLayouts, chipFaults}
+use Rattle.chip_text.specs.Tests.{chipPlaces, chipRooms, chipPinned}
+use Rattle.chip_words.specs.Meant.{chipSpellings, chipLayouts, chipTests}
 use Rattle.chip_words.proofs.Words.{laying}
-use Rattle.chip_words.proofs.Entry.{entry-is}
 
 pub all-spelled : (z a b c e f g : Spelling) → z ≡ spelled [] → a ≡ spelled (spell word.Die) → b ≡ spelled (spell word.Fix) → c ≡ spelled (spell word.Mac) → e ≡ spelled (spell word.Net) → f ≡ spelled (spell word.Pin) → g ≡ spelled (spell word.End) → (a ∷ b ∷ c ∷ e ∷ f ∷ g ∷ z ∷ z ∷ []) ≡ chipSpellings
 all-spelled z a b c e f g ez ea eb ec ee ef eg = rw (ez, ea, eb, ec, ee, ef, eg)
@@ -27,8 +29,8 @@ all-spelled z a b c e f g ez ea eb ec ee ef eg = rw (ez, ea, eb, ec, ee, ef, eg)
 pub all-laid : (z a b c e f g : Layout) → z ≡ layoutFor over → a ≡ layoutFor (form word.Die) → b ≡ layoutFor (form word.Fix) → c ≡ layoutFor (form word.Mac) → e ≡ layoutFor (form word.Net) → f ≡ layoutFor (form word.Pin) → g ≡ layoutFor (form word.End) → (a ∷ b ∷ c ∷ e ∷ f ∷ g ∷ z ∷ z ∷ []) ≡ chipLayouts
 all-laid z a b c e f g ez ea eb ec ee ef eg = rw (ez, ea, eb, ec, ee, ef, eg)
 
-pub all-tested : (l : Last ChipWord) (c : Counts) (a b k e f g : ℕ) → a ≡ chipEntry l c word.Die → b ≡ chipEntry l c word.Fix → k ≡ chipEntry l c word.Mac → e ≡ chipEntry l c word.Net → f ≡ chipEntry l c word.Pin → g ≡ chipEntry l c word.End → (a ∷ b ∷ k ∷ e ∷ f ∷ g ∷ 0 ∷ 0 ∷ []) ≡ chipFaults l c
-all-tested l c a b k e f g ea eb ec ee ef eg = rw (ea, eb, ec, ee, ef, eg)
+pub all-tests : (l : Last ChipWord) (c : Counts) (ps rs qs : List Bool) → ps ≡ chipPlaces l → rs ≡ chipRooms c → qs ≡ chipPinned l → record { placed = ps; room = rs; pinned = qs } ≡ chipTests l c
+all-tests l c ps rs qs ep er eq = rw (ep, er, eq)
 
 -- past the last word stands the first
 pub past-last : (i : ℕ) → 6 ≤ i → word.Die ≡ getD (chipWords .all) i word.Die
@@ -52,17 +54,19 @@ table-of ps ys e q = rw (e, q) (record { spells = refl; laid = by; lays = laying
     by (suc (suc (suc (suc (suc zero))))) h = refl
     by (suc (suc (suc (suc (suc (suc i)))))) h = absurd (omega arith)
 
-pub faults-of : (s : Part) (l : Last ChipWord) (c : Counts) → l ≡ s .last → c ≡ countsOf (s .chip) → (fs : List ℕ) → fs ≡ chipFaults l c → FaultsOf chipKind word.Die s fs
-faults-of s l c p q fs e = subst (λ (x : List ℕ). FaultsOf chipKind word.Die s x) (sym (e ∙ same)) (record { at = by })
-  where
-    same : chipFaults l c ≡ chipFaults (s .last) (countsOf (s .chip))
-    same = rw (p, q)
+-- the tests of word i
+fault-is : (s : Part) (i : ℕ) → i < 6 → faultAt (chipTests (s .last) (countsOf (s .chip))) i ≡ entryFault chipKind s (getD (chipWords .all) i word.Die)
+unfolding chipPlaces chipRooms chipPinned entryFault
+fault-is s zero h = refl
+fault-is s (suc zero) h = refl
+fault-is s (suc (suc zero)) h = refl
+fault-is s (suc (suc (suc zero))) h = refl
+fault-is s (suc (suc (suc (suc zero)))) h = refl
+fault-is s (suc (suc (suc (suc (suc zero))))) h = refl
+fault-is s (suc (suc (suc (suc (suc (suc i)))))) h = absurd (omega arith)
 
-    by : (i : ℕ) → i < 6 → getD (chipFaults (s .last) (countsOf (s .chip))) i 0 ≡ entryFault chipKind s (getD (chipWords .all) i word.Die)
-    by zero h = entry-is s word.Die
-    by (suc zero) h = entry-is s word.Fix
-    by (suc (suc zero)) h = entry-is s word.Mac
-    by (suc (suc (suc zero))) h = entry-is s word.Net
-    by (suc (suc (suc (suc zero)))) h = entry-is s word.Pin
-    by (suc (suc (suc (suc (suc zero))))) h = entry-is s word.End
-    by (suc (suc (suc (suc (suc (suc i)))))) h = absurd (omega arith)
+pub faults-of : (s : Part) (l : Last ChipWord) (c : Counts) → l ≡ s .last → c ≡ countsOf (s .chip) → (fs : Tests) → fs ≡ chipTests l c → FaultsOf chipKind word.Die s fs
+faults-of s l c p q fs e = subst (λ (x : Tests). FaultsOf chipKind word.Die s x) (sym (e ∙ same)) (record { at = fault-is s })
+  where
+    same : chipTests l c ≡ chipTests (s .last) (countsOf (s .chip))
+    same = rw (p, q)

@@ -13,7 +13,7 @@ use Rattle.text_grammar.specs.Steps.{Entered}
 use Rattle.text_grammar.proofs.Entry.{in-place, has-room}
 use Rattle.record_text.specs.declared.RecordWord.the-variants as word
 use Rattle.record_text.specs.Kind.{recordKind, spotsOf}
-use Rattle.record_words.specs.Meant.{lastOf}
+use Rattle.record_text.specs.Tests.{lastOf}
 use Rattle.record_read.specs.declared.State.{State}
 use Rattle.record_read.specs.State.{resultOf, partOf, Sound}
 use Rattle.record_read.proofs.Follow.{after-least}

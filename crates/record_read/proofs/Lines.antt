@@ -16,11 +16,11 @@ use Rattle.model.proofs.FirstOf.{length-first}
 use Rattle.model.proofs.Holding.{holds-all, holds-none, filled-again}
 use Rattle.text_grammar.specs.Reading.{Reading, refused, isLast, stepLine, partRead}
 use Rattle.text_grammar.specs.Steps.{ending, lineEnd, lineAt}
-use Rattle.text_grammar.proofs.Left.{Left, text-fails, text-goes-on, text-ends}
+use Rattle.text_grammar.proofs.Left.{Left, text-left, text-fails, text-goes-on, text-ends}
 use Rattle.record_text.specs.declared.RecordWord.the-variants as word
 use Rattle.record_text.specs.Words.{recordWords}
-use Rattle.record_words.specs.declared.RecordLast.the-variants as last
-use Rattle.record_words.specs.Meant.{lastOf}
+use Rattle.record_text.specs.declared.RecordLast.the-variants as last
+use Rattle.record_text.specs.Tests.{lastOf}
 use Rattle.record_text.specs.Kind.{start, recordKind, Part}
 use Rattle.record_text.specs.Text.{readRecord}
 use Rattle.record_read.specs.declared.State.{State}
@@ -38,6 +38,9 @@ refuses r f read e q = rw (e, ← q) (record { meant = refl; whole = refl })
 module _ (ps : List Spot) (e : ps ≡ replicate 8 blankSpot) where
   pub empty-sound : Sound (record { last = last.Before; found = false; wl = 0; count = 0; spots = ps })
   empty-sound = record { spots = rw e (holds-none blankSpot mostMacs); blank = λ f. refl; opened = λ o. absurd (false≢true o) }
+
+pub all-left : (text : List ℕ) → length text ≤ 16384 → (l : ℕ) → l ≡ 1 → Left recordKind start text start 0 l
+all-left text h l q = rw q (text-left recordKind start text h)
 
 -- ---- a line
 

@@ -10,6 +10,7 @@ use Rattle.text_grammar.specs.Steps.{Entered, ReadAs}
 use Rattle.text_line.specs.declared.Spelling.{Spelling}
 use Rattle.text_line.specs.declared.Layout.{Layout}
 use Rattle.text_line.specs.declared.Fault.the-variants as fault
+use Rattle.text_walk.specs.declared.Tests.{Tests}
 use Rattle.text_walk.specs.declared.LineWalked.{LineWalked}
 use Rattle.text_walk.specs.Walk.{walkLine, WalkOk}
 use Rattle.text_walk.proofs.Means.{TableOf, FaultsOf, walked-stops, walked-entered, walked-read, walked-adds}
@@ -17,7 +18,8 @@ use Rattle.record_text.specs.declared.RecordWord.{RecordWord}
 use Rattle.record_text.specs.declared.RecordWord.the-variants as word
 use Rattle.record_text.specs.Words.{recordWords}
 use Rattle.record_text.specs.Kind.{recordKind, add}
-use Rattle.record_words.specs.Meant.{lastOf, recordSpellings, recordLayouts, recordFaults}
+use Rattle.record_text.specs.Tests.{lastOf}
+use Rattle.record_words.specs.Meant.{recordSpellings, recordLayouts, recordTests}
 use Rattle.record_words.proofs.Table.{table-of, faults-of}
 use Rattle.record_read.specs.declared.State.{State}
 use Rattle.record_read.specs.declared.Taken.{Taken}
@@ -25,7 +27,7 @@ use Rattle.record_read.specs.State.{Sound, partOf, recordValues, withFau
 use Rattle.record_read.proofs.Entry.{count-meant}
 use mathlib.Core.Path.{sym}
 
-module _ (s : State) (sound : Sound s) (ps : List Spelling) (ys : List Layout) (fs : List ℕ) (es : ps ≡ recordSpellings) (el : ys ≡ recordLayouts) (ef : fs ≡ recordFaults (lastOf (s .last)) (s .count)) (l : ℕ) (x : Line) (w : LineWalked) (ok : WalkOk ys l (walkLine ps ys 4 fs l x) w) (r : Taken) where
+module _ (s : State) (sound : Sound s) (ps : List Spelling) (ys : List Layout) (fs : Tests) (es : ps ≡ recordSpellings) (el : ys ≡ recordLayouts) (ef : fs ≡ recordTests (lastOf (s .last)) (s .count)) (l : ℕ) (x : Line) (w : LineWalked) (ok : WalkOk ys l (walkLine ps ys 4 fs l x) w) (r : Taken) where
   table : TableOf recordKind word.Least ps ys 4
   table = table-of ps ys es el
 

@@ -20,7 +20,7 @@ use Rattle.record_text.specs.declared.RecordWord.{RecordWord}
 use Rattle.record_text.specs.declared.RecordWord.the-variants as word
 use Rattle.record_text.specs.Words.{form, recordWords}
 use Rattle.record_text.specs.Kind.{Part}
-use Rattle.record_words.specs.Meant.{lastOf}
+use Rattle.record_text.specs.Tests.{lastOf}
 use Rattle.record_read.specs.declared.RecordAnswer.the-variants as answer
 use Rattle.record_read.specs.declared.RecordRead.{RecordRead}
 use Rattle.record_read.specs.Answer.{meantRecord, recordAnswer}

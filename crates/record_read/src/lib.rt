@@ -6,8 +6,8 @@ use model::Refusal;
 use model::Spot;
 use model::SpotMade;
 use model::TEXT_MOST;
+use record_text::RecordLast;
 use record_text::RecordWord;
-use record_words::RecordLast;
 use text_line::Fault;
 ghost use mathlib.Core.Path.{_≡_};
 ghost use Prim.Native.Nat.{_≤_, _<_};
@@ -111,8 +111,9 @@ fn add_at(s: State, v: [u64; 4], line: usize) -> Taken
 {
     let m = v[0] as usize;
     let n = s.count;
-    if m != n + 1 {
-        return with_fault(s, Refusal { no: 8, line });
+    let no = record_text::turn_fault(n, m);
+    if no != 0 {
+        return with_fault(s, Refusal { no, line });
     }
     let SpotMade::Made(p) = Spot::new(v[1], v[2]) else {
         return with_fault(s, Refusal { no: 4, line });
@@ -170,7 +171,7 @@ fn next_line(text: &[u8], a: usize, s: State, line: usize) -> Taken
     ensures { λ r. ⌜ TakenOk r line (stepLine recordKind (partOf s) (lineAt (now (text .entry)) a (lineEnd (now (text .entry)) a))) ⌝ }
 {
     let last = s.last;
-    let faults = record_words::entry_faults(last, s.count);
+    let tests = record_words::entry_tests(last, s.count);
     let spellings = record_words::spellings();
     let layouts = record_words::layouts();
     let walked = text_walk::next_line(
@@ -179,7 +180,7 @@ fn next_line(text: &[u8], a: usize, s: State, line: usize) -> Taken
         spellings,
         layouts,
         record_words::COUNT,
-        faults,
+        tests,
         line,
     );
     let fault = walked.fault;
@@ -228,7 +229,7 @@ fn finish(s: State, line: usize) -> RecordRead
     ensures { λ r. ⌜ ReadOk (partRead (λ (s : Part). s .result) (ending recordKind (partOf s) line)) r ⌝ }
 {
     let last = s.last;
-    if !record_words::is_last(last, RecordWord::Done) {
+    if !record_text::is_over(last) {
         return refused(Refusal { no: 5, line });
     }
     RecordRead {
@@ -251,7 +252,7 @@ fn read_lines(text: &[u8]) -> RecordRead
         spots,
     };
     let mut a: usize = 0;
-    let mut line: usize = 1;
+    let mut line = text_grammar::first_line();
     while a < text.len() {
         let e = text_line::line_end(text, a);
         let taken = next_line(text, a, s, line);
@@ -275,8 +276,9 @@ pub fn read_record(text: &[u8]) -> RecordRead
     ensures { λ r. ⌜ meantRecord r ≡ readRecord (now (text .entry)) ⌝ }
     ensures { λ r. ⌜ r ≡ recordAnswer (readRecord (now (text .entry))) ⌝ }
 {
-    if TEXT_MOST < text.len() {
-        return refused(Refusal { no: 1, line: 0 });
+    let no = text_grammar::length_fault(text.len(), TEXT_MOST);
+    if no != 0 {
+        return refused(Refusal { no, line: 0 });
     }
     read_lines(text)
 }

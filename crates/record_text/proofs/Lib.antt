@@ -7,3 +7,4 @@ pub mod ReadText
 pub mod TextRead
 pub mod Numbers
 pub mod Short
+pub mod Tests

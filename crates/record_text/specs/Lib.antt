@@ -1,3 +1,4 @@
 pub mod Words
 pub mod Kind
 pub mod Text
+pub mod Tests

@@ -1,5 +1,6 @@
 -- The tables of the words of records, as the walk takes them.
 use mathlib.Core.Path.{_≡_, refl, sym, subst, _∙_}
+use mathlib.Core.Bool.{Bool, true}
 use mathlib.Core.List.{List, [], _∷_}
 use Prim.Native.Nat.{ℕ, zero, suc, _≤_, _<_}
 use native.Mathlib.Omega.{arith}
@@ -10,16 +11,17 @@ use Rattle.text_line.specs.declared.Spelling.{Spelling}
 use Rattle.text_line.specs.declared.Layout.{Layout}
 use Rattle.text_line.specs.Held.{spelled}
 use Rattle.text_line.specs.Layout.{layoutFor}
-use Rattle.text_walk.specs.Walk.{blankLayout}
+use Rattle.text_walk.specs.declared.Tests.{Tests}
+use Rattle.text_walk.specs.Walk.{blankLayout, faultAt}
 use Rattle.text_walk.proofs.Means.{TableOf, FaultsOf}
 use Rattle.record_text.specs.declared.RecordWord.{RecordWord}
 use Rattle.record_text.specs.declared.RecordWord.the-variants as word
 use Rattle.record_text.specs.Words.{spell, form, recordWords}
 use Rattle.record_text.specs.Kind.{Part, spotsOf, recordKind}
 use Rattle.text_grammar.specs.Reading.{Last}
-use Rattle.record_words.specs.Meant.{recordEntry, recordSpellings, recordLayouts, recordFaults}
+use Rattle.record_text.specs.Tests.{recordPlaces, recordRooms}
+use Rattle.record_words.specs.Meant.{recordSpellings, recordLayouts, recordTests}
 use Rattle.record_words.proofs.Words.{laying}
-use Rattle.record_words.proofs.Entry.{entry-is}
 
 pub all-spelled : (z a b c e : Spelling) → z ≡ spelled [] → a ≡ spelled (spell word.Least) → b ≡ spelled (spell word.None) → c ≡ spelled (spell word.At) → e ≡ spelled (spell word.Done) → (a ∷ b ∷ c ∷ e ∷ z ∷ z ∷ z ∷ z ∷ []) ≡ recordSpellings
 all-spelled z a b c e ez ea eb ec ee = rw (ez, ea, eb, ec, ee)
@@ -27,8 +29,8 @@ all-spelled z a b c e ez ea eb ec ee = rw (ez, ea, eb, ec, ee)
 pub all-laid : (z a b c e : Layout) → z ≡ layoutFor over → a ≡ layoutFor (form word.Least) → b ≡ layoutFor (form word.None) → c ≡ layoutFor (form word.At) → e ≡ layoutFor (form word.Done) → (a ∷ b ∷ c ∷ e ∷ z ∷ z ∷ z ∷ z ∷ []) ≡ recordLayouts
 all-laid z a b c e ez ea eb ec ee = rw (ez, ea, eb, ec, ee)
 
-pub all-tested : (l : Last RecordWord) (n : ℕ) (a b k e : ℕ) → a ≡ recordEntry l n word.Least → b ≡ recordEntry l n word.None → k ≡ recordEntry l n word.At → e ≡ recordEntry l n word.Done → (a ∷ b ∷ k ∷ e ∷ 0 ∷ 0 ∷ 0 ∷ 0 ∷ []) ≡ recordFaults l n
-all-tested l n a b k e ea eb ec ee = rw (ea, eb, ec, ee)
+pub all-tests : (l : Last RecordWord) (n : ℕ) (ps rs : List Bool) → ps ≡ recordPlaces l → rs ≡ recordRooms n → record { placed = ps; room = rs; pinned = true ∷ true ∷ true ∷ true ∷ true ∷ true ∷ true ∷ true ∷ [] } ≡ recordTests l n
+all-tests l n ps rs ep er = rw (ep, er)
 
 -- past the last word stands the first
 pub past-last : (i : ℕ) → 4 ≤ i → word.Least ≡ getD (recordWords .all) i word.Least
@@ -48,15 +50,17 @@ table-of ps ys e q = rw (e, q) (record { spells = refl; laid = by; lays = laying
     by (suc (suc (suc zero))) h = refl
     by (suc (suc (suc (suc i)))) h = absurd (omega arith)
 
-pub faults-of : (s : Part) (l : Last RecordWord) (n : ℕ) → l ≡ s .last → n ≡ length (spotsOf (s .result)) → (fs : List ℕ) → fs ≡ recordFaults l n → FaultsOf recordKind word.Least s fs
-faults-of s l n p q fs e = subst (λ (x : List ℕ). FaultsOf recordKind word.Least s x) (sym (e ∙ same)) (record { at = by })
-  where
-    same : recordFaults l n ≡ recordFaults (s .last) (length (spotsOf (s .result)))
-    same = rw (p, q)
+-- the tests of word i
+fault-is : (s : Part) (i : ℕ) → i < 4 → faultAt (recordTests (s .last) (length (spotsOf (s .result)))) i ≡ entryFault recordKind s (getD (recordWords .all) i word.Least)
+unfolding recordPlaces recordRooms entryFault
+fault-is s zero h = refl
+fault-is s (suc zero) h = refl
+fault-is s (suc (suc zero)) h = refl
+fault-is s (suc (suc (suc zero))) h = refl
+fault-is s (suc (suc (suc (suc i)))) h = absurd (omega arith)
 
-    by : (i : ℕ) → i < 4 → getD (recordFaults (s .last) (length (spotsOf (s .result)))) i 0 ≡ entryFault recordKind s (getD (recordWords .all) i word.Least)
-    by zero h = entry-is s word.Least
-    by (suc zero) h = entry-is s word.None
-    by (suc (suc zero)) h = entry-is s word.At
-    by (suc (suc (suc zero))) h = entry-is s word.Done
-    by (suc (suc (suc (suc i)))) h = absurd (omega arith)
+pub faults-of : (s : Part) (l : Last RecordWord) (n : ℕ) → l ≡ s .last → n ≡ length (spotsOf (s .result)) → (fs : Tests) → fs ≡ recordTests l n → FaultsOf recordKind word.Least s fs
+faults-of s l n p q fs e = subst (λ (x : Tests). FaultsOf recordKind word.Least s x) (sym (e ∙ same)) (record { at = fault-is s })
+  where
+    same : recordTests l n ≡ recordTests (s .last) (length (spotsOf (s .result)))
+    same = rw (p, q)

@@ -12,6 +12,7 @@ pub mod LineAt
 pub mod Left
 pub mod Fit
 pub mod Entry
+pub mod Most
 pub mod OneLine
 pub mod Lengths
 pub mod Numbers

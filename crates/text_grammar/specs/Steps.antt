@@ -15,6 +15,13 @@ abbrev pub need : Bool → ℕ → ℕ → ℕ
 need true n more = more
 need false n more = n
 
+-- the first fault before the fields of a line, by its tests, or 0: place 5, count 6, a net without a pin 7
+unfoldable pub entryBy : Bool → Bool → Bool → ℕ
+entryBy placed room pinned =
+    need placed 5
+    (need room 6
+    (need pinned 7 0))
+
 module _ {W S : Type 0} (k : Kind W S) (s : S) (w : W) where
   -- the word w may stand here: place
   abbrev pub inPlace : Bool
@@ -29,10 +36,7 @@ module _ {W S : Type 0} (k : Kind W S) (s : S) (w : W) where
 
   -- the first fault before the fields of a line with a known word, or 0
   unfoldable pub entryFault : ℕ
-  entryFault =
-      need inPlace 5
-      (need (k .hasRoom s w) 6
-      (need (k .hasPin s w) 7 0))
+  entryFault = entryBy inPlace (k .hasRoom s w) (k .hasPin s w)
 
   -- w passes the tests before the fields
   pub record Entered : Type 0 where

@@ -1,1 +1,50 @@
-// What the lines of a text mean, for any kind of text: definitions and theorems.
+// The order of refusals of document 01 for any kind of text: what a text means, and the tests that every reader makes.
+ghost use mathlib.Core.Path.{_≡_};
+ghost use lib.Dec.{leb};
+ghost use Rattle.text_grammar.specs.Steps.{need, entryBy};
+
+// How many words a kind of text has at most.
+pub const WORDS: usize = 8;
+
+// The number of a text's first line.
+pub fn first_line() -> usize
+    ensures { λ r. ⌜ r ≡ 1 ⌝ }
+{
+    1
+}
+
+// The fault of a text of n bytes, where at most `most` are allowed: 1, or 0.
+pub fn length_fault(n: usize, most: usize) -> usize
+    ensures { λ r. ⌜ r ≡ need (leb n most) 1 0 ⌝ }
+{
+    if most < n {
+        return 1;
+    }
+    0
+}
+
+// The fault of a line of n bytes whose fields end at a: leftover bytes 2, or 0.
+pub fn rest_fault(n: usize, a: usize) -> usize
+    ensures { λ r. ⌜ r ≡ need (leb n a) 2 0 ⌝ }
+{
+    if a < n {
+        return 2;
+    }
+    0
+}
+
+// The first fault of a line before its fields, by the tests of place, count and pins: 5, 6, 7; or 0.
+pub fn entry_fault(placed: bool, room: bool, pinned: bool) -> usize
+    ensures { λ r. ⌜ r ≡ entryBy placed room pinned ⌝ }
+{
+    if !placed {
+        return 5;
+    }
+    if !room {
+        return 6;
+    }
+    if !pinned {
+        return 7;
+    }
+    0
+}

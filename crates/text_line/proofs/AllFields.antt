@@ -4,6 +4,7 @@ use mathlib.Core.List.{List, [], _∷_, _++_}
 use Prim.Native.Nat.{ℕ, zero, suc, _+_, _≤_, _<_}
 use native.Mathlib.Numerals.{add-one}
 use native.Mathlib.Omega.{arith}
+use lib.Dec.{leb}
 use lib.ListN.{length, getD, take, drop, set, replicate, drop-of-length-le}
 use lib.Seq.{drop-cons, take-all}
 use mathlib.Core.Bool.{Bool, not, true}
@@ -14,6 +15,8 @@ use Rattle.model.specs.Held.{filled, raised}
 use Rattle.model.proofs.FirstOf.{first-take}
 use Rattle.model.proofs.Holding.{holds-more, holds-none, holds-all, filled-again}
 use Rattle.model.proofs.HeldAgain.{raised-again}
+use Rattle.text_grammar.specs.Steps.{need}
+use Rattle.text_grammar.proofs.Most.{told-above, told-within}
 use Rattle.text_grammar.specs.Reading.{accepted, refused}
 use Rattle.model.specs.Step.{Step, next, fault}
 use Rattle.text_grammar.specs.Line.{Value, number, andThen, fields}
@@ -120,12 +123,17 @@ module _ (n : ℕ) (rs : List HeldRule) (text vs : List ℕ) (a j : ℕ) (inv : 
     no-rule : drop j (rulesOf n rs) ≡ []
     no-rule = let q = rules-length n rs ok all in drop-of-length-le (rulesOf n rs) {i = j} (omega arith)
 
-    pub bytes-left : a < length text → FieldsOk n rs l text (record { answer = held.Refused (record { no = 2; line = l }); values = 0 ∷ 0 ∷ 0 ∷ 0 ∷ [] })
-    unfolding fields chain
-    bytes-left g = refused-answer n rs l text (record { no = 2; line = l }) (rw (means, inv .kept, no-rule, drop-cons text a 0 g, prefixed-faulty))
+    -- by the fault of leftover bytes
+    module _ (f : ℕ) (left : f ≡ need (leb (length text) a) 2 0) where
+      pub bytes-left : (f ≡ 0 → ⊥) → FieldsOk n rs l text (record { answer = held.Refused (record { no = f; line = l }); values = 0 ∷ 0 ∷ 0 ∷ 0 ∷ [] })
+      unfolding fields chain
+      bytes-left z =
+          let g = told-above 2 (length text) a f left z in
+          refused-answer n rs l text (record { no = f; line = l }) (rw (g .0, means, inv .kept, no-rule, drop-cons text a 0 (g .1), prefixed-faulty))
 
-    pub all-read : j ≤ n → length text ≤ a → FieldsOk n rs l text (record { answer = held.Got; values = vs })
-    unfolding fields chain
-    all-read b g =
-        let q = ups-length n rs ok all in
-        got-answer n rs l text vs (subst (λ (k : ℕ). Holds 0 4 k vs) (omega arith) (inv .room)) (rw (means, inv .kept, no-rule, drop-of-length-le text g, prefixed-all, take-all j (upsOf n rs) (omega arith)))
+      pub all-read : j ≤ n → f ≡ 0 → FieldsOk n rs l text (record { answer = held.Got; values = vs })
+      unfolding fields chain
+      all-read b z =
+          let q = ups-length n rs ok all in
+          let g = told-within 2 (length text) a f left (λ e. omega arith) z in
+          got-answer n rs l text vs (subst (λ (k : ℕ). Holds 0 4 k vs) (omega arith) (inv .room)) (rw (means, inv .kept, no-rule, drop-of-length-le text g, prefixed-all, take-all j (upsOf n rs) (omega arith)))

@@ -1,7 +1,7 @@
 -- The test of a layout, in the form of the needs of its functions.
 use mathlib.Core.Path.{_≡_, _∙_}
 use mathlib.Core.Bool.{Bool, true, false, _&&_, not}
-use mathlib.Core.List.{List, [], _∷_}
+use mathlib.Core.List.{List}
 use Prim.Native.Nat.{ℕ, suc, _+_, _≤_, _<_}
 use native.Mathlib.Numerals.{add-one}
 use native.Mathlib.Omega.{arith}
@@ -68,6 +68,3 @@ module _ (bytes : List ℕ) (size : ℕ) (l : length bytes ≡ 5) where
 
   pub spelling-long : size ≤ 5 → size ≡ length (take size bytes)
   spelling-long h = rw length-take (omega arith)
-
-  pub whole-other : (s : List ℕ) (r : Bool) → 5 < size → r ≡ same s bytes → r ≡ same s (take size bytes)
-  whole-other s r h e = rw (take-all size bytes (omega arith)) e

@@ -1,6 +1,6 @@
 -- The range of a value, as held and as a number. A number that the reader has cut to its cap is out of every range.
 use mathlib.Core.Path.{_≡_, refl, sym, ap, _∙_}
-use mathlib.Core.Bool.{Bool, true, false, and-false, true≢false}
+use mathlib.Core.Bool.{Bool, true, false, not, and-false, true≢false}
 use mathlib.Core.List.{List}
 use Prim.Native.Nat.{ℕ, zero, suc, _+_, _-_, _≤_, _<_, min}
 use native.Mathlib.Decide.{decLe, decLt}
@@ -8,7 +8,7 @@ use native.Mathlib.Omega.{arith}
 use lib.Dec.{leb}
 use lib.IntN.{ℤ, pos, negsuc}
 use lib.Signed.{leZ}
-use borrow.Author.Tests.{le-leb, lt-leb, lt-ltb, le-ltb}
+use borrow.Author.Tests.{le-leb, lt-leb, lt-ltb, le-ltb, not-true, not-false}
 use Rattle.num_text.specs.declared.Number.the-variants as held
 use Rattle.num_text.specs.Number.{Numeral, number, noNumber}
 use Rattle.num_text.specs.Held.{cap, heldNumber}
@@ -23,15 +23,12 @@ use Rattle.text_line.specs.Held.{lowered}
 use Rattle.text_line.specs.Layout.{rangeOf}
 use Rattle.text_line.specs.Steps.{outOfRange, ifInRange, within}
 
-module _ (r : HeldRule) (v b l : ℕ) where
-  pub too-low : v < r .least → outOfRange l ≡ ifInRange (within r v) v b l
-  too-low h = rw (lt-leb _ _ h)
+module _ (r : HeldRule) (v b l : ℕ) (t : Bool) (e : t ≡ within r v) where
+  pub out-of-range : not t ≡ true → outOfRange l ≡ ifInRange (within r v) v b l
+  out-of-range h = rw (← e, not-true t h)
 
-  pub too-high : r .most < v → outOfRange l ≡ ifInRange (within r v) v b l
-  too-high h = rw (lt-leb v (r .most) h, and-false)
-
-  pub in-range : r .least ≤ v → v ≤ r .most → field.Value v b ≡ ifInRange (within r v) v b l
-  in-range h k = rw (le-leb _ _ h, le-leb _ _ k)
+  pub in-range : not t ≡ false → field.Value v b ≡ ifInRange (within r v) v b l
+  in-range h = rw (← e, not-false t h)
 
 -- ---- held values are ordered as the numbers are
 

@@ -108,16 +108,6 @@ pub fn spells(bytes: [u8; 5], size: usize, s: &[u8]) -> bool
     same_bytes(&bytes[..size], s)
 }
 
-// Whether two spellings, the first bytes of those given, are the same.
-pub fn same_spelling(a: [u8; 5], n: usize, b: [u8; 5], m: usize) -> bool
-    ensures { λ r. ⌜ r ≡ same (take n a) (take m b) ⌝ }
-{
-    if 5 < m {
-        return spells(a, n, &b);
-    }
-    spells(a, n, &b[..m])
-}
-
 // A field whose name is the byte `name`.
 pub fn short_rule(name: u8, up: u64, least: u64, most: u64) -> Rule
     ensures { λ r. ⌜ r ≡ shortRule name up least most ⌝ }
@@ -217,10 +207,7 @@ fn starts_at(text: &[u8], a: usize, mark: [u8; 4], size: usize) -> bool
 fn in_range(v: u64, b: usize, rule: Rule, line: usize) -> Field
     ensures { λ r. ⌜ r ≡ ifInRange (within rule v) v b line ⌝ }
 {
-    if v < rule.least {
-        return Field::Refused(Refusal { no: 4, line });
-    }
-    if rule.most < v {
+    if !model::within(v, rule.least, rule.most) {
         return Field::Refused(Refusal { no: 4, line });
     }
     Field::Value(v, b)
@@ -275,9 +262,10 @@ fn read_laid(text: &[u8], count: usize, rules: [Rule; 4], line: usize) -> Fields
             }
         }
     }
-    if a < text.len() {
+    let no = text_grammar::rest_fault(text.len(), a);
+    if no != 0 {
         return FieldsRead {
-            answer: Fields::Refused(Refusal { no: 2, line }),
+            answer: Fields::Refused(Refusal { no, line }),
             values: [0; 4],
         };
     }

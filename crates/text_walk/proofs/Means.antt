@@ -21,10 +21,11 @@ use Rattle.model.specs.declared.Refusal.{Refusal}
 use Rattle.text_line.specs.declared.Fault.the-variants as held
 use Rattle.text_line.specs.Layout.{layoutFor, valuesOf, valuesIn, located, readFields}
 use Rattle.text_line.specs.Steps.{LineOk}
+use Rattle.text_walk.specs.declared.Tests.{Tests}
 use Rattle.text_walk.specs.declared.LineWalked.{LineWalked}
 use Rattle.text_line.proofs.Find.{spelled-text}
 use Rattle.text_line.proofs.Layouts.{Laying}
-use Rattle.text_walk.specs.Walk.{Walk, word, stop, blankLayout, findIn, byFields, unlessFault, ifKnown, walkWord, walkBytes, walkLine, walkOf, WalkOk}
+use Rattle.text_walk.specs.Walk.{Walk, word, stop, blankLayout, faultAt, findIn, byFields, unlessFault, ifKnown, walkWord, walkBytes, walkLine, walkOf, WalkOk}
 
 module _ {W S : Type 0} (k : Kind W S) (z : W) where
   abbrev d : Words W
@@ -40,8 +41,8 @@ module _ {W S : Type 0} (k : Kind W S) (z : W) where
     pub lays : (w : W) → Laying (d .form w)
 
   -- the faults of the kind's words
-  pub record FaultsOf (s : S) (fs : List ℕ) : Type 0 where
-    pub at : (i : ℕ) → i < length (d .all) → getD fs i 0 ≡ entryFault k s (getD (d .all) i z)
+  pub record FaultsOf (s : S) (fs : Tests) : Type 0 where
+    pub at : (i : ℕ) → i < length (d .all) → faultAt fs i ≡ entryFault k s (getD (d .all) i z)
 
   -- ---- the word
 
@@ -93,7 +94,7 @@ module _ {W S : Type 0} (k : Kind W S) (z : W) where
   unfolding readFields
   read-is y w l rest e g = ap (λ (y : Layout). readFields (y .count) (y .rules) l rest) e ∙ rw (g .fine, g .means, readFields)
 
-  module _ (s : S) (ps : List Spelling) (ys : List Layout) (n : ℕ) (fs : List ℕ) (t : TableOf ps ys n) (f : FaultsOf s fs) (l : ℕ) (b : List ℕ) where
+  module _ (s : S) (ps : List Spelling) (ys : List Layout) (n : ℕ) (fs : Tests) (t : TableOf ps ys n) (f : FaultsOf s fs) (l : ℕ) (b : List ℕ) where
     abbrev i : ℕ
     i = findIn (spellingsOf (d .all)) (upTo comma b)
 
@@ -123,7 +124,7 @@ module _ {W S : Type 0} (k : Kind W S) (z : W) where
         by (yes h) = known-means h
         by (no h) = unknown-means (omega arith)
 
-  module _ (s : S) (ps : List Spelling) (ys : List Layout) (n : ℕ) (fs : List ℕ) (t : TableOf ps ys n) (f : FaultsOf s fs) (l : ℕ) where
+  module _ (s : S) (ps : List Spelling) (ys : List Layout) (n : ℕ) (fs : Tests) (t : TableOf ps ys n) (f : FaultsOf s fs) (l : ℕ) where
     pub line-means : (x : Line) → Means s (walkLine ps ys n fs l x) (stepLine k s x)
     line-means x = by (x .ended)
       where

@@ -20,8 +20,9 @@ use Rattle.text_line.specs.declared.Fault.the-variants as fault
 use Rattle.text_line.specs.declared.Fields.the-variants as held
 use Rattle.text_line.specs.declared.FieldsRead.{FieldsRead}
 use Rattle.text_line.specs.Layout.{formOf, isLayout, located, readFields, FieldsOk}
+use Rattle.text_walk.specs.declared.Tests.{Tests}
 use Rattle.text_walk.specs.declared.LineWalked.{LineWalked}
-use Rattle.text_walk.specs.Walk.{Walk, stop, blankLayout, findIn, byFields, unlessFault, walkFields, walkBytes, walkLine, stoppedAt, WalkOk}
+use Rattle.text_walk.specs.Walk.{Walk, stop, blankLayout, faultAt, findIn, byFields, unlessFault, walkFields, walkBytes, walkLine, stoppedAt, WalkOk}
 
 -- ---- the fields
 
@@ -53,7 +54,7 @@ faulty-stop : (m : ℕ) (w : Walk) → (m ≡ 0 → ⊥) → stop m ≡ unlessFa
 faulty-stop zero w z = absurd (z refl)
 faulty-stop (suc m) w z = refl
 
-module _ (ps : List Spelling) (ys : List Layout) (n : ℕ) (fs : List ℕ) (l : ℕ) (bytes : List ℕ) (b : ℕ) (q : b ≡ length (upTo comma bytes)) (i : ℕ) (e : i ≡ findIn (take n ps) (take b bytes)) (x : LineWalked) where
+module _ (ps : List Spelling) (ys : List Layout) (n : ℕ) (fs : Tests) (l : ℕ) (bytes : List ℕ) (b : ℕ) (q : b ≡ length (upTo comma bytes)) (i : ℕ) (e : i ≡ findIn (take n ps) (take b bytes)) (x : LineWalked) where
   found : findIn (take n ps) (upTo comma bytes) ≡ i
   found = sym (e ∙ rw (q, ← up-to-take comma bytes))
 
@@ -67,7 +68,7 @@ module _ (ps : List Spelling) (ys : List Layout) (n : ℕ) (fs : List ℕ) (l : 
   pub past-table : length ps ≡ 8 → 8 ≤ i → x ≡ stoppedAt (record { no = 2; line = l }) → WalkOk ys l (walkBytes ps ys n fs l bytes) x
   past-table long h = unknown (rw length-take (omega arith))
 
-  module _ (long : length ps ≡ 8) (h : i < n) (g : i < 8) (fault-no : ℕ) (u : fault-no ≡ getD fs i 0) where
+  module _ (long : length ps ≡ 8) (h : i < n) (g : i < 8) (fault-no : ℕ) (u : fault-no ≡ faultAt fs i) where
     known : i < length (take n ps)
     known = rw length-take (omega arith)
 
@@ -83,7 +84,7 @@ module _ (ps : List Spelling) (ys : List Layout) (n : ℕ) (fs : List ℕ) (l : 
 
 -- ---- the line
 
-module _ (text : List ℕ) (a : ℕ) (ps : List Spelling) (ys : List Layout) (n : ℕ) (fs : List ℕ) (l z : ℕ) (e : z ≡ lineEnd text a) (x : LineWalked) where
+module _ (text : List ℕ) (a : ℕ) (ps : List Spelling) (ys : List Layout) (n : ℕ) (fs : Tests) (l z : ℕ) (e : z ≡ lineEnd text a) (x : LineWalked) where
   pub no-feed : length text ≤ z → x ≡ stoppedAt (record { no = 2; line = l }) → WalkOk ys l (walkLine ps ys n fs l (lineAt text a (lineEnd text a))) x
   no-feed h g = rw (g, ← e, le-ltb z (length text) h) (record { meant = refl; at = refl })
 

@@ -1,5 +1,5 @@
 -- The walk through a line by a table of words, for any kind of text. A table has the spelling of each word, the layout of its line and, as things stand,
--- the number of the first test before the fields that a line with the word fails, or 0.
+-- the tests before the fields of a line with the word.
 use Prim.Native.Nat.{ℕ, zero, suc}
 use mathlib.Core.Path.{_≡_}
 use mathlib.Core.Bool.{Bool, true, false}
@@ -17,6 +17,8 @@ use Rattle.text_line.specs.declared.Fault.the-variants as fault
 use Rattle.text_line.specs.Held.{textOf}
 use Rattle.text_line.specs.Layout.{valuesOf, readFields}
 use Rattle.text_line.specs.Steps.{lineOf}
+use Rattle.text_grammar.specs.Steps.{entryBy}
+use Rattle.text_walk.specs.declared.Tests.{Tests}
 use Rattle.text_walk.specs.declared.LineWalked.{LineWalked}
 
 -- a line: the number of its word and the values of its fields, or the number of its fault
@@ -42,6 +44,10 @@ byFields i (refused n l) = stop n
 abbrev pub walkFields : Layout → ℕ → ℕ → List ℕ → Walk
 walkFields y i l s = byFields i (readFields (y .count) (y .rules) l s)
 
+-- the first of the tests before the fields that a line with word i fails, or 0
+abbrev pub faultAt : Tests → ℕ → ℕ
+faultAt t i = entryBy (getD (t .placed) i false) (getD (t .room) i false) (getD (t .pinned) i false)
+
 -- what follows, where there is no fault
 abbrev pub unlessFault : ℕ → Walk → Walk
 unlessFault zero w = w
@@ -53,16 +59,16 @@ ifKnown true w = w
 ifKnown false w = stop 2
 
 -- word i of n
-abbrev pub walkWord : List Layout → List ℕ → ℕ → ℕ → ℕ → List ℕ → Walk
-walkWord ys fs n l i s = ifKnown (ltb i n) (unlessFault (getD fs i 0) (walkFields (getD ys i blankLayout) i l s))
+abbrev pub walkWord : List Layout → Tests → ℕ → ℕ → ℕ → List ℕ → Walk
+walkWord ys t n l i s = ifKnown (ltb i n) (unlessFault (faultAt t i) (walkFields (getD ys i blankLayout) i l s))
 
 -- the bytes b of line l, by the first n words of a table
-unfoldable pub walkBytes : List Spelling → List Layout → ℕ → List ℕ → ℕ → List ℕ → Walk
-walkBytes ps ys n fs l b = walkWord ys fs (length (take n ps)) l (findIn (take n ps) (upTo comma b)) (from comma b)
+unfoldable pub walkBytes : List Spelling → List Layout → ℕ → Tests → ℕ → List ℕ → Walk
+walkBytes ps ys n t l b = walkWord ys t (length (take n ps)) l (findIn (take n ps) (upTo comma b)) (from comma b)
 
 -- line l; a missing LF is fault 2
-abbrev pub walkLine : List Spelling → List Layout → ℕ → List ℕ → ℕ → Line → Walk
-walkLine ps ys n fs l x = ifKnown (x .ended) (walkBytes ps ys n fs l (x .bytes))
+abbrev pub walkLine : List Spelling → List Layout → ℕ → Tests → ℕ → Line → Walk
+walkLine ps ys n t l x = ifKnown (x .ended) (walkBytes ps ys n t l (x .bytes))
 
 -- ---- the program's answer
 

@@ -1,18 +1,22 @@
 // The walk through the lines of a text, for any kind of text: the end of a line, its word, the tests before its fields, and its fields.
 use model::Refusal;
+use text_grammar::WORDS;
 use text_line::Fault;
 use text_line::Fields;
 use text_line::Layout;
 use text_line::Spelling;
 ghost use mathlib.Core.Path.{_≡_};
-ghost use mathlib.Core.List.{[], _∷_};
 ghost use lib.ListN.{take, getD};
 ghost use Prim.Native.Nat.{_<_};
 ghost use Rattle.text_grammar.specs.Steps.{lineEnd, lineAt};
 ghost use Rattle.text_walk.specs.Walk.{findIn, blankLayout, walkFields, walkBytes, walkLine, stoppedAt, WalkOk};
 
-// How many words a kind of text has at most.
-pub const WORDS: usize = 8;
+// The tests before the fields of a line, by word: place, count, and whether the net above has a pin.
+pub struct Tests {
+    pub placed: [bool; WORDS],
+    pub room: [bool; WORDS],
+    pub pinned: [bool; WORDS],
+}
 
 // A line: its fault, or the number of its word and the values of its fields, as held.
 pub struct LineWalked {
@@ -70,16 +74,16 @@ fn walk_fields(rest: &[u8], layouts: [Layout; WORDS], i: usize, line: usize) -> 
     }
 }
 
-// A line with these bytes; faults are the numbers, by word, of the first test before the fields that fails, or 0.
+// A line with these bytes: its word, the tests before the fields, and its fields.
 fn walk_bytes(
     bytes: &[u8],
     spellings: [Spelling; WORDS],
     layouts: [Layout; WORDS],
     count: usize,
-    faults: [usize; WORDS],
+    tests: Tests,
     line: usize,
 ) -> LineWalked
-    ensures { λ r. ⌜ WalkOk layouts line (walkBytes spellings layouts count faults line (now (bytes .entry))) r ⌝ }
+    ensures { λ r. ⌜ WalkOk layouts line (walkBytes spellings layouts count tests line (now (bytes .entry))) r ⌝ }
 {
     let b = text_line::bytes_before(bytes, 44);
     let i = find_word(&bytes[..b], spellings, count);
@@ -89,7 +93,10 @@ fn walk_bytes(
     if WORDS <= i {
         return stopped(Refusal { no: 2, line });
     }
-    let no = faults[i];
+    let placed = tests.placed;
+    let room = tests.room;
+    let pinned = tests.pinned;
+    let no = text_grammar::entry_fault(placed[i], room[i], pinned[i]);
     if no != 0 {
         return stopped(Refusal { no, line });
     }
@@ -103,10 +110,10 @@ pub fn next_line(
     spellings: [Spelling; WORDS],
     layouts: [Layout; WORDS],
     count: usize,
-    faults: [usize; WORDS],
+    tests: Tests,
     line: usize,
 ) -> LineWalked
-    ensures { λ r. ⌜ WalkOk layouts line (walkLine spellings layouts count faults line (lineAt (now (text .entry)) a (lineEnd (now (text .entry)) a))) r ⌝ }
+    ensures { λ r. ⌜ WalkOk layouts line (walkLine spellings layouts count tests line (lineAt (now (text .entry)) a (lineEnd (now (text .entry)) a))) r ⌝ }
 {
     let end = text_line::line_end(text, a);
     if text.len() <= end {
@@ -115,5 +122,5 @@ pub fn next_line(
     if end < a {
         return stopped(Refusal { no: 2, line });
     }
-    walk_bytes(&text[a..end], spellings, layouts, count, faults, line)
+    walk_bytes(&text[a..end], spellings, layouts, count, tests, line)
 }

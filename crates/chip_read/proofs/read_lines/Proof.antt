@@ -17,6 +17,9 @@ abbrev μ-loop : tie.MeasureT-loop
 blank-chip-requires : tie.Need-blank-chip-requires Inv-loop μ-loop
 blank-chip-requires c κs = search needs
 
+first-line-requires : tie.Need-first-line-requires Inv-loop μ-loop
+first-line-requires c κs = search needs
+
 loop-holds : tie.Need-loop-holds Inv-loop μ-loop
 loop-holds c = (search needs, search needs, search empty-sound, search all-left)
 
@@ -63,6 +66,7 @@ read-lines-spec =
     Inv-loop
     μ-loop
     blank-chip-requires
+    first-line-requires
     loop-holds
     line-end-requires
     next-line-requires

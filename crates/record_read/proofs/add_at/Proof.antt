@@ -7,8 +7,8 @@ use Rattle.record_read.proofs.add_at.Tie as tie
 array-read-m : tie.Need-array-read-m
 array-read-m c = search needs
 
-add-if1 : tie.Need-add-if1
-add-if1 c = search needs
+turn-fault-requires : tie.Need-turn-fault-requires
+turn-fault-requires c κs = search needs
 
 with-fault-requires : tie.Need-with-fault-requires
 with-fault-requires c κs = search needs
@@ -43,11 +43,11 @@ mul-spots c = search needs
 array-set-from-spots : tie.Need-array-set-from-spots
 array-set-from-spots c = search at-fits
 
-add-t12 : tie.Need-add-t12
-add-t12 c = search needs
+add-t22 : tie.Need-add-t22
+add-t22 c = search needs
 
 returns-3 : tie.Need-returns-3
 returns-3 c = search (needs, at-added)
 
 pub add-at-spec : {M : Type 1} → statement M
-add-at-spec = tie.close (tie.spec array-read-m add-if1 with-fault-requires returns array-read-new array-read-new-2 new-requires enum-known-p enum-told with-fault-requires-2 returns-2 mul-spots array-set-from-spots add-t12 returns-3)
+add-at-spec = tie.close (tie.spec array-read-m turn-fault-requires with-fault-requires returns array-read-new array-read-new-2 new-requires enum-known-p enum-told with-fault-requires-2 returns-2 mul-spots array-set-from-spots add-t22 returns-3)

@@ -1,10 +1,10 @@
 use borrow.Author.Needs.{needs}
 use Prim.Native.Nat.{_+_, _-_, _≤_}
 use lib.ListN.{length}
-use Rattle.text_grammar.proofs.Left.{Left, text-left}
+use Rattle.text_grammar.proofs.Left.{Left}
 use Rattle.record_text.specs.Kind.{start, recordKind}
 use Rattle.record_read.specs.State.{Sound, partOf}
-use Rattle.record_read.proofs.Lines.{refuses, empty-sound, line-fails, line-read, all-read}
+use Rattle.record_read.proofs.Lines.{refuses, empty-sound, all-left, line-fails, line-read, all-read}
 use Rattle.record_read.proofs.read_lines.Statement.{statement}
 use Rattle.record_read.proofs.read_lines.Tie as tie
 
@@ -17,8 +17,11 @@ abbrev μ-loop : tie.MeasureT-loop
 blank-spots-requires : tie.Need-blank-spots-requires Inv-loop μ-loop
 blank-spots-requires c κs = search needs
 
+first-line-requires : tie.Need-first-line-requires Inv-loop μ-loop
+first-line-requires c κs = search needs
+
 loop-holds : tie.Need-loop-holds Inv-loop μ-loop
-loop-holds c = (search needs, search needs, search empty-sound, search text-left)
+loop-holds c = (search needs, search needs, search empty-sound, search all-left)
 
 line-end-requires : tie.Need-line-end-requires Inv-loop μ-loop
 line-end-requires c κs = search needs
@@ -63,6 +66,7 @@ read-lines-spec =
     Inv-loop
     μ-loop
     blank-spots-requires
+    first-line-requires
     loop-holds
     line-end-requires
     next-line-requires

@@ -1,20 +1,25 @@
-use Rattle.record_text.proofs.ReadText.{too-long}
+use Rattle.record_text.proofs.ReadText.{length-fails, length-fits}
 use Rattle.record_read.proofs.Lines.{refuses}
 use borrow.Author.Needs.{needs}
 use Rattle.record_read.proofs.read_record.Statement.{statement}
 use Rattle.record_read.proofs.read_record.Tie as tie
 
+length-fault-requires : tie.Need-length-fault-requires
+length-fault-requires c κs = search needs
+
 refused-requires : tie.Need-refused-requires
 refused-requires c κs = search needs
 
 returns : tie.Need-returns
-returns c = let ok = refuses _ _ _ (c .refused .ensures) (too-long _ (c .before .if1 .taken)) in (ok .meant, ok .whole)
+returns c =
+    let ok = refuses _ _ _ (c .refused .ensures) (length-fails _ _ (c .before .before .length-fault .ensures) (c .before .if1 .taken)) in
+    (ok .meant, ok .whole)
 
 read-lines-requires : tie.Need-read-lines-requires
-read-lines-requires c κs = search needs
+read-lines-requires c κs = search (needs, length-fits)
 
 returns-2 : tie.Need-returns-2
 returns-2 c = search needs
 
 pub read-record-spec : {M : Type 1} → statement M
-read-record-spec = tie.close (tie.spec refused-requires returns read-lines-requires returns-2)
+read-record-spec = tie.close (tie.spec length-fault-requires refused-requires returns read-lines-requires returns-2)

@@ -48,6 +48,9 @@ enum-known-f c = search needs
 returns : tie.Need-returns Inv-loop μ-loop
 returns c = search (needs, read-refused)
 
+rest-fault-requires : tie.Need-rest-fault-requires Inv-loop μ-loop
+rest-fault-requires c κs = search needs
+
 returns-2 : tie.Need-returns-2 Inv-loop μ-loop
 returns-2 c = search (needs, bytes-left)
 
@@ -72,5 +75,6 @@ read-laid-spec =
     loop-again
     enum-known-f
     returns
+    rest-fault-requires
     returns-2
     returns-3)

@@ -25,11 +25,17 @@ stopped-requires-2 c κs = search needs
 returns-2 : tie.Need-returns-2
 returns-2 c = search (needs, past-table)
 
-mul-no : tie.Need-mul-no
-mul-no c = search needs
+array-read-entry-fault : tie.Need-array-read-entry-fault
+array-read-entry-fault c = search needs
 
-array-read-no : tie.Need-array-read-no
-array-read-no c = search needs
+array-read-entry-fault-2 : tie.Need-array-read-entry-fault-2
+array-read-entry-fault-2 c = search needs
+
+array-read-entry-fault-3 : tie.Need-array-read-entry-fault-3
+array-read-entry-fault-3 c = search needs
+
+entry-fault-requires : tie.Need-entry-fault-requires
+entry-fault-requires c κs = search needs
 
 stopped-requires-3 : tie.Need-stopped-requires-3
 stopped-requires-3 c κs = search needs
@@ -63,8 +69,10 @@ walk-bytes-spec =
     returns
     stopped-requires-2
     returns-2
-    mul-no
-    array-read-no
+    array-read-entry-fault
+    array-read-entry-fault-2
+    array-read-entry-fault-3
+    entry-fault-requires
     stopped-requires-3
     returns-3
     sub-walk-fields
