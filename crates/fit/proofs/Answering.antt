@@ -7,7 +7,9 @@ use lib.ListN.{length}
 use borrow.Author.Tests.{not-true, not-false}
 use Rattle.model.specs.declared.Chip.{Chip as HeldChip}
 use Rattle.model.specs.declared.Refusal.{Refusal}
-use Rattle.model.specs.Meaning.{chipOf}
+use Rattle.model.specs.Meaning.{chipOf, blankSpot}
+use Rattle.model.specs.Limits.{mostMacs}
+use Rattle.model.specs.Held.{filled}
 use Rattle.axis_graph.specs.declared.Verdict.{Verdict}
 use Rattle.axis_graph.specs.declared.Verdict.the-variants as verdict
 use Rattle.fit_slots.specs.declared.Direction.{Direction}
@@ -20,7 +22,7 @@ use Rattle.fit_tests.specs.declared.Entry.the-variants as entry
 use Rattle.fit_tests.specs.Entry.{Asking, fitting, Ready, Entered}
 use Rattle.fit.specs.declared.FitAnswer.{FitAnswer}
 use Rattle.fit.specs.declared.FitOutcome.the-variants as outcome
-use Rattle.fit.specs.Answer.{padded, answerFor}
+use Rattle.fit.specs.Answer.{answerFor}
 use Rattle.fit.specs.Results.{Second, Answered}
 use Rattle.fit.proofs.Asked.{taken, no-fitting}
 use Rattle.fit.proofs.Filling.{slots-filled}
@@ -33,7 +35,7 @@ module _ (c : HeldChip) (s : List ℕ) (d : Direction) (at f : List ℕ) where
   solved-by verdict.Unsolvable told e = absurd (true≢false e)
   solved-by verdict.Malformed told e = absurd told
 
-  no-fit : (m : ℕ) → Asking c s m → (v : Verdict) → Directed c s d v at f → false ≡ isSolved v → record { outcome = outcome.NoFit; spots = padded [] } ≡ answerFor (fitting c s)
+  no-fit : (m : ℕ) → Asking c s m → (v : Verdict) → Directed c s d v at f → false ≡ isSolved v → record { outcome = outcome.NoFit; spots = filled mostMacs blankSpot [] } ≡ answerFor (fitting c s)
   no-fit m ask verdict.Solved told e = absurd (false≢true e)
   no-fit m ask verdict.Unsolvable told e = ap answerFor (sym (no-fitting c s m ask d f told))
   no-fit m ask verdict.Malformed told e = absurd told
@@ -42,7 +44,7 @@ module _ (c : HeldChip) (s : List ℕ) (d : Direction) (at f : List ℕ) where
     pub has-coordinates : not b ≡ false → SolvedBy c s d at f
     has-coordinates h = solved-by v told (sym (not-false b h) ∙ e)
 
-    pub no-coordinates : (m : ℕ) → Asking c s m → not b ≡ true → (r : FitAnswer) → r ≡ record { outcome = outcome.NoFit; spots = padded [] } → r ≡ answerFor (fitting c s)
+    pub no-coordinates : (m : ℕ) → Asking c s m → not b ≡ true → (r : FitAnswer) → r ≡ record { outcome = outcome.NoFit; spots = filled mostMacs blankSpot [] } → r ≡ answerFor (fitting c s)
     no-coordinates m ask h r q = q ∙ no-fit m ask v told (sym (not-true b h) ∙ e)
 
 -- ---- the vertical direction beside the horizontal one
@@ -61,7 +63,7 @@ module _ (c : HeldChip) (s : List ℕ) (v : Verdict) (b : Bool) (e : b ≡ isSol
     pub second-coordinates : not k ≡ false → SolvedBy c s vertical at f
     second-coordinates i = has-coordinates c s vertical at f w told k g i
 
-    pub no-second : not k ≡ true → (r : FitAnswer) → r ≡ record { outcome = outcome.NoFit; spots = padded [] } → r ≡ answerFor (fitting c s)
+    pub no-second : not k ≡ true → (r : FitAnswer) → r ≡ record { outcome = outcome.NoFit; spots = filled mostMacs blankSpot [] } → r ≡ answerFor (fitting c s)
     no-second i r q = no-coordinates c s vertical at f w told k g m ask i r q
 
 -- ---- a chip and letters that pass every test
@@ -97,7 +99,7 @@ module _ (c : HeldChip) (s : List ℕ) (room : ℕ) (e : Entry) (told : Entered 
     is-refused : F ≡ refusedBy (f .no) (f .line)
     is-refused = subst (Entered c s room) q told
 
-    pub refused-answer : (r : FitAnswer) → r ≡ record { outcome = outcome.Refused f; spots = padded [] } → r ≡ answerFor F
+    pub refused-answer : (r : FitAnswer) → r ≡ record { outcome = outcome.Refused f; spots = filled mostMacs blankSpot [] } → r ≡ answerFor F
     refused-answer r o = o ∙ ap answerFor (sym is-refused)
 
     pub refused-list : (list : List ℕ) → Filled (chipOf c) s F list list

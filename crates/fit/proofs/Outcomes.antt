@@ -8,18 +8,20 @@ use lib.Seq.{take-at}
 use Rattle.model.specs.declared.Refusal.{Refusal}
 use Rattle.model.specs.declared.Spot.{Spot}
 use Rattle.model.specs.Meaning.{blankSpot}
+use Rattle.model.specs.Limits.{mostMacs}
+use Rattle.model.specs.Held.{filled}
 use Rattle.fit_slots.specs.Fit.{Fit, refusedBy, noFit, placed}
 use Rattle.fit.specs.declared.Fitted.{Fitted}
 use Rattle.fit.specs.declared.FitOutcome.{FitOutcome}
 use Rattle.fit.specs.declared.FitOutcome.the-variants as outcome
-use Rattle.fit.specs.Answer.{outcomeOf, positionsOf, padded}
+use Rattle.fit.specs.Answer.{outcomeOf, positionsOf}
 
 -- at most 8 positions, and 0,0 up to 8
-pub padded-long : (ps : List Spot) → length ps ≤ 8 → length (padded ps) ≡ 8
-padded-long ps h = let a = length-append ps (replicate (8 - length ps) blankSpot) in let b = length-replicate (8 - length ps) blankSpot in omega arith
+pub filled-long : (ps : List Spot) → length ps ≤ 8 → length (filled mostMacs blankSpot ps) ≡ 8
+filled-long ps h = let a = length-append ps (replicate (8 - length ps) blankSpot) in let b = length-replicate (8 - length ps) blankSpot in omega arith
 
-pub take-padded : (n : ℕ) (ps : List Spot) → length ps ≡ n → take n (padded ps) ≡ ps
-take-padded n ps e = take-at ps (replicate (8 - length ps) blankSpot) n e
+pub take-filled : (n : ℕ) (ps : List Spot) → length ps ≡ n → take n (filled mostMacs blankSpot ps) ≡ ps
+take-filled n ps e = take-at ps (replicate (8 - length ps) blankSpot) n e
 
 -- the fit of an answer
 abbrev pub fitFor : FitOutcome → List Spot → Fit

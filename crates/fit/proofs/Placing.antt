@@ -11,6 +11,8 @@ use borrow.Author.Tests.{eq-eqb}
 use Rattle.model.specs.declared.Chip.{Chip as HeldChip}
 use Rattle.model.specs.declared.Spot.{Spot}
 use Rattle.model.specs.Meaning.{Chip, chipOf, blankSpot, firstOf}
+use Rattle.model.specs.Limits.{mostMacs}
+use Rattle.model.specs.Held.{filled}
 use Rattle.model.proofs.FirstOf.{first-take}
 use Rattle.refusals.specs.Tests.{firstFailed}
 use Rattle.chip_text.specs.Valid.{Valid}
@@ -35,7 +37,7 @@ use Rattle.fit_lists.specs.Lists.{spotsOf}
 use Rattle.fit_lists.proofs.Corners.{spots-length}
 use Rattle.fit_tests.specs.Entry.{Asking, fitting}
 use Rattle.fit.specs.declared.FitOutcome.the-variants as outcome
-use Rattle.fit.specs.Answer.{answerFor, padded}
+use Rattle.fit.specs.Answer.{answerFor}
 use Rattle.fit.proofs.Asked.{el}
 use Rattle.fit.proofs.Corners.{past, take-spots, corners-x, corners-y, spots-in-range, spots-padded}
 
@@ -122,8 +124,8 @@ module _ (c : HeldChip) (s : List ℕ) (m : ℕ) (ask : Asking c s m) (ax ay fx 
   unfolding measurePassed firstFailed
   is-measured = rw (first-spots, ← ask .passed .read, eq-eqb (length ps) (length (C .macs)) long-ps, in-range)
 
-  padded-spots : spots ≡ padded ps
-  padded-spots =
+  filled-spots : spots ≡ filled mostMacs blankSpot ps
+  filled-spots =
       spots-padded (c .n) ax ay (let a = few in let l = wx in omega arith) (wx ∙ sym wy) (sx .rest) (sy .rest)
       ∙ ap (λ (k : ℕ). ps ++ replicate k blankSpot) (let e = long-ps in let l = wx in let f = ask .passed .macs in let q : length ax - c .n ≡ 8 - length ps = omega arith in q)
 
@@ -131,4 +133,4 @@ module _ (c : HeldChip) (s : List ℕ) (m : ℕ) (ask : Asking c s m) (ax ay fx 
   pub placed-answer : (those : List Spot) → those ≡ spots → (l : ℕ) → l ≡ lengthIn (measurePositions C (firstOf blankSpot (c .n) those)) → record { outcome = outcome.Placed (record { length = l; slots = m + m }); spots = those } ≡ answerFor (fitting c s)
   placed-answer those es l e =
       let w : l ≡ wirelength C ps = e ∙ ap (λ (t : List Spot). lengthIn (measurePositions C (firstOf blankSpot (c .n) t))) es ∙ ap lengthIn is-measured in
-      rw (w, ask .slots .both, es, padded-spots, the-fitting)
+      rw (w, ask .slots .both, es, filled-spots, the-fitting)

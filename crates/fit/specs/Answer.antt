@@ -1,11 +1,10 @@
 -- The program's answer for a fit (document 01, "The fit" and "Refusal table"): the number and the line of a refusal, no fit, or the wirelength and
 -- the number of slots of a placement; beside it the positions, 0,0 past the macros, and 0,0 everywhere without a placement.
-use Prim.Native.Nat.{_-_}
-use mathlib.Core.List.{List, [], _++_}
-use lib.ListN.{length, replicate}
+use mathlib.Core.List.{List, []}
 use Rattle.model.specs.declared.Spot.{Spot}
 use Rattle.model.specs.Meaning.{blankSpot}
 use Rattle.model.specs.Limits.{mostMacs}
+use Rattle.model.specs.Held.{filled}
 use Rattle.fit_slots.specs.Fit.{Fit, refusedBy, noFit, placed}
 use Rattle.fit.specs.declared.FitOutcome.{FitOutcome}
 use Rattle.fit.specs.declared.FitOutcome.the-variants as outcome
@@ -21,9 +20,5 @@ positionsOf (refusedBy number line) = []
 positionsOf noFit = []
 positionsOf (placed l count ps) = ps
 
--- the positions, then 0,0 up to the most in all
-abbrev pub padded : List Spot → List Spot
-padded ps = ps ++ replicate (mostMacs - length ps) blankSpot
-
 abbrev pub answerFor : Fit → FitAnswer
-answerFor f = record { outcome = outcomeOf f; spots = padded (positionsOf f) }
+answerFor f = record { outcome = outcomeOf f; spots = filled mostMacs blankSpot (positionsOf f) }

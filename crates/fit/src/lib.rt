@@ -13,11 +13,13 @@ use model::Spot;
 ghost use mathlib.Core.Path.{_≡_};
 ghost use mathlib.Core.List.{[]};
 ghost use lib.ListN.{length};
-ghost use Rattle.model.specs.Meaning.{chipOf};
+ghost use Rattle.model.specs.Meaning.{chipOf, blankSpot};
+ghost use Rattle.model.specs.Limits.{mostMacs};
+ghost use Rattle.model.specs.Held.{filled};
 ghost use Rattle.fit_slots.specs.Fit.{fitLetters, Filled};
 ghost use Rattle.fit_axes.specs.Axes.{SolvedBy, Directed};
 ghost use Rattle.fit_tests.specs.Entry.{Asking, fitting, Ready};
-ghost use Rattle.fit.specs.Answer.{padded, answerFor};
+ghost use Rattle.fit.specs.Answer.{answerFor};
 ghost use Rattle.fit.specs.Results.{Second, Answered};
 
 // The wirelength of the placement, and the number of slots that its flow takes.
@@ -41,7 +43,7 @@ pub struct FitAnswer {
 
 // An answer without positions.
 fn bare(outcome: FitOutcome) -> FitAnswer
-    ensures { λ r. ⌜ r ≡ record { outcome = outcome; spots = padded [] } ⌝ }
+    ensures { λ r. ⌜ r ≡ record { outcome = outcome; spots = filled mostMacs blankSpot [] } ⌝ }
 {
     FitAnswer {
         outcome,

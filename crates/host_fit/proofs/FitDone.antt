@@ -28,7 +28,7 @@ use Rattle.fit.specs.declared.FitOutcome.{FitOutcome}
 use Rattle.fit.specs.declared.FitOutcome.the-variants as outcome
 use Rattle.fit.specs.declared.FitAnswer.{FitAnswer}
 use Rattle.fit.specs.Answer.{outcomeOf, positionsOf, answerFor}
-use Rattle.fit.proofs.Outcomes.{take-padded, is-placed, is-none, is-refused}
+use Rattle.fit.proofs.Outcomes.{take-filled, is-placed, is-none, is-refused}
 use Rattle.host_lists.proofs.Numbers.{length-keys}
 use Rattle.host_codes.specs.declared.Code.{Code}
 use Rattle.host_codes.specs.Code.{code, refused as refusedCode, ofFit}
@@ -170,7 +170,7 @@ module _ (c : HeldChip) (ok : Passed c) (s : List ℕ) where
         sized = subst (SizedFit (length (C .macs))) is (fit-placed-sized (length slots)) ∙ ok .macs
 
         spots : take (c .n) (a .spots) ≡ positionsOf F
-        spots = ap (λ (t : FitAnswer). take (c .n) (t .spots)) q ∙ take-padded (c .n) (positionsOf F) sized
+        spots = ap (λ (t : FitAnswer). take (c .n) (t .spots)) q ∙ take-filled (c .n) (positionsOf F) sized
 
         -- the numbers stand at the front of the list, which is long enough
         front : sets places 0 (keys (positionsOf F)) ≡ over (keys (positionsOf F)) places

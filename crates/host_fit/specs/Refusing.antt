@@ -1,4 +1,4 @@
--- The answer of a fit where the list of positions is too short: a refusal, whatever list of slots is lent. The contract of a helper; the promise is FitText.antt.
+-- The answer of a fit where the list of positions is too short: a refusal, whatever list of slots is lent. A helper's contract.
 use Prim.Native.Nat.{ℕ, _+_, _<_}
 use mathlib.Core.Path.{_≡_}
 use mathlib.Core.List.{List}

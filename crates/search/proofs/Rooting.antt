@@ -114,16 +114,19 @@ module _ (c : HeldChip) (p : ℕ) (ok : Passed c) (e : p ≡ letterTotal (c .n) 
   -- ---- both
 
   -- the chip a is read from the array
-  pub first-asked : (a : HeldChip) → a ≡ c → (tx ax ty ay : List ℕ) → Hold c horizontal tx ax → Hold c vertical ty ay → (room : ℕ) (f g : HalfFit) → Answers tx ax room (f .outcome) (f .at) → Answers ty ay room (g .outcome) (g .at)
-      → Passed a × Lettered a dots p × HalfSaid (chipOf a) ls horizontal room (f .outcome) (f .at) × HalfSaid (chipOf a) ls vertical room (g .outcome) (g .at)
-  first-asked a q tx ax ty ay hx hy room f g x y = rw q (ok, lettered, said horizontal tx ax hx room f x, said vertical ty ay hy room g y)
+  pub first-asked : (a : HeldChip) → a ≡ c → (letters : List ℕ) → letters ≡ dots → (tx ax ty ay : List ℕ) → Hold c horizontal tx ax → Hold c vertical ty ay → (room : ℕ) (f g : HalfFit) → Answers tx ax room (f .outcome) (f .at) → Answers ty ay room (g .outcome) (g .at)
+      → Passed a × Lettered a letters p × HalfSaid (chipOf a) (lettersIn letters p) horizontal room (f .outcome) (f .at) × HalfSaid (chipOf a) (lettersIn letters p) vertical room (g .outcome) (g .at)
+  first-asked a q letters z tx ax ty ay hx hy room f g x y = rw (q, z) (ok, lettered, said horizontal tx ax hx room f x, said vertical ty ay hy room g y)
 
-  module _ (tx ax : List ℕ) (hx : Hold c horizontal tx ax) (ty ay : List ℕ) (hy : Hold c vertical ty ay) (here : HeldRecord) (fit : FitHeld c dots p here)
+  module _ (letters : List ℕ) (z : letters ≡ dots) (tx ax : List ℕ) (hx : Hold c horizontal tx ax) (ty ay : List ℕ) (hy : Hold c vertical ty ay) (here : HeldRecord) (given : FitHeld c letters p here)
       (k₀ : List ℕ) (sx : Starts ax k₀) (kx : List ℕ) (ox : OrderKept (chipOf c) k₀ kx) (ky : List ℕ) (sy : Starts ay ky)
       (xs : List ℕ) (ex : xs ≡ cornersOn horizontal (here .spots)) (lx : ℕ) (qx : lx ≡ netsLength (limited xs) (netsFrom tx 0 32))
       (ys : List ℕ) (ey : ys ≡ cornersOn vertical (here .spots)) (ly : ℕ) (qy : ly ≡ netsLength (limited ys) (netsFrom ty 0 32)) where
-    pub root-ok : RootOk c p (record { letters = dots; ax = ax; ay = ay; kx = kx; ky = ky; lx = lx; ly = ly; here = here })
-    root-ok = record {
+    fit : FitHeld c dots p here
+    fit = rw z at given
+
+    pub root-ok : RootOk c p (record { letters = letters; ax = ax; ay = ay; kx = kx; ky = ky; lx = lx; ly = ly; here = here })
+    root-ok = rw z (record {
       node = record {
         letters = lettered;
         whole = refl;
@@ -134,4 +137,4 @@ module _ (c : HeldChip) (p : ℕ) (ok : Passed c) (e : p ≡ letterTotal (c .n) 
       };
       letters = refl;
       keeps = λ ps g o. record { x = ox .to ps o (kept horizontal tx ax hx k₀ sx ps g); y = kept vertical ty ay hy ky sy ps g };
-    }
+    })

@@ -63,18 +63,18 @@ fn upright(cs: &[u64; chip_array::CELLS], at: [u64; Mac::COUNT], l: u64) -> Reco
     }
 }
 
-// The fit of dots from its two half fits, of which the vertical one has coordinates at and length l.
+// The fit of the letters from its two half fits, of which the vertical one has coordinates at and length l.
 fn from_halves(
     cs: &[u64; chip_array::CELLS],
     p: usize,
+    letters: [u8; LETTERS],
     fx: HalfFit,
     at: [u64; Mac::COUNT],
     l: u64,
 ) -> Record
-    requires { ⌜ Passed (chipIn (now cs)) × Lettered (chipIn (now cs)) dots p × HalfSaid (chipOf (chipIn (now cs))) (lettersIn dots p) Direction.Horizontal 4000000000 (fx .outcome) (fx .at) × HalfSaid (chipOf (chipIn (now cs))) (lettersIn dots p) Direction.Vertical 4000000000 (HalfOutcome.Fit l) at ⌝ }
-    ensures { λ r. ⌜ ChildHeld (chipIn (now (cs .entry))) dots p noRecord r ⌝ }
+    requires { ⌜ Passed (chipIn (now cs)) × Lettered (chipIn (now cs)) letters p × HalfSaid (chipOf (chipIn (now cs))) (lettersIn letters p) Direction.Horizontal 4000000000 (fx .outcome) (fx .at) × HalfSaid (chipOf (chipIn (now cs))) (lettersIn letters p) Direction.Vertical 4000000000 (HalfOutcome.Fit l) at ⌝ }
+    ensures { λ r. ⌜ ChildHeld (chipIn (now (cs .entry))) letters p noRecord r ⌝ }
 {
-    let letters = [46u8; LETTERS];
     let above = upright(cs, at, l);
     joined(
         cs,
@@ -88,18 +88,23 @@ fn from_halves(
     )
 }
 
-// The fit of dots from its two half fits; where one is not shown, the fit that is sold.
-pub(crate) fn first_fit(cs: &[u64; chip_array::CELLS], p: usize, fx: HalfFit, fy: HalfFit) -> Record
-    requires { ⌜ Passed (chipIn (now cs)) × Lettered (chipIn (now cs)) dots p × HalfSaid (chipOf (chipIn (now cs))) (lettersIn dots p) Direction.Horizontal 4000000000 (fx .outcome) (fx .at) × HalfSaid (chipOf (chipIn (now cs))) (lettersIn dots p) Direction.Vertical 4000000000 (fy .outcome) (fy .at) ⌝ }
-    ensures { λ r. ⌜ FitHeld (chipIn (now (cs .entry))) dots p r ⌝ }
+// The fit of the letters from its two half fits; where one is not shown, the fit that is sold.
+pub(crate) fn first_fit(
+    cs: &[u64; chip_array::CELLS],
+    p: usize,
+    letters: [u8; LETTERS],
+    fx: HalfFit,
+    fy: HalfFit,
+) -> Record
+    requires { ⌜ Passed (chipIn (now cs)) × Lettered (chipIn (now cs)) letters p × HalfSaid (chipOf (chipIn (now cs))) (lettersIn letters p) Direction.Horizontal 4000000000 (fx .outcome) (fx .at) × HalfSaid (chipOf (chipIn (now cs))) (lettersIn letters p) Direction.Vertical 4000000000 (fy .outcome) (fy .at) ⌝ }
+    ensures { λ r. ⌜ FitHeld (chipIn (now (cs .entry))) letters p r ⌝ }
 {
-    let letters = [46u8; LETTERS];
     let outcome = fy.outcome;
     let HalfOutcome::Fit(l) = outcome else {
         return fit_again(cs, letters, p);
     };
     let at = fy.at;
-    let r = from_halves(cs, p, fx, at, l);
+    let r = from_halves(cs, p, letters, fx, at, l);
     let found = r.outcome;
     match found {
         Outcome::Least(_, _) => r,
@@ -107,12 +112,18 @@ pub(crate) fn first_fit(cs: &[u64; chip_array::CELLS], p: usize, fx: HalfFit, fy
     }
 }
 
-// The node with a dot for each pair; x and y are the arrays of the two directions, here is the fit.
-pub(crate) fn root(c: Chip, p: usize, x: Arrays, y: Arrays, here: Record) -> Node
-    requires { ⌜ Passed c × (p ≡ letterTotal (c .n) (c .k)) × Hold c Direction.Horizontal (x .tab) (x .arcs) × Hold c Direction.Vertical (y .tab) (y .arcs) × FitHeld c dots p here ⌝ }
+// The node of the letters, a dot for each pair; x and y are the arrays of the two directions, here is the fit.
+pub(crate) fn root(
+    c: Chip,
+    p: usize,
+    letters: [u8; LETTERS],
+    x: Arrays,
+    y: Arrays,
+    here: Record,
+) -> Node
+    requires { ⌜ Passed c × (p ≡ letterTotal (c .n) (c .k)) × (letters ≡ dots) × Hold c Direction.Horizontal (x .tab) (x .arcs) × Hold c Direction.Vertical (y .tab) (y .arcs) × FitHeld c letters p here ⌝ }
     ensures { λ r. ⌜ RootOk c p r ⌝ }
 {
-    let letters = [46; LETTERS];
     let spots = here.spots;
     let tx = x.tab;
     let ty = y.tab;

@@ -14,6 +14,7 @@ use model::Record;
 use model::Tested;
 use model::WriteAnswer;
 use search_node::Parts;
+use search_node::no_letters;
 use search_node::no_record;
 use search_tables::arrays_of;
 ghost use mathlib.Core.Path.{_≡_};
@@ -45,6 +46,7 @@ fn chip_record(c: Chip) -> Record
     requires { ⌜ Passed c ⌝ }
     ensures { λ r. ⌜ recordOf r ≡ chipRecord (chipOf c) ⌝ }
 {
+    let letters = no_letters();
     let p = fit_pairs::letter_count(c.n, c.k);
     let parts = parts_of(c);
     let cs = array_of(c);
@@ -59,7 +61,7 @@ fn chip_record(c: Chip) -> Record
     let mut states = [0u32; POOL];
     let fx = first_half(&tx, &mut hx, &ax, &mut states, 0, 4000000000);
     let fy = first_half(&ty, &mut hy, &ay, &mut states, 1, 4000000000);
-    let node = root(c, p, x, y, first_fit(&cs, p, fx, fy));
+    let node = root(c, p, letters, x, y, first_fit(&cs, p, letters, fx, fy));
     search(
         &cs,
         parts,

@@ -1,12 +1,13 @@
 -- Nets of a chip's arrays that have mates are nets with mates of the chip that the arrays mean.
 use Prim.Native.Nat.{ℕ, suc, _+_, _-_, _≤_, _<_}
 use mathlib.Core.Path.{_≡_, sym, ap, _∙_}
-use mathlib.Core.Bool.{Bool, true, false, not}
+use mathlib.Core.Bool.{Bool, true, false, not, _&&_}
 use mathlib.Core.List.{List}
 use native.Mathlib.Omega.{arith}
 use lib.ListN.{length, getD, drop, length-drop}
 use lib.Seq.{getD-drop}
-use borrow.Author.Tests.{not-false}
+use lib.Dec.{eqb}
+use borrow.Author.Tests.{eqb-true, not-false}
 use Rattle.model.specs.declared.Mac.{Mac}
 use Rattle.model.specs.declared.Pin.{Pin as HeldPin}
 use Rattle.model.specs.declared.Chip.{Chip as HeldChip}
@@ -17,6 +18,7 @@ use Rattle.chip_text.specs.Valid.{noPin, pinsBefore}
 use Rattle.chip_text.proofs.HeldNets.{getD-pins, pins-before-more, pins-before-up}
 use Rattle.chip_text.proofs.HeldMeaning.{mac-held, weight-held, net-held}
 use Rattle.chip_text.proofs.Passing.{Whole}
+use Rattle.text_grammar.proofs.Lacks.{and-left, and-right}
 use Rattle.search_halves.specs.Exchange.{otherPin, OneOf, netAt, Alike}
 use Rattle.search_equal.specs.Answer.{Yes}
 use Rattle.search_equal.specs.Held.{otherHeld, Within, Turns, NetsAlike}
@@ -73,15 +75,17 @@ module _ (c : HeldChip) (w : Whole c) (few : c .t ≤ 32) (fit : pinsBefore (c .
 abbrev macOf : ℕ → ℕ → Mac
 macOf w h = record { w = w; h = h }
 
-pub sizes-same : (a b : Mac) → a .w ≡ b .w → a .h ≡ b .h → Yes true (a ≡ b)
-sizes-same a b p q = record { then = λ e. ap (λ (x : ℕ). macOf x (a .h)) p ∙ ap (macOf (b .w)) q }
+sizes-same : (a b : Mac) → (eqb (a .w) (b .w) && eqb (a .h) (b .h)) ≡ true → a ≡ b
+sizes-same a b e =
+    ap (λ (x : ℕ). macOf x (a .h)) (eqb-true (a .w) (b .w) (and-left (eqb (a .w) (b .w)) (eqb (a .h) (b .h)) e))
+    ∙ ap (macOf (b .w)) (eqb-true (a .h) (b .h) (and-right (eqb (a .w) (b .w)) (eqb (a .h) (b .h)) e))
 
 module _ (c : HeldChip) (w : Whole c) (i j : ℕ) (many : c .n ≤ 8) (few : c .t ≤ 32) (li : i < c .n) (lj : j < c .n) where
   macs-long : length (chipOf c .macs) ≡ c .n
   unfolding chipOf
   macs-long = let l = w .macs in length-first blankMac (c .n) (c .macs) (omega arith)
 
-  pub macs-alike : (q r : Bool) → Yes q (getD (c .macs) i blankMac ≡ getD (c .macs) j blankMac) → not q ≡ false → Yes r (NetsAlike (c .nets) (c .pins) (c .t) i j) → Yes r (Alike (chipOf c) i j)
+  pub macs-alike : (q r : Bool) → q ≡ (eqb (getD (c .macs) i blankMac .w) (getD (c .macs) j blankMac .w) && eqb (getD (c .macs) i blankMac .h) (getD (c .macs) j blankMac .h)) → not q ≡ false → Yes r (NetsAlike (c .nets) (c .pins) (c .t) i j) → Yes r (Alike (chipOf c) i j)
   macs-alike q r same o s = record { then = λ e. by (s .then e) }
     where
       by : NetsAlike (c .nets) (c .pins) (c .t) i j → Alike (chipOf c) i j
@@ -91,7 +95,7 @@ module _ (c : HeldChip) (w : Whole c) (i j : ℕ) (many : c .n ≤ 8) (few : c .
           record {
             first = let m = macs-long in omega arith;
             second = let m = macs-long in omega arith;
-            size = mac-held c i li ∙ (same .then (not-false q o) ∙ sym (mac-held c j lj));
+            size = mac-held c i li ∙ (sizes-same (getD (c .macs) i blankMac) (getD (c .macs) j blankMac) (sym same ∙ not-false q o) ∙ sym (mac-held c j lj));
             mate = λ a. getD (h .mates) a 0;
             inside = λ a l. let p = inside a (omega arith) in omega arith;
             back = λ a l. h .all .back a (omega arith);

@@ -1,6 +1,6 @@
 -- Where a net's pins begin, and the mates of nets, in the form of the needs.
 use Prim.Native.Nat.{ℕ, suc, _+_, _≤_, _<_, min}
-use mathlib.Core.Path.{_≡_, refl, sym, subst}
+use mathlib.Core.Path.{_≡_, refl, sym, subst, _∙_}
 use mathlib.Core.Bool.{Bool, true, false, not}
 use mathlib.Core.List.{List}
 use native.Mathlib.Decide.{decLt}
@@ -8,7 +8,8 @@ use native.Mathlib.Omega.{arith}
 use mir.Syntax.{w64}
 use mir.Val.{Fits}
 use lib.ListN.{getD}
-use borrow.Author.Tests.{not-false}
+use lib.Dec.{eqb}
+use borrow.Author.Tests.{eqb-true, not-false}
 use Rattle.model.specs.declared.Net.{Net}
 use Rattle.model.specs.declared.Pin.{Pin}
 use Rattle.model.specs.Meaning.{blankNet}
@@ -62,11 +63,11 @@ module _ (nets : List Net) where
 
 module _ (nets : List Net) (pins : List Pin) (i j : ℕ) where
   pub net-turns : (a b from low : ℕ) (r : Bool) → from ≡ min 129 (pinsBefore a nets) → low ≡ min 129 (pinsBefore b nets) → pinsBefore (a + 1) nets ≤ 128 → pinsBefore (b + 1) nets ≤ 128
-      → getD nets a blankNet .weight ≡ getD nets b blankNet .weight
+      → (q : Bool) → q ≡ eqb (getD nets a blankNet .weight) (getD nets b blankNet .weight) → not q ≡ false
       → Yes r (Covers pins i j from (from + getD nets a blankNet .pins) low (low + getD nets b blankNet .pins)) → Yes r (Turns nets pins i j a b)
-  net-turns a b from low r ef el la lb w s = record {
+  net-turns a b from low r ef el la lb q w n s = record {
     then = λ e. record {
-      weight = sym w;
+      weight = sym (eqb-true (getD nets a blankNet .weight) (getD nets b blankNet .weight) (sym w ∙ not-false q n));
       covers = rw (sym (start-is nets a from ef la), sym (end-is nets a from ef la), sym (start-is nets b low el lb), sym (end-is nets b low el lb)) (s .then e);
     };
   }

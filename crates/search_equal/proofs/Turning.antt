@@ -1,14 +1,16 @@
 -- Pins with two macros exchanged, in the form of the needs.
 use Prim.Native.Nat.{ℕ, zero, suc, _+_, _-_, _≤_, _<_}
-use mathlib.Core.Path.{_≡_, refl, ap, subst, _∙_}
-use mathlib.Core.Bool.{Bool, true, false, not, false≢true}
+use mathlib.Core.Path.{_≡_, refl, sym, ap, subst, _∙_}
+use mathlib.Core.Bool.{Bool, true, false, not, _&&_, false≢true}
 use mathlib.Core.List.{List}
 use native.Mathlib.Decide.{decLt}
 use native.Mathlib.Omega.{arith}
+use lib.Dec.{eqb}
 use lib.ListN.{getD}
-use borrow.Author.Tests.{eq-eqb, ne-eqb, not-false}
+use borrow.Author.Tests.{eqb-true, eq-eqb, ne-eqb, not-false}
 use Rattle.model.specs.declared.Pin.{Pin}
 use Rattle.model.specs.Meaning.{blankPin}
+use Rattle.text_grammar.proofs.Lacks.{and-left, and-right}
 use Rattle.search_halves.specs.Exchange.{turned, renumbered}
 use Rattle.search_equal.specs.Answer.{Yes}
 use Rattle.search_equal.specs.Held.{otherHeld, Within, Covers}
@@ -46,18 +48,19 @@ pin-turns i j p m e = rw e
 abbrev pinAt : ℕ → ℕ → ℕ → Pin
 pinAt m x y = record { m = m; xup = x; yup = y }
 
-pub pins-same : (p q : Pin) → p .m ≡ q .m → p .xup ≡ q .xup → p .yup ≡ q .yup → Yes true (p ≡ q)
-pins-same p q a b c = record {
-  then = λ e.
-      ap (λ (x : ℕ). pinAt x (p .xup) (p .yup)) a
-      ∙ (ap (λ (x : ℕ). pinAt (q .m) x (p .yup)) b ∙ ap (λ (x : ℕ). pinAt (q .m) (q .xup) x) c);
-}
+pins-same : (p q : Pin) → (eqb (p .m) (q .m) && (eqb (p .xup) (q .xup) && eqb (p .yup) (q .yup))) ≡ true → p ≡ q
+pins-same p q e =
+    let places = and-right (eqb (p .m) (q .m)) (eqb (p .xup) (q .xup) && eqb (p .yup) (q .yup)) e in
+    ap (λ (x : ℕ). pinAt x (p .xup) (p .yup)) (eqb-true (p .m) (q .m) (and-left (eqb (p .m) (q .m)) (eqb (p .xup) (q .xup) && eqb (p .yup) (q .yup)) e))
+    ∙ (ap (λ (x : ℕ). pinAt (q .m) x (p .yup)) (eqb-true (p .xup) (q .xup) (and-left (eqb (p .xup) (q .xup)) (eqb (p .yup) (q .yup)) places))
+    ∙ ap (λ (x : ℕ). pinAt (q .m) (q .xup) x) (eqb-true (p .yup) (q .yup) (and-right (eqb (p .xup) (q .xup)) (eqb (p .yup) (q .yup)) places)))
 
 -- ---- pins from one place to another
 
 module _ (pins : List Pin) where
-  pub pin-found : (from to k : ℕ) (p : Pin) (r : Bool) → from ≤ k → k < to → Yes r (getD pins k blankPin ≡ p) → r ≡ true → Yes true (Within pins from to p)
-  pin-found from to k p r l h s e = record { then = λ q. record { place = k; low = l; high = h; is = s .then e } }
+  module _ (k : ℕ) (p : Pin) (r : Bool) (s : r ≡ (eqb (getD pins k blankPin .m) (p .m) && (eqb (getD pins k blankPin .xup) (p .xup) && eqb (getD pins k blankPin .yup) (p .yup)))) where
+    pub pin-found : (from to : ℕ) → from ≤ k → k < to → r ≡ true → Yes true (Within pins from to p)
+    pin-found from to l h e = record { then = λ q. record { place = k; low = l; high = h; is = pins-same (getD pins k blankPin) p (sym s ∙ e) } }
 
   module _ (i j from low high : ℕ) where
     pub covers-none : (k : ℕ) → k ≡ from → Covers pins i j from k low high

@@ -9,7 +9,7 @@ use model::Chip;
 use model::Mac;
 use model::Net;
 use model::Pin;
-ghost use mathlib.Core.Path.{_≡_};
+use search_numbers::same_size;
 ghost use Prim.Native.Nat.{_≤_, _<_};
 ghost use Rattle.model.specs.Meaning.{chipOf};
 ghost use Rattle.search_halves.specs.Exchange.{Alike};
@@ -34,18 +34,6 @@ fn nets_alike(
     }
     let mates = mates_of(nets, t, pins, i, j);
     mated(nets, t, pins, i, j, mates)
-}
-
-fn same_size(a: Mac, b: Mac) -> bool
-    ensures { λ r. ⌜ Yes r (a ≡ b) ⌝ }
-{
-    if a.w != b.w {
-        return false;
-    }
-    if a.h != b.h {
-        return false;
-    }
-    true
 }
 
 // Whether macros i and j, counted from 0, are alike; false where the counts are more than a chip holds.

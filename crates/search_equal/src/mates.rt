@@ -2,6 +2,7 @@
 use crate::pins::covers;
 use model::Net;
 use model::Pin;
+use search_numbers::same_weight;
 ghost use mathlib.Core.Path.{_≡_};
 ghost use Prim.Native.Nat.{_+_, _≤_, _<_, min};
 ghost use Rattle.chip_text.specs.Valid.{pinsBefore};
@@ -48,7 +49,7 @@ fn turns(
 {
     let one = nets[a];
     let two = nets[b];
-    if one.weight != two.weight {
+    if !same_weight(one, two) {
         return false;
     }
     let from = start_of(nets, a);

@@ -1,5 +1,6 @@
 // Pins with two macros exchanged.
 use model::Pin;
+use search_numbers::same_pin;
 ghost use mathlib.Core.Path.{_≡_};
 ghost use Prim.Native.Nat.{_≤_, _<_};
 ghost use Rattle.search_halves.specs.Exchange.{renumbered};
@@ -34,21 +35,6 @@ fn other_pin(p: Pin, i: usize, j: usize) -> Pin
         xup: p.xup,
         yup: p.yup,
     }
-}
-
-fn same_pin(p: Pin, q: Pin) -> bool
-    ensures { λ r. ⌜ Yes r (p ≡ q) ⌝ }
-{
-    if p.m != q.m {
-        return false;
-    }
-    if p.xup != q.xup {
-        return false;
-    }
-    if p.yup != q.yup {
-        return false;
-    }
-    true
 }
 
 // Whether p is one of the pins from `from` to before `to`.

@@ -12,6 +12,8 @@ use Rattle.model.specs.declared.Outcome.the-variants as outcome
 use Rattle.model.specs.declared.Refusal.{Refusal}
 use Rattle.model.specs.declared.Spot.{Spot}
 use Rattle.model.specs.Meaning.{Chip, chipOf, firstOf, blankSpot, recordOf}
+use Rattle.model.specs.Limits.{mostMacs}
+use Rattle.model.specs.Held.{filled}
 use Rattle.model.proofs.FirstOf.{first-take}
 use Rattle.chip_text.specs.Passed.{Passed}
 use Rattle.placement.specs.Letters.{Letter}
@@ -23,16 +25,16 @@ use Rattle.search_branches.proofs.Closing.{fit-sized}
 use Rattle.fit.specs.declared.Fitted.{Fitted}
 use Rattle.fit.specs.declared.FitOutcome.the-variants as fitted
 use Rattle.fit.specs.declared.FitAnswer.{FitAnswer}
-use Rattle.fit.specs.Answer.{outcomeOf, positionsOf, padded, answerFor}
-use Rattle.fit.proofs.Outcomes.{padded-long, take-padded, is-placed, is-none, is-refused}
+use Rattle.fit.specs.Answer.{outcomeOf, positionsOf, answerFor}
+use Rattle.fit.proofs.Outcomes.{filled-long, take-filled, is-placed, is-none, is-refused}
 use Rattle.search_best.specs.Best.{bestOf}
 use Rattle.search_node.specs.Letters.{lettersIn, Lettered}
 use Rattle.search_node.specs.Node.{noRecord, FitHeld}
 use Rattle.search_join.specs.Joined.{FitFor}
 use Rattle.search_node.proofs.Records.{no-best, none-counted}
 
-pub first-padded : (n : ℕ) (ps : List Spot) → length ps ≡ n → n ≤ 8 → firstOf blankSpot n (padded ps) ≡ ps
-first-padded n ps e h = let l = padded-long ps (omega arith) in first-take blankSpot n (padded ps) (omega arith) ∙ take-padded n ps e
+pub first-filled : (n : ℕ) (ps : List Spot) → length ps ≡ n → n ≤ 8 → firstOf blankSpot n (filled mostMacs blankSpot ps) ≡ ps
+first-filled n ps e h = let l = filled-long ps (omega arith) in first-take blankSpot n (filled mostMacs blankSpot ps) (omega arith) ∙ take-filled n ps e
 
 -- the placement of a fit, or nothing
 abbrev back : Fit → Best
@@ -92,14 +94,14 @@ module _ (c : HeldChip) (letters : List ℕ) (p : ℕ) (ok : Passed c) (e : Lett
     placed-held : (f : Fitted) → a .outcome ≡ fitted.Placed f → FitHeld c letters p (record { outcome = outcome.Least (f .length) (c .n); spots = a .spots })
     unfolding bestOf recordOf
     placed-held f z = record {
-      is = rw (spots, first-padded (c .n) (positionsOf F) sized (ok .fine .macCount)) (sym here);
-      counted = record { few = ok .fine .macCount; whole = ap (λ (s : List Spot). length s) spots ∙ padded-long (positionsOf F) (let q = ok .fine .macCount in let s = sized in omega arith); count = refl };
+      is = rw (spots, first-filled (c .n) (positionsOf F) sized (ok .fine .macCount)) (sym here);
+      counted = record { few = ok .fine .macCount; whole = ap (λ (s : List Spot). length s) spots ∙ filled-long (positionsOf F) (let q = ok .fine .macCount in let s = sized in omega arith); count = refl };
     }
       where
         here : fitOf C ls ≡ found (f .length) (positionsOf F)
         here = best-is (placed (f .length) (f .slots) (positionsOf F)) (is-placed (a .outcome) F same f z)
 
-        spots : a .spots ≡ padded (positionsOf F)
+        spots : a .spots ≡ filled mostMacs blankSpot (positionsOf F)
         spots = ap (λ (t : FitAnswer). t .spots) is
 
         sized : length (positionsOf F) ≡ c .n

@@ -12,13 +12,10 @@ use model::Record;
 use model::Spot;
 use search_node::LETTERS;
 use search_node::no_record;
+use search_numbers::sum;
 ghost use mathlib.Core.Path.{_≡_};
-ghost use Prim.Native.Nat.{_+_, min};
 ghost use Rattle.chip_array.specs.Array.{chipIn};
 ghost use Rattle.search_join.specs.Joined.{FitFor, spotWith, spotsWith, JoinedFrom};
-
-// Lengths count up to this in a sum; no placement is so long.
-const LONGEST: u64 = 4294967296;
 
 // The fit of letters as a record; none where there is no fit.
 fn fit_record(c: Chip, letters: [u8; LETTERS], p: usize) -> Record
@@ -74,22 +71,6 @@ pub fn spots_with(
         i += 1;
     }
     r
-}
-
-fn lesser(a: u64, b: u64) -> u64
-    ensures { λ r. ⌜ r ≡ min a b ⌝ }
-{
-    if a < b {
-        return a;
-    }
-    b
-}
-
-// The sum of two lengths.
-fn sum(a: u64, b: u64) -> u64
-    ensures { λ r. ⌜ r ≡ min a 4294967296 + min b 4294967296 ⌝ }
-{
-    lesser(a, LONGEST) + lesser(b, LONGEST)
 }
 
 // The fit of the letters: one half is f, the other that of the fit before, of length other.

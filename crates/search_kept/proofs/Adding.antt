@@ -1,9 +1,8 @@
 -- One difference more, and its sums with the others: the table stands for all of them.
-use Prim.Native.Nat.{ℕ, _+_, _-_, _*_, _/_, _%_, _≤_, _<_}
+use Prim.Native.Nat.{ℕ, _+_, _-_, _*_, _/_, _%_, _≤_, _<_, suc, min}
 use mathlib.Core.Path.{_≡_, ap, subst, sym, _∙_}
 use mathlib.Core.Bool.{Bool, true}
 use mathlib.Core.List.{List}
-use native.Mathlib.Numerals.{add-one}
 use native.Mathlib.Omega.{arith}
 use lib.Dec.{ltb}
 use lib.ListN.{length, getD, set}
@@ -141,17 +140,16 @@ against-is e a d b j k = rw (j, k)
 pub limited-small : (s : Slot) → Limited (limited s)
 limited-small s = record { tail = omega arith; head = omega arith; plus = omega arith; minus = omega arith }
 
-pub turned-small : (s a : Slot) (p : ℕ) → a ≡ limited s → p ≤ a .minus + 1 → Limited (slot (a .head) (a .tail) p (a .plus))
-turned-small s a p e h =
-    subst (λ (t : Slot). p ≤ t .minus + 1 → Limited (slot (t .head) (t .tail) p (t .plus))) (sym e)
-    (λ g. record { tail = omega arith; head = omega arith; plus = omega arith; minus = omega arith }) h
+-- the opposite of a slot as it is read
+pub opposite-is : (s a r : Slot) → a ≡ limited s → r ≡ slot (a .head) (a .tail) (min (a .minus) 2097152 + 1) (a .plus) → r ≡ contrary (limited s)
+opposite-is s a r e q = q ∙ (ap (λ (t : Slot). slot (t .head) (t .tail) (min (t .minus) 2097152 + 1) (t .plus)) e ∙ ap (λ (p : ℕ). slot (s .head % 9) (s .tail % 9) p (s .plus % 2097152)) (let e : min (s .minus % 2097152) 2097152 + 1 ≡ suc (s .minus % 2097152) = omega arith in e))
+
+pub opposite-small : (s a r : Slot) → a ≡ limited s → r ≡ slot (a .head) (a .tail) (min (a .minus) 2097152 + 1) (a .plus) → Limited r
+opposite-small s a r e q = rw (opposite-is s a r e q) (record { tail = omega arith; head = omega arith; plus = omega arith; minus = omega arith })
 
 -- a slot as it is read, and its contrary
 pub of-limited : (e : List ℕ) (s a : Slot) (r : List ℕ) → a ≡ limited s → Adds e a r → Adds e (limited s) r
 of-limited e s a r i h = subst (λ (t : Slot). Adds e t r) i h
 
-pub of-contrary : (e : List ℕ) (s a : Slot) (r : List ℕ) → a ≡ limited s → Adds e (slot (a .head) (a .tail) (a .minus + 1) (a .plus)) r → Adds e (contrary (limited s)) r
-of-contrary e s a r i h = subst (λ (t : Slot). Adds e t r) (same a (limited s) i) h
-  where
-    same : (a b : Slot) → a ≡ b → slot (a .head) (a .tail) (a .minus + 1) (a .plus) ≡ contrary b
-    same a b i = rw (i, add-one (b .minus))
+pub of-contrary : (e : List ℕ) (s a o : Slot) (r : List ℕ) → a ≡ limited s → o ≡ slot (a .head) (a .tail) (min (a .minus) 2097152 + 1) (a .plus) → Adds e o r → Adds e (contrary (limited s)) r
+of-contrary e s a o r i q h = subst (λ (t : Slot). Adds e t r) (opposite-is s a o i q) h

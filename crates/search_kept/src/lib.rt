@@ -1,5 +1,6 @@
 // Differences that are kept: a lower bound for each two of nine nodes, held higher by 2^24 at place 9 u + v, and their sums.
 use axis_bounds::Slot;
+use search_numbers::opposite;
 ghost use mathlib.Core.Path.{_≡_};
 ghost use Prim.Native.Nat.{_<_};
 ghost use lib.ListN.{set};
@@ -150,16 +151,7 @@ pub fn keep(e: [u32; CELLS], s: Slot) -> [u32; CELLS]
 pub fn keep_opposite(e: [u32; CELLS], s: Slot) -> [u32; CELLS]
     ensures { λ r. ⌜ Adds e (contrary (limited s)) r ⌝ }
 {
-    let a = limit(s);
-    add(
-        e,
-        Slot {
-            tail: a.head,
-            head: a.tail,
-            plus: a.minus + 1,
-            minus: a.plus,
-        },
-    )
+    add(e, opposite(limit(s)))
 }
 
 // The bounds of a table with their sums over the die corner, and 0 from each node to itself.

@@ -2,8 +2,11 @@
 use Prim.{tt}
 use Prim.Native.Nat.{ℕ, _≤_, _<_}
 use mathlib.Core.Path.{_≡_, refl, sym, ap, subst, _∙_}
+use mathlib.Core.Bool.{Bool, true, false, cond}
 use mathlib.Core.List.{List}
 use native.Mathlib.Omega.{arith}
+use lib.Dec.{ltb}
+use borrow.Author.Tests.{lt-ltb, le-ltb}
 use lib.ListN.{length, getD, set}
 use Rattle.model.specs.declared.Chip.{Chip as HeldChip}
 use Rattle.model.specs.declared.Record.{Record as HeldRecord}
@@ -35,7 +38,7 @@ use Rattle.search_best.specs.Best.{bestOf}
 use Rattle.search_node.specs.Letters.{byteOf, lettersIn, letterAt, wayAt, Lettered, Asks}
 use Rattle.search_node.specs.Node.{roomOf, NodeOk, Open}
 use Rattle.search_join.specs.Joined.{HalfSaid, Beside, JoinedFrom}
-use Rattle.search_letters.specs.Turns.{ChildOn, ChildOf}
+use Rattle.search_letters.specs.Turns.{ownArcs, otherLength, ChildOn, ChildOf}
 use Rattle.search_node.proofs.Asking.{way-across, way-up, way-of, asks-beside}
 use Rattle.search_node.proofs.Lettering.{letters-set, letters-long, lettered-set}
 
@@ -109,33 +112,39 @@ module _ (c : HeldChip) (p : ℕ) (node : Node) (s i : ℕ) where
             bounded : Arced d C (lettersIn r p) arcs
             bounded = rw (now, q, a .slot) (arced-letter d C (ok .valid) ls counted s (letterAt i) place-in (o .undecided) old arced (way-of i (a .four) ∙ w))
 
-      beside-x : wayAt i ≡ horizontal → Beside c r p (node .here) horizontal (node .ly)
-      beside-x w = beside horizontal w (node .ly) (n .halves .y)
+      -- of the letter's direction
+      beside-own : (b : Bool) → wayAt i ≡ cond b horizontal vertical → Beside c r p (node .here) (cond b horizontal vertical) (cond b (node .ly) (node .lx))
+      beside-own true w = beside horizontal w (node .ly) (n .halves .y)
+      beside-own false w = beside vertical w (node .lx) (n .halves .x)
 
-      beside-y : wayAt i ≡ vertical → Beside c r p (node .here) vertical (node .lx)
-      beside-y w = beside vertical w (node .lx) (n .halves .x)
+    arced-own : (b : Bool) → Arced (cond b horizontal vertical) C ls (cond b (node .ax) (node .ay))
+    arced-own true = n .across
+    arced-own false = n .up
 
 -- ---- in the form of the needs
 
-module _ (c : HeldChip) (p s i : ℕ) (t : Slot) (best r : HeldRecord) where
-  pub child-on : (letters : List ℕ) (here : HeldRecord) (d : Direction) (tab before arcs : List ℕ) (other room : ℕ) (f : HalfFit) → arcs ≡ withBound before t → room ≡ roomOf (best .outcome) other → Answers tab arcs room (f .outcome) (f .at)
-      → (ls : List ℕ) → ls ≡ set letters s (byteOf i) → JoinedFrom c ls p here best d f other r → ChildOn c p d tab letters before here other s i t best r
-  child-on letters here d tab before arcs other room f ea em h ls el j = record {
-    held = λ node eq same ok n o a w tabled arced beside.
-        (rw el at j) .held ok (child-lettered c p node s i t ok n o a new (now eq)) beside
+pub in-first : {A : Type 0} (a b : A) (i : ℕ) → i < 2 → a ≡ cond (ltb i 2) a b
+in-first a b i h = rw (lt-ltb i 2 h)
+
+pub in-second : {A : Type 0} (a b : A) (i : ℕ) → 2 ≤ i → b ≡ cond (ltb i 2) a b
+in-second a b i h = rw (le-ltb i 2 h)
+
+module _ (c : HeldChip) (p s i : ℕ) (t : Slot) (best r : HeldRecord) (node : Node) where
+  pub child-on : (tab before arcs : List ℕ) (other room : ℕ) (d : Direction) (f : HalfFit) → before ≡ ownArcs node i → other ≡ otherLength node i → d ≡ wayAt i → arcs ≡ withBound before t → room ≡ roomOf (best .outcome) other
+      → Answers tab arcs room (f .outcome) (f .at) → (ls : List ℕ) → ls ≡ set (node .letters) s (byteOf i) → JoinedFrom c ls p (node .here) best d f other r → ChildOn c p tab node s i t best r
+  child-on tab before arcs other room d f eb eo ed ea em h ls el j = record {
+    held = λ ok n o a tabled.
+        (rw el at j) .held ok (child-lettered c p node s i t ok n o a new refl) (rw (ed, eo) (beside-own c p node s i t ok n o a new refl (ltb i 2) refl))
         (subst (λ (k : ℕ). HalfSaid (chipOf c) (lettersIn new p) d k (f .outcome) (f .at)) em
-        (said c p node s i t ok n o a new (now eq) d w tab before arcs tabled (subst (λ (x : List ℕ). Arced d (chipOf c) (lettersIn x p) before) eq arced) ea room f h));
+        (said c p node s i t ok n o a new refl d (sym ed) tab before arcs (rw ed tabled) (rw (ed, eb) (arced-own c p node s i t ok n o a (ltb i 2))) ea room f h));
   }
     where
       new : List ℕ
-      new = set letters s (byteOf i)
+      new = set (node .letters) s (byteOf i)
 
-      now : {x : List ℕ} → letters ≡ x → new ≡ set x s (byteOf i)
-      now q = ap (λ (x : List ℕ). set x s (byteOf i)) q
+  module _ (tx ty : List ℕ) where
+    pub child-across : i < 2 → ChildOn c p tx node s i t best r → ChildOf c p tx ty node s i t best r
+    child-across h k = record { held = λ ok v n o a. k .held ok n o a (rw (← way-across i h) (v .x)) }
 
-  module _ (node : Node) (tx ty : List ℕ) where
-    pub child-across : i < 2 → ChildOn c p horizontal tx (node .letters) (node .ax) (node .here) (node .ly) s i t best r → ChildOf c p tx ty node s i t best r
-    child-across h k = record { held = λ ok v n o a. k .held node refl refl ok n o a (sym (way-across i h)) (v .x) (n .across) (beside-x c p node s i t ok n o a _ refl (sym (way-across i h))) }
-
-    pub child-up : 2 ≤ i → ChildOn c p vertical ty (node .letters) (node .ay) (node .here) (node .lx) s i t best r → ChildOf c p tx ty node s i t best r
-    child-up h k = record { held = λ ok v n o a. k .held node refl refl ok n o a (sym (way-up i h)) (v .y) (n .up) (beside-y c p node s i t ok n o a _ refl (sym (way-up i h))) }
+    pub child-up : 2 ≤ i → ChildOn c p ty node s i t best r → ChildOf c p tx ty node s i t best r
+    child-up h k = record { held = λ ok v n o a. k .held ok n o a (rw (← way-up i h) (v .y)) }

@@ -1,9 +1,10 @@
 -- The letters of a pair, tried one by one: which are closed, and what is left of the branch.
 use Prim.Native.Nat.{ℕ, _+_, _<_}
 use mathlib.Core.Path.{_≡_}
-use mathlib.Core.Bool.{true}
+use mathlib.Core.Bool.{true, cond}
 use mathlib.Core.List.{List}
 use mathlib.Core.Logic.{_⊎_}
+use lib.Dec.{ltb}
 use lib.ListN.{set}
 use Rattle.model.specs.declared.Chip.{Chip as HeldChip}
 use Rattle.model.specs.declared.Spot.{Spot}
@@ -13,12 +14,11 @@ use Rattle.chip_text.specs.Passed.{Passed}
 use Rattle.placement.specs.Letters.{Letter}
 use Rattle.placement.specs.Least.{nothing, fitOf}
 use Rattle.axis_bounds.specs.declared.Slot.{Slot}
-use Rattle.fit_slots.specs.declared.Direction.{Direction}
 use Rattle.fit_pairs.specs.declared.Cursor.{Cursor}
 use Rattle.search_branches.specs.Branch.{inBranch}
 use Rattle.search_halves.specs.Kept.{keepsOne, oppositeAt}
 use Rattle.search_halves.specs.Result.{placed, NotAfter}
-use Rattle.search_tables.specs.Tables.{Tabled, Arced}
+use Rattle.search_tables.specs.Tables.{Tabled}
 use Rattle.search_best.specs.Best.{bestOf, Counted}
 use Rattle.search_node.specs.Letters.{byteOf, lettersIn, letterAt, wayAt, Asks}
 use Rattle.search_node.specs.Node.{noRecord, Arrayed, NodeOk, Open, Given, Turn}
@@ -26,7 +26,7 @@ use Rattle.search_node.specs.declared.Node.{Node}
 use Rattle.search_node.specs.declared.Parts.{Parts}
 use Rattle.search_left.specs.Left.{KeepsBoth, childList, childAt}
 use Rattle.search_left.specs.declared.Left.{Left}
-use Rattle.search_join.specs.Joined.{ChildHeld, Beside}
+use Rattle.search_join.specs.Joined.{ChildHeld}
 
 -- ---- what is left
 
@@ -52,15 +52,19 @@ pub record LeftOk (c : HeldChip) (p : ℕ) (node : Node) (s i : ℕ) (t : Left) 
 
 -- ---- what is answered
 
--- r is the fit of a branch with letter i for pair s, of direction d, or no placement where nothing there replaces the best; the branch's bounds in
--- direction d are `before`, the length of its other half is `other`
-pub record ChildOn (c : HeldChip) (p : ℕ) (d : Direction) (tab letters before : List ℕ) (here : HeldRecord) (other s i : ℕ) (t : Slot)
-    (best r : HeldRecord) : Type 0 where
-  pub held : (node : Node) → letters ≡ node .letters → here ≡ node .here → Passed c → NodeOk c p node → Open c p node s → Asks c s i t
-      → wayAt i ≡ d → Tabled d (chipOf c) tab → Arced d (chipOf c) (lettersIn letters p) before
-      → Beside c (set letters s (byteOf i)) p here d other → ChildHeld c (set letters s (byteOf i)) p best r
+-- a node's bounds in the direction of letter i, and the length of the half in the other
+abbrev pub ownArcs : Node → ℕ → List ℕ
+ownArcs node i = cond (ltb i 2) (node .ax) (node .ay)
 
--- the same, whatever the letter's direction
+abbrev pub otherLength : Node → ℕ → ℕ
+otherLength node i = cond (ltb i 2) (node .ly) (node .lx)
+
+-- r is the fit of a branch with letter i for pair s, or no placement where nothing there replaces the best; tab: the nets of the letter's direction
+pub record ChildOn (c : HeldChip) (p : ℕ) (tab : List ℕ) (node : Node) (s i : ℕ) (t : Slot) (best r : HeldRecord) : Type 0 where
+  pub held : Passed c → NodeOk c p node → Open c p node s → Asks c s i t → Tabled (wayAt i) (chipOf c) tab
+      → ChildHeld c (set (node .letters) s (byteOf i)) p best r
+
+-- the same, from the nets of both directions
 pub record ChildOf (c : HeldChip) (p : ℕ) (tx ty : List ℕ) (node : Node) (s i : ℕ) (t : Slot) (best r : HeldRecord) : Type 0 where
   pub held : Passed c → Arrayed c tx ty → NodeOk c p node → Open c p node s → Asks c s i t → ChildHeld c (set (node .letters) s (byteOf i)) p best r
 

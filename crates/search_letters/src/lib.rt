@@ -1,11 +1,11 @@
 // The four letters of a pair, tried: each is excluded by the differences, closed by its fit, or left with it.
 use axis_bounds::Slot;
 use fit_pairs::Cursor;
-use fit_slots::Direction;
 use half_fit::ARCS;
 use half_fit::HELP;
 use half_fit::POOL;
 use half_fit::TAB;
+use half_fit::service::half_fit;
 use model::Record;
 use search_best::replaces_best;
 use search_join::joined;
@@ -13,28 +13,45 @@ use search_left::Left;
 use search_left::is_excluded;
 use search_left::keep_opposite;
 use search_left::put_child;
-use search_node::LETTERS;
 use search_node::Node;
 use search_node::Parts;
 use search_node::decided;
 use search_node::letter_slot;
 use search_node::no_record;
 use search_node::room;
+use search_node::way;
 use search_tables::with_bound;
+ghost use mathlib.Core.Path.{_≡_};
 ghost use Rattle.chip_array.specs.Array.{chipIn};
-ghost use Rattle.search_letters.specs.Turns.{Untried, ChildOn, ChildOf, TriedOne, Tried};
+ghost use Rattle.search_letters.specs.Turns.{Untried, ownArcs, otherLength, ChildOn, ChildOf, TriedOne, Tried};
 
-// The fit of a branch with letter i for pair s, from the half fit of the letter's direction; its bounds there are `before`, the length of the other half is `other`, the letter's slot is t. The half fit's state goes into the pool.
+// The bounds of a node in the direction of letter i.
+fn own_arcs(node: Node, i: usize) -> [u32; ARCS]
+    ensures { λ r. ⌜ r ≡ ownArcs node i ⌝ }
+{
+    if i < 2 {
+        return node.ax;
+    }
+    node.ay
+}
+
+// The length of the half that letter i leaves as it is.
+fn other_length(node: Node, i: usize) -> u64
+    ensures { λ r. ⌜ r ≡ otherLength node i ⌝ }
+{
+    if i < 2 {
+        return node.ly;
+    }
+    node.lx
+}
+
+// The fit of a branch with letter i for pair s, whose slot is t, from the half fit of the letter's direction. The half fit's state goes into the pool.
 fn child_on(
     cs: &[u64; chip_array::CELLS],
     p: usize,
-    d: Direction,
     tab: &[u32; TAB],
     help: &[u32; HELP],
-    letters: [u8; LETTERS],
-    before: [u32; ARCS],
-    here: Record,
-    other: u64,
+    node: Node,
     state: &[u32; POOL],
     k: usize,
     s: usize,
@@ -43,22 +60,16 @@ fn child_on(
     best: Record,
     pool: &mut [u32; POOL],
 ) -> Record
-    ensures { λ r. ⌜ ChildOn (chipIn (now (cs .entry))) p d (now (tab .entry)) letters before here other s i t best r ⌝ }
+    ensures { λ r. ⌜ ChildOn (chipIn (now (cs .entry))) p (now (tab .entry)) node s i t best r ⌝ }
 {
-    let arcs = with_bound(before, t);
-    let f = half_fit::service::half_fit(
-        tab,
-        help,
-        &arcs,
-        state,
-        k,
-        pool,
-        i,
-        t.tail,
-        t.head,
-        room(best, other),
-    );
-    joined(cs, p, decided(letters, s, i), here, best, d, f, other)
+    let letters = node.letters;
+    let here = node.here;
+    let other = other_length(node, i);
+    let most = room(best, other);
+    let arcs = with_bound(own_arcs(node, i), t);
+    let f = half_fit(tab, help, &arcs, state, k, pool, i, t.tail, t.head, most);
+    let next = decided(letters, s, i);
+    joined(cs, p, next, here, best, way(i), f, other)
 }
 
 // Letter i of pair s, whose slot is t. Its state goes into the pool.
@@ -82,48 +93,10 @@ fn child(
 ) -> Record
     ensures { λ r. ⌜ ChildOf (chipIn (now (cs .entry))) p (now (tx .entry)) (now (ty .entry)) node s i t best r ⌝ }
 {
-    let letters = node.letters;
-    let here = node.here;
     if i < 2 {
-        let ax = node.ax;
-        return child_on(
-            cs,
-            p,
-            Direction::Horizontal,
-            tx,
-            hx,
-            letters,
-            ax,
-            here,
-            node.ly,
-            sx,
-            ix,
-            s,
-            i,
-            t,
-            best,
-            pool,
-        );
+        return child_on(cs, p, tx, hx, node, sx, ix, s, i, t, best, pool);
     }
-    let ay = node.ay;
-    child_on(
-        cs,
-        p,
-        Direction::Vertical,
-        ty,
-        hy,
-        letters,
-        ay,
-        here,
-        node.lx,
-        sy,
-        iy,
-        s,
-        i,
-        t,
-        best,
-        pool,
-    )
+    child_on(cs, p, ty, hy, node, sy, iy, s, i, t, best, pool)
 }
 
 // A branch of which no letter of a pair is tried.

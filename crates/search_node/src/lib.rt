@@ -14,7 +14,7 @@ use search_tables::ARCS;
 ghost use mathlib.Core.Path.{_≡_};
 ghost use Prim.Native.Nat.{_-_};
 ghost use lib.ListN.{set};
-ghost use Rattle.search_node.specs.Letters.{byteOf, wayAt, askedAt, slotAsked};
+ghost use Rattle.search_node.specs.Letters.{byteOf, dots, wayAt, askedAt, slotAsked};
 ghost use Rattle.search_node.specs.Node.{noRecord, lengthOf, roomOf};
 
 // Room for the letters of a chip: at most 92 today, and 120 with 12 more fixes.
@@ -83,6 +83,13 @@ pub fn room(best: Record, other: u64) -> u64
     }
 }
 
+// A dot for each pair.
+pub fn no_letters() -> [u8; LETTERS]
+    ensures { λ r. ⌜ r ≡ dots ⌝ }
+{
+    [46; LETTERS]
+}
+
 // The byte of letter i; 0 past the four.
 fn letter(i: usize) -> u8
     ensures { λ r. ⌜ r ≡ byteOf i ⌝ }
@@ -114,7 +121,7 @@ pub fn decided(letters: [u8; LETTERS], s: usize, i: usize) -> [u8; LETTERS]
 }
 
 // The direction of letter i.
-fn way(i: usize) -> Direction
+pub fn way(i: usize) -> Direction
     ensures { λ r. ⌜ r ≡ wayAt i ⌝ }
 {
     if i < 2 {

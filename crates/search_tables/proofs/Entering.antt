@@ -9,7 +9,7 @@ use lib.ListN.{length, getD, set, length-set}
 use lib.Seq.{getD-set-same, getD-set-other}
 use Rattle.axis_bounds.specs.declared.AxisPin.{AxisPin}
 use Rattle.half_arrays.specs.Arrays.{nodeAt, mostAt, leastAt, netAt}
-use Rattle.search_tables.specs.declared.entries.Span.{Span}
+use Rattle.search_numbers.specs.declared.Span.{Span}
 use Rattle.search_tables.specs.Entries.{Spans, withEntry, Backed, Stood, Entered, SameRest}
 
 -- ---- entries that stay

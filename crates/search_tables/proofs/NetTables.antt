@@ -21,7 +21,7 @@ use Rattle.chip_text.proofs.HeldNets.{pins-before-more, pins-before-next, pins-
 use Rattle.axis_bounds.specs.declared.AxisPin.{AxisPin}
 use Rattle.fit_slots.specs.declared.Direction.{Direction}
 use Rattle.half_arrays.specs.Arrays.{weightAt, entryCount}
-use Rattle.search_tables.specs.declared.entries.Span.{Span}
+use Rattle.search_numbers.specs.declared.Span.{Span}
 use Rattle.search_tables.specs.Entries.{pinsOn, startOf, Lies, Spans, withEntry, Entered, onNodes, Few, SameRest, Weighed, NetsIn, NetPut}
 use Rattle.search_tables.proofs.Padding.{zeros-at}
 use Rattle.search_tables.proofs.Entering.{PinsWithin, entered-store, entered-none, entered-rest, entered-more}

@@ -8,8 +8,9 @@ use mathlib.Core.List.{List}
 use Rattle.model.specs.declared.Pin.{Pin}
 use Rattle.axis_bounds.specs.declared.AxisPin.{AxisPin}
 use Rattle.fit_slots.specs.declared.Direction.{Direction}
-use Rattle.search_tables.specs.declared.entries.Span.{Span}
-use Rattle.search_tables.specs.Entries.{pinsOn, Lies, Spans, span, joinedTo}
+use Rattle.search_numbers.specs.declared.Span.{Span}
+use Rattle.search_numbers.specs.Spans.{span, joinedTo}
+use Rattle.search_tables.specs.Entries.{pinsOn, Lies, Spans}
 
 lies-on : (p : ℕ → AxisPin) (from i v u : ℕ) → Lies p from i v u → Lies p from (i + 1) v u
 lies-on p from i v u l = let h = l .high in record { place = l .place; low = l .low; high = omega arith; node = l .node; up = l .up }

@@ -14,9 +14,8 @@ use Rattle.fit_slots.specs.declared.Direction.{Direction}
 use Rattle.fit_slots.specs.declared.Direction.the-variants.{Horizontal as horizontal, Vertical as vertical}
 use Rattle.fit_slots.specs.Slots.{macSide}
 use Rattle.half_arrays.specs.Arrays.{boundAt, pinAt}
-use Rattle.search_tables.specs.declared.entries.Span.{Span}
 use Rattle.search_tables.specs.Tables.{placeOn, boundOn, withBound}
-use Rattle.search_tables.specs.Entries.{upOn, pinOn, span, joinedTo, withEntry}
+use Rattle.search_tables.specs.Entries.{upOn, pinOn, withEntry}
 use Rattle.search_tables.specs.Dots.{dotBound}
 
 pub bound-put : (arcs : List ℕ) (s : Slot) (old b r : ℕ) → old ≡ getD arcs (placeOn s) 0 % 33554432 → b ≡ boundOn s → r ≡ max old b → set arcs (placeOn s) r ≡ withBound arcs s
@@ -27,12 +26,6 @@ bound-put arcs s old b r eo eb er =
 
 pub pin-made : (d : Direction) (p : Pin) (u : ℕ) → u ≡ upOn d p → pinAt (p .m % 9) (u % 65536) ≡ pinOn d p
 pin-made d p u e = rw e
-
-pub joined-on : (s : Span) (u m l : ℕ) → s .some ≡ true → m ≡ max (s .most) u → l ≡ min (s .least) u → span (s .some) m l ≡ joinedTo s u
-joined-on s u m l h em el = rw (h, em, el)
-
-pub joined-first : (s : Span) (u : ℕ) → s .some ≡ false → span true u u ≡ joinedTo s u
-joined-first s u h = rw h
 
 pub entry-put : (tab : List ℕ) (e node most least net a b c g : ℕ) → a ≡ node % 65536 → b ≡ most % 65536 → c ≡ least % 65536 → g ≡ net % 65536 → set (set (set (set tab (e % 128) a) (128 + e % 128) b) (256 + e % 128) c) (384 + e % 128) g ≡ withEntry tab e node most least net
 unfolding withEntry

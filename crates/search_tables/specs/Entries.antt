@@ -14,7 +14,7 @@ use Rattle.axis_bounds.specs.declared.AxisPin.{AxisPin}
 use Rattle.fit_slots.specs.declared.Direction.{Direction}
 use Rattle.fit_slots.specs.declared.Direction.the-variants.{Horizontal as horizontal, Vertical as vertical}
 use Rattle.half_arrays.specs.Arrays.{nodeAt, mostAt, leastAt, netAt, weightAt, pinAt}
-use Rattle.search_tables.specs.declared.entries.Span.{Span}
+use Rattle.search_numbers.specs.declared.Span.{Span}
 
 -- ---- pins
 
@@ -52,13 +52,6 @@ pub record Spans (p : ℕ → AxisPin) (from to node : ℕ) (s : Span) : Type 0 
   pub least : s .some ≡ true → Lies p from to node (s .least)
   pub under : (i : ℕ) → from ≤ i → i < to → p i .node ≡ node → p i .up ≤ s .most
   pub over : (i : ℕ) → from ≤ i → i < to → p i .node ≡ node → s .least ≤ p i .up
-
-abbrev pub span : Bool → ℕ → ℕ → Span
-span b most least = record { some = b; most = most; least = least }
-
--- one place more
-abbrev pub joinedTo : Span → ℕ → Span
-joinedTo s u = cond (s .some) (span true (max (s .most) u) (min (s .least) u)) (span true u u)
 
 -- ---- entries
 

@@ -1,11 +1,11 @@
 // The bounds of a chip without letters.
 use crate::ARCS;
-use crate::limits::bound_of;
 use fit_pair_slots::die_side;
 use fit_pair_slots::mac_side;
 use fit_slots::Direction;
 use model::Die;
 use model::Mac;
+use search_numbers::bound_of;
 ghost use mathlib.Core.Path.{_≡_};
 ghost use mathlib.Core.List.{map};
 ghost use Prim.Native.Nat.{_≤_};

@@ -2,24 +2,18 @@
 // Parts of 128 numbers: 0 on the nodes, 128 on the greatest places, 256 on the least, 384 on the nets of the entries. At 512 + j the
 // entries of net j begin, at 576 + j stands its weight; at 896, 897, 898 the counts of nets, macros and entries.
 use crate::TAB;
-use crate::limits::lesser;
 use crate::limits::narrow;
 use axis_bounds::AxisPin;
 use fit_slots::Direction;
 use model::Net;
 use model::Pin;
+use search_numbers::Span;
+use search_numbers::joined;
 ghost use mathlib.Core.Path.{_≡_};
-ghost use Prim.Native.Nat.{_+_, _*_, _≤_, _<_, max};
+ghost use Prim.Native.Nat.{_+_, _*_, _≤_, _<_};
 ghost use Rattle.chip_text.specs.Valid.{pinsBefore};
 ghost use Rattle.half_arrays.specs.Arrays.{entryCount};
-ghost use Rattle.search_tables.specs.Entries.{upOn, pinOn, pinsOn, startOf, Spans, joinedTo, withEntry, Entered, NetsIn, NetPut};
-
-// The greatest and the least place of some pins, if there are any.
-pub(crate) struct Span {
-    pub(crate) some: bool,
-    pub(crate) most: u64,
-    pub(crate) least: u64,
-}
+ghost use Rattle.search_tables.specs.Entries.{upOn, pinOn, pinsOn, startOf, Spans, withEntry, Entered, NetsIn, NetPut};
 
 fn pin_up(p: Pin, d: Direction) -> u64
     ensures { λ r. ⌜ r ≡ upOn d p ⌝ }
@@ -36,34 +30,6 @@ fn pin_on(p: Pin, d: Direction) -> AxisPin
     AxisPin {
         node: p.m % 9,
         up: pin_up(p, d) % 65536,
-    }
-}
-
-fn higher(a: u64, b: u64) -> u64
-    ensures { λ r. ⌜ r ≡ max a b ⌝ }
-{
-    if a < b {
-        return b;
-    }
-    a
-}
-
-// One place more.
-fn joined(s: Span, up: u64) -> Span
-    ensures { λ r. ⌜ r ≡ joinedTo s up ⌝ }
-{
-    let some = s.some;
-    if some {
-        return Span {
-            some,
-            most: higher(s.most, up),
-            least: lesser(s.least, up),
-        };
-    }
-    Span {
-        some: true,
-        most: up,
-        least: up,
     }
 }
 

@@ -5,14 +5,14 @@ mod limits;
 
 use crate::dots::dot_arcs;
 use crate::entries::net_table;
-use crate::limits::bound_of;
-use crate::limits::greater;
 use axis_bounds::Slot;
 use fit_slots::Direction;
 use model::Chip;
 use model::Mac;
 use model::Net;
 use model::Pin;
+use search_numbers::bound_of;
+use search_numbers::greater;
 ghost use mathlib.Core.Path.{_≡_};
 ghost use Prim.Native.Nat.{_≤_};
 ghost use Rattle.chip_text.specs.Valid.{pinsBefore};

@@ -7,7 +7,7 @@ use Rattle.search_equal.proofs.alike.Tie as tie
 use Rattle.search_equal.proofs.alike.Reads as reads
 use Rattle.search_equal.proofs.alike.Lts as lts
 use Rattle.search_equal.proofs.nets_alike.Reads as nets-alike-reads
-use Rattle.search_equal.proofs.same_size.Reads as same-size-reads
+use Rattle.search_numbers.proofs.same_size.Reads as same-size-reads
 
 -- the chip's arrays are as long as its type says
 shape : (t : lts.Start (same-size-reads.Asked, same-size-reads.Learnt, nets-alike-reads.Asked, nets-alike-reads.Learnt) reads.Pre reads.Post) → Whole (t .args .c)

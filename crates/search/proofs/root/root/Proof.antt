@@ -27,7 +27,7 @@ half-length-requires-2 c κs = search needs
 returns : tie.Need-returns
 returns c =
     let start = c .before .before .before .before .before .before .before .before .before .before .before .before .before .before .pre in
-    root-ok _ _ (start .0) (start .1) _ _ (start .2) _ _ (start .3) _ (start .4) _ (c .before .before .before .before .before .before .before .before .closed .ensures) _ (c .before .before .before .before .before .before .before .ordered .ensures) _ (c .before .before .before .before .before .before .closed2 .ensures)
+    root-ok _ _ (start .0) (start .1) _ (start .2) _ _ (start .3) _ _ (start .4) _ (start .5) _ (c .before .before .before .before .before .before .before .before .closed .ensures) _ (c .before .before .before .before .before .before .before .ordered .ensures) _ (c .before .before .before .before .before .before .closed2 .ensures)
     _ (c .before .before .before .before .coordinates .ensures) _ (c .before .before .before .half-length .ensures) _ (c .before .coordinates2 .ensures) _ (c .half-length2 .ensures)
 
 pub root-spec : {M : Type 1} → statement M

@@ -5,6 +5,9 @@ use borrow.Author.Needs.{needs}
 use Rattle.search.proofs.service.chip_record.Statement.{statement}
 use Rattle.search.proofs.service.chip_record.Tie as tie
 
+no-letters-requires : tie.Need-no-letters-requires
+no-letters-requires c κs = search needs
+
 letter-count-requires : tie.Need-letter-count-requires
 letter-count-requires c κs = search needs
 
@@ -31,19 +34,20 @@ first-fit-requires c κs =
     let made = c .before .before .before .before .before .before .before .before .before .before .before .before .before .before .before in
     let lent = made .before .before in
     let counted = lent .before .before in
-    let ok = counted .before .pre in
+    let ok = counted .before .before .pre in
     let across = c .before .before .before .before .before .before .first-half in
     let up = c .before .first-half2 in
-    first-asked _ _ ok (counted .letter-count .ensures) _ (lent .array-of .ensures) _ _ _ _ (arrays-hold _ _ _ _ ok (made .before .arrays-of .ensures)) (arrays-hold _ _ _ _ ok (made .arrays-of2 .ensures)) _ (across .result) (up .result) (across .ensures) (up .ensures)
+    first-asked _ _ ok (counted .letter-count .ensures) _ (lent .array-of .ensures) _ (counted .before .no-letters .ensures) _ _ _ _ (arrays-hold _ _ _ _ ok (made .before .arrays-of .ensures)) (arrays-hold _ _ _ _ ok (made .arrays-of2 .ensures)) _ (across .result) (up .result) (across .ensures) (up .ensures)
 
 root-requires : tie.Need-root-requires
 root-requires c κs =
     let made = c .before .before .before .before .before .before .before .before .before .before .before .before .before .before .before .before in
     let lent = made .before .before in
     let counted = lent .before .before in
-    let ok = counted .before .pre in (
+    let ok = counted .before .before .pre in (
       ok,
       counted .letter-count .ensures,
+      counted .before .no-letters .ensures,
       arrays-hold _ _ _ _ ok (made .before .arrays-of .ensures),
       arrays-hold _ _ _ _ ok (made .arrays-of2 .ensures),
       lent-held _ _ (lent .array-of .ensures) _ _ _ (c .first-fit .ensures),
@@ -56,7 +60,7 @@ search-requires : tie.Need-search-requires
 search-requires c κs =
     let made = c .before .before .before .before .before .before .before .before .before .before .before .before .before .before .before .before .before .before .before .before .before .before .before .before .before in
     let lent = made .before .before in
-    let ok = lent .before .before .before .pre in
+    let ok = lent .before .before .before .before .pre in
     lent-given _ _ (lent .array-of .ensures) _ _ _ _ _ _ (record {
       passed = ok;
       reads = lent .before .parts-of .ensures;
@@ -69,12 +73,13 @@ returns : tie.Need-returns
 returns c =
     let lent = c .before .before .before .before .before .before .before .before .before .before .before .before .before .before .before .before .before .before .before .before .before .before .before .before .before .before .before .before in
     let counted = lent .before .before in
-    whole-record _ _ (counted .before .pre) (counted .letter-count .ensures) _ _ _ (c .before .before .before .before .before .before .before .before .before .root .ensures) (c .before .no-record .ensures) (lent-searched _ _ (lent .array-of .ensures) _ _ _ _ _ _ (c .search .ensures))
+    whole-record _ _ (counted .before .before .pre) (counted .letter-count .ensures) _ _ _ (c .before .before .before .before .before .before .before .before .before .root .ensures) (c .before .no-record .ensures) (lent-searched _ _ (lent .array-of .ensures) _ _ _ _ _ _ (c .search .ensures))
 
 pub chip-record-spec : {M : Type 1} → statement M
 chip-record-spec =
     tie.close
     (tie.spec
+    no-letters-requires
     letter-count-requires
     parts-of-requires
     array-of-requires

@@ -16,6 +16,9 @@ mul-two c = search needs
 array-copy-out-two : tie.Need-array-copy-out-two
 array-copy-out-two c = search needs
 
+same-weight-requires : tie.Need-same-weight-requires
+same-weight-requires c κs = search needs
+
 returns : tie.Need-returns
 returns c = search no-says
 
@@ -45,6 +48,7 @@ turns-spec =
     array-copy-out-one
     mul-two
     array-copy-out-two
+    same-weight-requires
     returns
     start-of-requires
     start-of-requires-2

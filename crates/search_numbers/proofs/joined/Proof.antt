@@ -1,7 +1,7 @@
-use Rattle.search_tables.proofs.Stores.{joined-on, joined-first}
+use Rattle.search_numbers.proofs.Same.{joined-on, joined-first}
 use borrow.Author.Needs.{needs}
-use Rattle.search_tables.proofs.entries.joined.Statement.{statement}
-use Rattle.search_tables.proofs.entries.joined.Tie as tie
+use Rattle.search_numbers.proofs.joined.Statement.{statement}
+use Rattle.search_numbers.proofs.joined.Tie as tie
 
 higher-requires : tie.Need-higher-requires
 higher-requires c κs = search needs
