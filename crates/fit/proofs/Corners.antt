@@ -6,6 +6,7 @@ use mathlib.Core.List.{List, [], _∷_, _++_}
 use native.Mathlib.Omega.{arith}
 use lib.ListN.{length, getD, take, replicate}
 use borrow.Author.Tests.{le-leb}
+use Rattle.num_text.specs.Number.{allOf}
 use Rattle.model.specs.declared.Spot.{Spot}
 use Rattle.model.specs.Meaning.{blankSpot}
 use Rattle.fit_slots.specs.declared.Direction.the-variants.{Horizontal as horizontal, Vertical as vertical}
@@ -40,7 +41,7 @@ corners-y (x ∷ xs) (y ∷ ys) e = ap (λ (r : List ℕ). y ∷ r) (corners-y x
 
 -- coordinates within 0..1,024 make positions within range
 pub spots-in-range : (xs ys : List ℕ) → ((i : ℕ) → getD xs i 0 ≤ 1024) → ((i : ℕ) → getD ys i 0 ≤ 1024) → inRange (spotsOf xs ys) ≡ true
-unfolding spotsOf inRange
+unfolding spotsOf allOf
 spots-in-range [] ys h k = refl
 spots-in-range (x ∷ xs) [] h k = refl
 spots-in-range (x ∷ xs) (y ∷ ys) h k = rw (le-leb 0 x (omega arith), le-leb x 1024 (h 0), le-leb 0 y (omega arith), le-leb y 1024 (k 0), spots-in-range xs ys (λ i. h (suc i)) (λ i. k (suc i)))

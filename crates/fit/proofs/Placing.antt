@@ -31,7 +31,9 @@ use Rattle.fit_slots.proofs.Fineness.{die-most}
 use Rattle.fit_slots.proofs.Lengths.{lengths-split}
 use Rattle.fit_slots.proofs.Fitting.{both-fit}
 use Rattle.measure_tests.specs.Positions.{inRange}
-use Rattle.measure.specs.Measuring.{measured, lengthIn, measurePassed, measurePositions}
+use Rattle.measure.specs.Measuring.{measured, measurePassed, measurePositions}
+use Rattle.measure.specs.Held.{lengthIn}
+use Rattle.measure.proofs.Answers.{measured-same}
 use Rattle.fit_axes.specs.Axes.{SolvedBy}
 use Rattle.fit_lists.specs.Lists.{spotsOf}
 use Rattle.fit_lists.proofs.Corners.{spots-length}
@@ -122,7 +124,7 @@ module _ (c : HeldChip) (s : List ℕ) (m : ℕ) (ask : Asking c s m) (ax ay fx 
 
   is-measured : measurePositions C (firstOf blankSpot (c .n) spots) ≡ measured (legal C ps) (wirelength C ps)
   unfolding measurePassed firstFailed
-  is-measured = rw (first-spots, ← ask .passed .read, eq-eqb (length ps) (length (C .macs)) long-ps, in-range)
+  is-measured = rw (first-spots, ← ask .passed .read, eq-eqb (length ps) (length (C .macs)) long-ps, in-range) (sym (measured-same C ps))
 
   filled-spots : spots ≡ filled mostMacs blankSpot ps
   filled-spots =

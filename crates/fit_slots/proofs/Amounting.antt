@@ -1,7 +1,7 @@
 -- Inflow, outflow and the sum of a × amount over the slots of document 01 are those over the solver's slots.
 use Prim.Native.Nat.{ℕ, zero, suc, _+_, _*_}
 use mathlib.Core.Path.{_≡_, refl, sym, ap, _∙_}
-use mathlib.Core.Bool.{Bool}
+use mathlib.Core.Bool.{Bool, true, false, cond}
 use mathlib.Core.List.{List, [], _∷_}
 use native.Mathlib.Omega.{arith}
 use lib.Dec.{eqb}
@@ -36,6 +36,10 @@ same-free (free ∷ ss) (h ∷ hs) p zero e = p .0
 same-free (bound u v a ∷ ss) (h ∷ hs) p zero e = cc
 same-free (s ∷ ss) (h ∷ hs) p (suc i) e = same-free ss hs (p .1) i e
 
+pub cond-when : (b : Bool) (x : ℕ) → cond b x 0 ≡ when b x
+cond-when true x = refl
+cond-when false x = refl
+
 module _ (test : Slot → Bool) (end : HeldSlot → ℕ) (k : ℕ) (agree : (s : Slot) (h : HeldSlot) (x : ℕ) → Same s h → (s ≡ free → x ≡ 0) → when (test s) x ≡ when (eqb (end h) k) x) where
   where-sum : (ss : List Slot) (hs : List HeldSlot) (f : List ℕ) → AllSame ss hs → OnePerSlot ss f → amountsWhere test ss f ≡ sum (λ i. when (eqb (end (getD hs i noSlot)) k) (getD f i 0)) (length hs)
   unfolding AllSame amountsWhere sum
@@ -46,6 +50,7 @@ module _ (test : Slot → Bool) (end : HeldSlot → ℕ) (k : ℕ) (agree : (s :
   where-sum (s ∷ ss) (h ∷ hs) (x ∷ f) a p =
       let ih = where-sum ss hs f (a .1) (placed-rest s ss x f p) in
       let e = agree s h x (a .0) (p .idle 0) in
+      let w = cond-when (test s) x in
       let q = sum-first (λ i. when (eqb (end (getD (h ∷ hs) i noSlot)) k) (getD (x ∷ f) i 0)) (length hs) in
       omega arith
 

@@ -9,7 +9,8 @@ use Rattle.model.specs.declared.Spot.{Spot}
 use Rattle.model.specs.Meaning.{Chip, blankSpot}
 use Rattle.chip_text.specs.Valid.{Valid}
 use Rattle.placement.specs.Length.{wirelength}
-use Rattle.placement.specs.Letters.{Letter, keepsLetters}
+use Rattle.placement.specs.Letters.{Letter}
+use Rattle.placement.specs.Pairs.{keepsLetters}
 use Rattle.placement.specs.Least.{nothing, found, fitOf}
 use Rattle.placement.proofs.FitIs.{NowhereLarger, fit-is, no-fit-is}
 use Rattle.axis_bounds.specs.Axis.{Axis, Keeps, lengthOn}

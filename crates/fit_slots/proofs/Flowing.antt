@@ -19,6 +19,7 @@ use Rattle.fit_slots.specs.declared.Direction.{Direction}
 use Rattle.fit_slots.specs.Slots.{Slot, macSide, firstHi}
 use Rattle.fit_slots.specs.Amounts.{weightAt, hiWeight, loWeight}
 use Rattle.fit_slots.specs.Axes.{axisNet, axisFor}
+use Rattle.fit_slots.proofs.Amounting.{cond-when}
 
 -- the weights at the nets' ends
 weights-at : (d : Direction) (e : ℕ) (ts : List Net) (k : ℕ) → weightAt e ts k ≡ sum (λ j. when (eqb (e + 2 * j) k) (getD (map (axisNet d) ts) j bareNet .weight)) (length ts)
@@ -26,6 +27,7 @@ unfolding weightAt sum
 weights-at d e [] k = refl
 weights-at d e (t ∷ ts) k =
     let ih = weights-at d (suc (suc e)) ts k in
+    let w = cond-when (eqb e k) (t .weight) in
     let q = sum-first (λ j. when (eqb (e + 2 * j) k) (getD (map (axisNet d) (t ∷ ts)) j bareNet .weight)) (length ts) in
     let z : when (eqb (e + 2 * 0) k) (t .weight) ≡ when (eqb e k) (t .weight) = ap (λ (m : ℕ). when (eqb m k) (t .weight)) (zero-more e) in
     let s = sum-eq (λ j. when (eqb (suc (suc e) + 2 * j) k) (getD (map (axisNet d) ts) j bareNet .weight)) (λ j. when (eqb (e + 2 * suc j) k) (getD (map (axisNet d) ts) j bareNet .weight)) (length ts)

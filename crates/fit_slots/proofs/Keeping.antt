@@ -15,7 +15,8 @@ use Rattle.model.specs.Meaning.{Chip}
 use Rattle.text_grammar.proofs.Lacks.{and-left, and-right}
 use Rattle.geometry.specs.Box.{boxAt, inDie}
 use Rattle.placement.specs.Legal.{boxes, within}
-use Rattle.placement.specs.Letters.{Letter, keeps, pairs, keepsAll, keepsLetters}
+use Rattle.placement.specs.Letters.{Letter}
+use Rattle.placement.specs.Pairs.{keeps, pairs, keepsAll, keepsLetters}
 use Rattle.placement.proofs.FitIs.{letters-long}
 use Rattle.axis_bounds.specs.Axis.{KeepsSlot, Keeps, noSlot}
 use Rattle.fit_slots.specs.declared.Direction.{Direction}

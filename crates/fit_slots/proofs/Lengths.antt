@@ -14,7 +14,8 @@ use Rattle.text_grammar.proofs.Lacks.{and-left}
 use Rattle.chip_text.specs.Valid.{ValidPin, ValidNet, Valid, noPin, noNet}
 use Rattle.num_laws.specs.Spread.{spread}
 use Rattle.placement.specs.Length as plane
-use Rattle.placement.specs.Length.{origin, pinX, pinY, span, netLength, wirelength}
+use Rattle.placement.specs.Length.{origin, pinX, pinY, netLength, wirelength}
+use Rattle.placement.specs.Integers.{span}
 use Rattle.placement.proofs.Spans.{shifted, span-shift, add-shift, from-zero, below-zero}
 use Rattle.axis_bounds.specs.Axis.{valueAt, places, netsLength, lengthOn}
 use Rattle.placement.specs.Letters.{Letter}

@@ -2,7 +2,7 @@
 use Prim.{Unit, tt}
 use Prim.Native.Nat.{ℕ, suc, _+_, _<_}
 use mathlib.Core.Path.{_≡_, refl, sym, ap, _∙_}
-use mathlib.Core.List.{List, [], _∷_, _++_, map}
+use mathlib.Core.List.{List, [], _∷_, _++_, map, zipWith, flatMap}
 use native.Mathlib.Omega.{arith}
 use lib.IntN.{pos, negℤ, subℕ}
 use lib.ListN.{length, getD, length-map}
@@ -65,13 +65,13 @@ same-pair d after (macFix i a f) = (refl, refl, plain (fixCorner d f + fixSide d
 same-pair d nothing (macFix i a f) = refl
 
 same-pairs : (d : Direction) (ls : List Letter) (qs : List Couple) → AllSame (pairSlots d ls qs) (heldSlots d ls qs)
-unfolding AllSame pairSlots heldSlots
+unfolding AllSame zipWith heldSlots
 same-pairs d [] qs = tt
 same-pairs d (l ∷ ls) [] = tt
 same-pairs d (l ∷ ls) (q ∷ qs) = (same-pair d (asked d l) q, same-pairs d ls qs)
 
 same-pins : (d : Direction) (n hi lo : ℕ) (ps : List Pin) → ((i : ℕ) → i < length ps → ValidPin n (getD ps i noPin)) → AllSame (pinSlots d hi lo ps) (axis.pinSlots 4096 hi lo (map (axisPin d) ps))
-unfolding AllSame pinSlots axis.pinSlots
+unfolding AllSame flatMap axis.pinSlots
 same-pins d n hi lo [] h = tt
 same-pins d n hi lo (p ∷ ps) h =
     let e = raised-pin d n p (h 0 (omega arith)) in

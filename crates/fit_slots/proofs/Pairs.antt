@@ -13,7 +13,8 @@ use Rattle.model.specs.Meaning.{Chip, blankSpot}
 use Rattle.geometry.specs.Box.{boxAt, boxOf}
 use Rattle.placement.specs.Legal.{boxes}
 use Rattle.placement.specs.Length.{origin}
-use Rattle.placement.specs.Letters.{Letter, keeps, Pair, with, pairsOf, withEach, pairs}
+use Rattle.placement.specs.Letters.{Letter}
+use Rattle.placement.specs.Pairs.{keeps, Pair, with, pairsOf, withEach, pairs}
 use Rattle.placement.specs.Letters as letter
 use Rattle.axis_bounds.specs.Axis.{valueAt, KeepsSlot, noSlot}
 use Rattle.axis_bounds.specs.Listed.{slot}

@@ -21,8 +21,11 @@ use Rattle.chip_text.specs.Text.{readChip}
 use Rattle.chip_text.specs.Valid.{Valid}
 use Rattle.chip_text.proofs.Accepted.{accepted-valid}
 use Rattle.num_laws.proofs.Differences.{add-sub}
+use Rattle.placement.specs.Integers.{Corner, wirelengthZ}
 use Rattle.placement.specs.Length.{wirelength}
-use Rattle.placement.specs.Letters.{Letter, keepsLetters}
+use Rattle.placement.specs.Letters.{Letter, keepsLettersZ}
+use Rattle.placement.specs.Pairs.{keepsLetters}
+use Rattle.placement.proofs.Integers.{naturals, length-same, letters-natural, natural-letters}
 use Rattle.placement.proofs.Spans.{below-zero, from-zero}
 use Rattle.flow_laws.specs.Flow.{weigh, Balance}
 use Rattle.axis_bounds.specs.declared.Slot.{Slot as HeldSlot}
@@ -135,8 +138,11 @@ module _ (c : Chip) (ls : List Letter) (v : Valid c) where
 -- ---- what a reader of an accepted text knows
 
 module _ (t : List ℕ) (c : Chip) (e : readChip t ≡ accepted c) (ls : List Letter) (f : List ℕ) where
-  pub flow-shows : (l : ℕ) → Flow c ls f l → (ps : List Spot) → keepsLetters c ls ps ≡ true → l ≤ wirelength c ps
-  flow-shows = flow-least c ls (accepted-valid t c e) f
+  pub flow-shows : (l : ℕ) → Flow c ls f l → (ps : List Corner) → keepsLettersZ c ls ps ≡ true → l ≤ wirelengthZ c ps
+  flow-shows l flow ps k =
+      let a = flow-least c ls (accepted-valid t c e) f l flow (naturals ps) (natural-letters c ls ps k) in
+      let w : wirelengthZ c ps ≡ wirelength c (naturals ps) = ap (wirelengthZ c) (letters-natural c ls ps k) ∙ length-same c (naturals ps) in
+      omega arith
 
-  pub chain-shows : Chain c ls f → (ps : List Spot) → keepsLetters c ls ps ≡ true → ⊥
-  chain-shows = chain-none c ls (accepted-valid t c e) f
+  pub chain-shows : Chain c ls f → (ps : List Corner) → keepsLettersZ c ls ps ≡ true → ⊥
+  chain-shows chain ps k = chain-none c ls (accepted-valid t c e) f chain (naturals ps) (natural-letters c ls ps k)

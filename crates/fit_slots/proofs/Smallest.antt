@@ -13,7 +13,8 @@ use Rattle.chip_text.specs.Valid.{Valid}
 use Rattle.placement.specs.Legal.{within}
 use Rattle.placement.specs.Length.{wirelength}
 use Rattle.placement.specs.Order.{before}
-use Rattle.placement.specs.Letters.{Letter, keeps, Pair, pairs, keepsAll, keepsLetters}
+use Rattle.placement.specs.Letters.{Letter}
+use Rattle.placement.specs.Pairs.{keeps, Pair, pairs, keepsAll, keepsLetters}
 use Rattle.placement.specs.Least.{found, fitOf}
 use Rattle.placement.proofs.OrderLaws.{Compared, before-total, before-irreflexive}
 use Rattle.placement.specs.Demand.{EarliestLeast}

@@ -23,6 +23,7 @@ use Rattle.fit_slots.specs.Amounts.{amountsWhere, into, outOf, worth, Am
 use Rattle.fit_slots.specs.Axes.{axisFor}
 use Rattle.fit_slots.proofs.Flowing.{Agrees}
 use Rattle.fit_slots.proofs.Answering.{flow-amounts, flow-balanced, flow-worth, chain-amounts, chain-closed, chain-gain, chain-worth, chain-some}
+use Rattle.fit_slots.proofs.Amounting.{cond-when}
 
 -- every slot of a direction's axis ends at a node
 pub record Ended (a : Axis) : Type 0 where
@@ -57,7 +58,7 @@ zero-where : (test : Slot → Bool) (ss : List Slot) (g : List ℕ) → ((s : �
 unfolding amountsWhere
 zero-where test [] g z = refl
 zero-where test (s ∷ ss) [] z = refl
-zero-where test (s ∷ ss) (x ∷ g) z = let e : x ≡ 0 = z 0 in rw (e, when-zero (test s), zero-where test ss g (λ i. z (suc i)))
+zero-where test (s ∷ ss) (x ∷ g) z = let e : x ≡ 0 = z 0 in rw (e, cond-when (test s) 0, when-zero (test s), zero-where test ss g (λ i. z (suc i)))
 
 zero-worth : (ss : List Slot) (g : List ℕ) → ((s : ℕ) → getD g s 0 ≡ 0) → worth ss g ≡ pos 0
 unfolding worth

@@ -4,12 +4,11 @@
 use Prim.Native.Nat.{ℕ, suc, _+_, _≤_}
 use mathlib.Core.Path.{_≡_}
 use mathlib.Core.List.{List, [], _∷_}
-use mathlib.Core.Bool.{Bool, true, false}
+use mathlib.Core.Bool.{Bool, true, false, cond}
 use lib.Dec.{eqb}
 use lib.ListN.{length, getD, take, drop}
 use lib.IntN.{ℤ, pos, _+ℤ_, _*ℤ_}
 use lib.Signed.{leZ}
-use Rattle.num_laws.specs.Sum.{when}
 use Rattle.model.specs.Meaning.{Net, Chip}
 use Rattle.placement.specs.Letters.{Letter}
 use Rattle.fit_slots.specs.declared.Direction.{Direction}
@@ -20,7 +19,7 @@ use Rattle.fit_slots.specs.Slots.{Slot, free, bound, slotsOn, firstHi}
 unfoldable pub amountsWhere : (Slot → Bool) → List Slot → List ℕ → ℕ
 amountsWhere test [] f = 0
 amountsWhere test (s ∷ ss) [] = 0
-amountsWhere test (s ∷ ss) (x ∷ f) = when (test s) x + amountsWhere test ss f
+amountsWhere test (s ∷ ss) (x ∷ f) = cond (test s) x 0 + amountsWhere test ss f
 
 -- a slot's amount flows into node k, or out of it
 abbrev pub into : ℕ → Slot → Bool
@@ -41,7 +40,7 @@ worth (bound u v a ∷ ss) (x ∷ f) = a *ℤ pos x +ℤ worth ss f
 -- the weight of the net whose end is node k, or 0, where the nets' ends are nodes e, e + 2, e + 4 and so on
 unfoldable pub weightAt : ℕ → List Net → ℕ → ℕ
 weightAt e [] k = 0
-weightAt e (t ∷ ts) k = when (eqb e k) (t .weight) + weightAt (suc (suc e)) ts k
+weightAt e (t ∷ ts) k = cond (eqb e k) (t .weight) 0 + weightAt (suc (suc e)) ts k
 
 abbrev pub hiWeight : Chip → ℕ → ℕ
 hiWeight c k = weightAt (firstHi c) (c .nets) k

@@ -1,7 +1,7 @@
 -- The slots of a fit. Document 01, "The fit": horizontal slots, then vertical; two for each macro, one for each pair, two for each pin, all in
 -- file order. Each slot is a bound "v - u ≥ a".
 use Prim.Native.Nat.{ℕ, suc, _+_}
-use mathlib.Core.List.{List, [], _∷_, _++_, map}
+use mathlib.Core.List.{List, [], _∷_, _++_, map, zipWith, flatMap}
 use lib.ListN.{length}
 use lib.IntN.{ℤ, pos, negℤ, _-ℤ_}
 use Rattle.model.specs.declared.Die.{Die}
@@ -99,17 +99,14 @@ pairSlot d before (macFix i a f) = bound i 0 (pos (macSide d a) -ℤ pos (fixCor
 pairSlot d after (macFix i a f) = bound 0 i (pos (fixCorner d f + fixSide d f))
 pairSlot d nothing q = free
 
-unfoldable pub pairSlots : Direction → List Letter → List Couple → List Slot
-pairSlots d [] qs = []
-pairSlots d (l ∷ ls) [] = []
-pairSlots d (l ∷ ls) (q ∷ qs) = pairSlot d (asked d l) q ∷ pairSlots d ls qs
+abbrev pub pairSlots : Direction → List Letter → List Couple → List Slot
+pairSlots d ls qs = zipWith (λ (l : Letter) (q : Couple). pairSlot d (asked d l) q) ls qs
 
 -- ---- the slots of pins
 
 -- for each pin, a pad having 0 in place of x_i: hi - x_i ≥ x, x_i - lo ≥ -x
-unfoldable pub pinSlots : Direction → ℕ → ℕ → List Pin → List Slot
-pinSlots d hi lo [] = []
-pinSlots d hi lo (p ∷ ps) = bound (p .m) hi (pinPlace d p) ∷ bound lo (p .m) (negℤ (pinPlace d p)) ∷ pinSlots d hi lo ps
+abbrev pub pinSlots : Direction → ℕ → ℕ → List Pin → List Slot
+pinSlots d hi lo ps = flatMap (λ (p : Pin). bound (p .m) hi (pinPlace d p) ∷ bound lo (p .m) (negℤ (pinPlace d p)) ∷ []) ps
 
 -- the nets from the one on whose hi is node h
 unfoldable pub netSlots : Direction → ℕ → List Net → List Slot

@@ -8,7 +8,8 @@ use Rattle.model.specs.Meaning.{Chip}
 use Rattle.geometry.specs.declared.Box.{Box}
 use Rattle.geometry.specs.Box.{apart, clearOf, inDie}
 use Rattle.geometry.proofs.Swap.{apart-swap}
-use Rattle.placement.specs.Legal.{gapOf, fixBoxes, allApart}
+use Rattle.placement.specs.Legal.{fixBoxes, allApart}
+use Rattle.placement.specs.Integers.{gapOf}
 use Rattle.legal.specs.Turn.{legalAfter}
 
 -- tests in another order

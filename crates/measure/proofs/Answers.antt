@@ -16,16 +16,19 @@ use Rattle.chip_text.specs.Text.{readChip, chipText}
 use Rattle.chip_text.proofs.Passing.{Whole}
 use Rattle.placement.specs.Legal.{boxes, legal}
 use Rattle.placement.specs.Length.{wirelength}
+use Rattle.placement.specs.Integers.{legalZ, wirelengthZ, integers}
+use Rattle.placement.proofs.Integers.{legal-same, length-same}
 use Rattle.placement.proofs.LengthBound.{wirelength-bound}
 use Rattle.geometry.specs.declared.Box.{Box}
 use Rattle.geometry.specs.Box.{boxOf}
 use Rattle.legal.specs.Turn.{legalAfter}
-use Rattle.measure_tests.specs.Positions.{measureTests, testedBy}
+use Rattle.measure_tests.specs.Positions.{measureTests}
+use Rattle.measure_tests.specs.Tested.{testedBy}
 use Rattle.measure_tests.proofs.Testing.{chip-is-passed, the-spots, are-near}
 use Rattle.measure.specs.declared.MeasureAnswer.{MeasureAnswer}
 use Rattle.measure.specs.declared.MeasureAnswer.the-variants as answer
-use Rattle.measure.specs.Measuring.{Measure, refused, measured, measuredAs, afterReading, lengthIn, measurePassed, measurePositions}
-use Rattle.measure.specs.Held.{lengthTo, Summable, Measurable}
+use Rattle.measure.specs.Measuring.{Measure, refused, measured, measuredAs, afterReading, measurePassed, measurePositions}
+use Rattle.measure.specs.Held.{lengthIn, lengthTo, Summable, Measurable}
 use Rattle.measure.proofs.IsLegal.{legal-told}
 use Rattle.measure.proofs.HeldNet.{pins-placed, length-whole}
 
@@ -52,6 +55,10 @@ module _ (c : HeldChip) (s : List Spot) (v : Measurable c s) where
 
 -- ---- the answer
 
+-- measured over natural corners is measured over integers
+pub measured-same : (c : Chip) (ps : List Spot) → measured (legal c ps) (wirelength c ps) ≡ measured (legalZ c (integers ps)) (wirelengthZ c (integers ps))
+measured-same c ps = rw (legal-same c ps, length-same c ps)
+
 -- by what the tests tell
 abbrev said : Tested → Measure → Measure
 said (tested.Refused f) more = refused (f .no) (f .line)
@@ -67,7 +74,7 @@ module _ (c : HeldChip) (s : List Spot) (count : ℕ) (t : Tested) (q : t ≡ te
   first = firstFailed (measureTests (chipOf c) (firstOf blankSpot count s))
 
   abbrev its : Measure
-  its = measured (legal (chipOf c) (firstOf blankSpot count s)) (wirelength (chipOf c) (firstOf blankSpot count s))
+  its = measured (legalZ (chipOf c) (integers (firstOf blankSpot count s))) (wirelengthZ (chipOf c) (integers (firstOf blankSpot count s)))
 
   answered : (u : Tested) → t ≡ u → said u its ≡ measurePositions (chipOf c) (firstOf blankSpot count s)
   unfolding measurePassed
@@ -83,6 +90,7 @@ module _ (c : HeldChip) (s : List Spot) (count : ℕ) (t : Tested) (q : t ≡ te
     pub is-measured : (m : Measure) → m ≡ measured (legal (chipOf c) (take (c .n) s)) (wirelength (chipOf c) (take (c .n) s)) → m ≡ measurePositions (chipOf c) (firstOf blankSpot count s)
     is-measured m e =
         e ∙ ap (λ (ps : List Spot). measured (legal (chipOf c) ps) (wirelength (chipOf c) ps)) (sym (the-spots c w s l count t q z))
+        ∙ measured-same (chipOf c) (firstOf blankSpot count s)
         ∙ answered tested.Passed z
 
 -- ---- the length in an answer

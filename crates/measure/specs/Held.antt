@@ -18,6 +18,7 @@ use Rattle.placement.specs.Length.{origin}
 use Rattle.placement.specs.Corners.{CornersWithin}
 use Rattle.placement.proofs.Spans.{upX, upY}
 use Rattle.measure.specs.declared.Extent.{Extent}
+use Rattle.measure.specs.Measuring.{Measure, refused, measured}
 
 -- the least and the greatest places with one place more
 abbrev pub withPin : Extent → Spot → Extent
@@ -56,3 +57,8 @@ pub record Measurable (c : HeldChip) (ps : List Spot) : Type 0 where
   pub passed : Passed c
   pub whole : Whole c
   pub near : CornersWithin (take (c .n) ps)
+
+-- the wirelength in an answer; 0 where it is a refusal
+abbrev pub lengthIn : Measure → ℕ
+lengthIn (refused number line) = 0
+lengthIn (measured legality l) = l

@@ -8,8 +8,7 @@ use Rattle.model.specs.Meaning.{Chip}
 use Rattle.refusals.specs.Tests.{firstFailed, unlessFailed}
 use Rattle.text_grammar.specs.Reading.{Reading, accepted, refused as notRead}
 use Rattle.chip_text.specs.Text.{readChip, chipText}
-use Rattle.placement.specs.Legal.{legal}
-use Rattle.placement.specs.Length.{wirelength}
+use Rattle.placement.specs.Integers.{legalZ, wirelengthZ, integers}
 use Rattle.measure_tests.specs.Positions.{measureTests}
 use Rattle.measure.specs.declared.MeasureAnswer.{MeasureAnswer}
 use Rattle.measure.specs.declared.MeasureAnswer.the-variants as answer
@@ -31,12 +30,7 @@ afterReading (notRead n l) more = refused n l
 
 -- then the tests of the positions
 unfoldable pub measurePassed : Chip → List Spot → Measure
-measurePassed c ps = unlessFailed refused (firstFailed (measureTests c ps)) (measured (legal c ps) (wirelength c ps))
+measurePassed c ps = unlessFailed refused (firstFailed (measureTests c ps)) (measured (legalZ c (integers ps)) (wirelengthZ c (integers ps)))
 
 abbrev pub measurePositions : Chip → List Spot → Measure
 measurePositions c ps = afterReading (readChip (chipText c)) (measurePassed c ps)
-
--- the wirelength in an answer; 0 where it is a refusal
-abbrev pub lengthIn : Measure → ℕ
-lengthIn (refused number line) = 0
-lengthIn (measured legality l) = l

@@ -14,8 +14,8 @@ ghost use Rattle.model.specs.Meaning.{firstOf, blankSpot, chipOf};
 ghost use Rattle.placement.specs.Legal.{legal};
 ghost use Rattle.placement.specs.Length.{origin, wirelength};
 ghost use Rattle.placement.proofs.Spans.{upX, upY};
-ghost use Rattle.measure.specs.Measuring.{measured as measuredAt, measuredAs, lengthIn, measurePositions};
-ghost use Rattle.measure.specs.Held.{withPin, halfPerimeter, lengthTo, PinWithin, PinsWithin, Summable, Measurable};
+ghost use Rattle.measure.specs.Measuring.{measured as measuredAt, measuredAs, measurePositions};
+ghost use Rattle.measure.specs.Held.{withPin, halfPerimeter, lengthIn, lengthTo, PinWithin, PinsWithin, Summable, Measurable};
 
 // What measuring answers: legal or not and the wirelength, or the refusal.
 pub enum MeasureAnswer {

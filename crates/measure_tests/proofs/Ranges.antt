@@ -10,6 +10,7 @@ use lib.Dec.{leb}
 use lib.ListN.{length, getD, take}
 use lib.Seq.{slice, slice-empty, slice-cons}
 use borrow.Author.Tests.{le-leb, lt-leb, leb-true}
+use Rattle.num_text.specs.Number.{allOf}
 use Rattle.model.specs.declared.Spot.{Spot}
 use Rattle.model.specs.Meaning.{blankSpot}
 use Rattle.text_grammar.proofs.Lacks.{and-left, and-right}
@@ -23,7 +24,7 @@ module _ (s : List Spot) (n : ℕ) where
 
   module _ (long : length s ≡ 8) (few : n ≤ 8) (i : ℕ) (h : i < n) (left : Left i) where
     next-tested : inRange (take n s) ≡ ((leb (getD s i blankSpot .x) 1024 && leb (getD s i blankSpot .y) 1024) && inRange (slice (i + 1) n s))
-    unfolding inRange
+    unfolding allOf
     next-tested = left ∙ rw (slice-cons i n s blankSpot h (omega arith), le-leb 0 (getD s i blankSpot .x) (omega arith), le-leb 0 (getD s i blankSpot .y) (omega arith), add-one)
 
     pub x-above : 1024 < getD s i blankSpot .x → false ≡ inRange (take n s)
@@ -36,12 +37,12 @@ module _ (s : List Spot) (n : ℕ) where
     one-within a b = rw (next-tested, le-leb (getD s i blankSpot .x) 1024 a, le-leb (getD s i blankSpot .y) 1024 b)
 
   pub all-tested : (i : ℕ) → i ≤ n → n ≤ i → Left i → true ≡ inRange (take n s)
-  unfolding inRange
+  unfolding allOf
   all-tested i h g left = let e : i ≡ n = omega arith in rw (left, e, slice-empty n s)
 
 -- positions that pass are near
 pub in-range-near : (ps : List Spot) → true ≡ inRange ps → CornersWithin ps
-unfolding inRange
+unfolding allOf
 in-range-near [] e = record { x = λ i h. absurd (omega arith); y = λ i h. absurd (omega arith) }
 in-range-near (p ∷ ps) e = record { x = by-x (in-range-near ps rest .x); y = by-y (in-range-near ps rest .y) }
   where

@@ -20,7 +20,8 @@ use Rattle.chip_text.specs.Passed.{Passed}
 use Rattle.chip_text.proofs.TextRead.{text-read}
 use Rattle.chip_text.proofs.Passing.{Whole, passed-by}
 use Rattle.placement.specs.Corners.{CornersWithin}
-use Rattle.measure_tests.specs.Positions.{inRange, measureTests, refusedAs, testedBy}
+use Rattle.measure_tests.specs.Positions.{inRange, measureTests}
+use Rattle.measure_tests.specs.Tested.{refusedAs, testedBy}
 use Rattle.measure_tests.proofs.Faults.{counted, its-spots}
 use Rattle.measure_tests.proofs.Ranges.{in-range-near}
 

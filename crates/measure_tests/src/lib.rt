@@ -12,7 +12,8 @@ ghost use Rattle.refusals.specs.Tests.{firstFailed};
 ghost use Rattle.text_grammar.specs.Reading.{accepted};
 ghost use Rattle.chip_text.specs.Text.{readChip, chipText};
 ghost use Rattle.chip_text.specs.Passed.{Passed};
-ghost use Rattle.measure_tests.specs.Positions.{inRange, measureTests, testedBy};
+ghost use Rattle.measure_tests.specs.Positions.{inRange, measureTests};
+ghost use Rattle.measure_tests.specs.Tested.{testedBy};
 
 // Whether each of the first count positions is within 0..1,024.
 fn in_range(spots: [Spot; Mac::COUNT], count: usize) -> bool

@@ -7,7 +7,8 @@ use native.Mathlib.Decide.{decLe}
 use native.Mathlib.Omega.{arith}
 use lib.ListN.{length, getD}
 use borrow.Author.Tests.{le-leb, lt-leb, eq-eqb, ne-eqb}
-use Rattle.num_text.specs.Number.{isDigit, allOf, allDigits, valueFrom, plain, natural, negative, numeralOf}
+use Rattle.num_text.specs.Number.{isDigit, allOf, valueFrom, plain, natural, negative, numeralOf}
+use Rattle.num_text.specs.Steps.{allDigits}
 
 -- a text with no 0 first is plain where it has digits only
 pub plain-all : (s : List ℕ) → (length s ≡ 0 → ⊥) → (getD s 0 0 ≡ 48 → ⊥) → plain s ≡ allDigits s

@@ -10,9 +10,9 @@ use lib.Seq.{drop-cons}
 use borrow.Author.Tests.{le-leb, lt-leb}
 use Rattle.num_text.specs.declared.Number.{Number}
 use Rattle.num_text.specs.declared.Number.the-variants as held
-use Rattle.num_text.specs.Number.{allOf, allDigits, valueFrom, plain, natural}
+use Rattle.num_text.specs.Number.{allOf, valueFrom, plain, natural}
 use Rattle.num_text.specs.Held.{cap, heldNumber}
-use Rattle.num_text.specs.Steps.{push, heldNatural}
+use Rattle.num_text.specs.Steps.{allDigits, push, heldNatural}
 use Rattle.num_text.proofs.FirstByte.{plain-all}
 
 -- the answer when the digits s are left and the value so far is v

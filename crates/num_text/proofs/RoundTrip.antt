@@ -11,7 +11,8 @@ use lib.IntN.{ℤ, pos, negsuc}
 use lib.ListN.{length, getD}
 use lib.Seq.{append-snoc}
 use borrow.Author.Tests.{le-leb, leb-true}
-use Rattle.num_text.specs.Number.{isDigit, allOf, allDigits, valueFrom, plain, number, noNumber, natural, negative, numeralOf, digits, digitsIn, numberText}
+use Rattle.num_text.specs.Number.{isDigit, allOf, valueFrom, plain, number, noNumber, natural, negative, numeralOf, digits, digitsIn, numberText}
+use Rattle.num_text.specs.Steps.{allDigits}
 use Rattle.num_text.proofs.FirstByte.{plain-all, no-sign, after-sign}
 use Rattle.num_text.proofs.Digits.{digits-small, digits-large, by-digits}
 

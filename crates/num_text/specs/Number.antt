@@ -1,7 +1,7 @@
 -- Numbers as text. Document 01, "The chip file": a number is `0`, or digits not starting with 0, after a minus sign where negative; `-0` is no number.
 use Prim.Native.Nat.{ℕ, zero, suc, _+_, _-_, _*_, _/_, _%_}
 use mathlib.Core.List.{List, [], _∷_, _++_}
-use mathlib.Core.Bool.{Bool, true, false, _&&_}
+use mathlib.Core.Bool.{Bool, true, false, _&&_, cond}
 use lib.Dec.{leb, ltb, eqb}
 use lib.IntN.{ℤ, pos, negsuc}
 
@@ -18,10 +18,6 @@ unfoldable pub allOf : {A : Type 0} → (A → Bool) → List A → Bool
 allOf p [] = true
 allOf p (a ∷ s) = p a && allOf p s
 
--- every byte of s is a digit
-abbrev pub allDigits : List ℕ → Bool
-allDigits s = allOf isDigit s
-
 -- the value of digits: of s, after digits with the value a
 unfoldable pub valueFrom : ℕ → List ℕ → ℕ
 valueFrom a [] = a
@@ -31,7 +27,7 @@ valueFrom a (b ∷ s) = valueFrom (a * 10 + (b - 48)) s
 unfoldable pub plain : List ℕ → Bool
 plain [] = false
 plain (b ∷ []) = isDigit b
-plain (b ∷ (c ∷ s)) = leb 49 b && allDigits (b ∷ (c ∷ s))
+plain (b ∷ (c ∷ s)) = leb 49 b && allOf isDigit (b ∷ (c ∷ s))
 
 -- what a field's bytes are: a number, or none
 pub data Numeral : Type 0 where
@@ -49,15 +45,10 @@ negative true zero = noNumber
 negative true (suc n) = number (negsuc n)
 negative false n = noNumber
 
--- the number of the bytes b and s, by whether b is the minus sign
-abbrev pub signed : Bool → ℕ → List ℕ → Numeral
-signed true b s = negative (plain s) (valueFrom 0 s)
-signed false b s = natural (plain (b ∷ s)) (valueFrom 0 (b ∷ s))
-
--- the number that a field's bytes stand for
+-- the number that a field's bytes stand for: by whether the first is the minus sign
 unfoldable pub numeralOf : List ℕ → Numeral
 numeralOf [] = noNumber
-numeralOf (b ∷ s) = signed (eqb b minusSign) b s
+numeralOf (b ∷ s) = cond (eqb b minusSign) (negative (plain s) (valueFrom 0 s)) (natural (plain (b ∷ s)) (valueFrom 0 (b ∷ s)))
 
 -- the decimal digits of n, without leading zeros, where it has at most k of them; else the last k
 unfoldable pub digitsIn : ℕ → ℕ → List ℕ

@@ -8,9 +8,9 @@ use Rattle.model.specs.Meaning.{Chip, none}
 use Rattle.text_grammar.specs.Writing.{wrote}
 use Rattle.placement.specs.Legal.{legal}
 use Rattle.placement.specs.Least.{Best, nothing, found, earliestLeast, bestRecord, chipRecord}
-use Rattle.placement.specs.Integers.{Corner, legalZ}
-use Rattle.placement.proofs.Demand.{earliest-least-found, nothing-legal}
-use Rattle.placement.proofs.Integers.{integers, naturals, legal-same, natural-legal, earliest-integers}
+use Rattle.placement.specs.Integers.{Corner, legalZ, integers}
+use Rattle.placement.proofs.Demand.{earliest-least-integers, nothing-legal-integers}
+use Rattle.placement.proofs.Integers.{naturals, legal-same, natural-legal}
 use Rattle.search.specs.Place.{placeText}
 use Rattle.search.proofs.Demand3.{none-illegal, illegal-none, place-means}
 use Rattle.place_print.specs.DemandZ.{SaysNoneZ, SaysLeastZ, PlacedZ}
@@ -21,8 +21,8 @@ unfolding chipRecord
 says c = by (earliestLeast c) refl
   where
     by : (b : Best) → earliestLeast c ≡ b → SaysNoneZ c (bestRecord (earliestLeast c)) ⊎ SaysLeastZ c (bestRecord (earliestLeast c))
-    by nothing e = inl (record { is = ap bestRecord e; illegal = λ qs l. nothing-legal c e (naturals qs) (natural-legal c qs l) })
-    by (found l ps) e = inr (record { length = l; placement = ps; is = ap bestRecord e; first = earliest-integers c l ps (earliest-least-found c l ps e) })
+    by nothing e = inl (record { is = ap bestRecord e; illegal = nothing-legal-integers c e })
+    by (found l ps) e = inr (record { length = l; placement = ps; is = ap bestRecord e; first = earliest-least-integers c l ps e })
 
 pub place-means-integers : (text out : List ℕ) (k : ℕ) → placeText text out .answer ≡ wrote k → PlacedZ text out k (placeText text out .buffer)
 place-means-integers text out k e =

@@ -1,7 +1,7 @@
 -- The refusal number of writing, searching, placing, printing, measuring and fitting is 1 to 15, so it is never 0 or 255, the two numbers of the C interface that are no refusal.
 use Prim.Native.Nat.{ℕ, zero, suc}
 use mathlib.Core.Path.{_≡_, refl}
-use mathlib.Core.Bool.{Bool, true, false, _&&_}
+use mathlib.Core.Bool.{Bool, true, false, _&&_, cond}
 use mathlib.Core.List.{List, [], _∷_}
 use native.Mathlib.Omega.{arith}
 use lib.Dec.{leb}
@@ -9,14 +9,13 @@ use lib.ListN.{length}
 use borrow.Author.Tests.{leb-true}
 use Rattle.model.specs.declared.Spot.{Spot}
 use Rattle.model.specs.Meaning.{Chip, Record}
-use Rattle.refusals.specs.Tests.{Test, orElse, firstFailed, unlessFailed}
+use Rattle.refusals.specs.Tests.{Test, firstFailed, unlessFailed}
 use Rattle.text_grammar.specs.Reading.{Reading, accepted, refused}
 use Rattle.text_grammar.specs.Writing.{notWritten, ifRoom, writeText}
 use Rattle.text_grammar.proofs.Lacks.{and-left, and-right}
 use Rattle.chip_text.specs.Text.{readChip, chipText, writeChip}
 use Rattle.record_text.specs.Text.{readRecord, recordText, writeRecord}
-use Rattle.placement.specs.Legal.{legal}
-use Rattle.placement.specs.Length.{wirelength}
+use Rattle.placement.specs.Integers.{legalZ, wirelengthZ, integers}
 use Rattle.placement.specs.Least.{Best, nothing, found, fitOf, chipRecord}
 use Rattle.measure_tests.specs.Positions.{measureTests}
 use Rattle.measure.specs.Measuring.{Measure, measured, refused as notMeasured, afterReading, measurePassed, measurePositions}
@@ -81,7 +80,7 @@ first-told (t ∷ ts) e k q = by (t .passes) q (first-told ts (and-right (leb 1 
     its : (leb 1 (t .number) && leb (t .number) 15) ≡ true
     its = and-left (leb 1 (t .number) && leb (t .number) 15) (tabled ts) e
 
-    by : (b : Bool) → orElse b (t .number) (firstFailed ts) ≡ suc k → (firstFailed ts ≡ suc k → Numbered 15 (suc k)) → Numbered 15 (suc k)
+    by : (b : Bool) → cond b (firstFailed ts) (t .number) ≡ suc k → (firstFailed ts ≡ suc k → Numbered 15 (suc k)) → Numbered 15 (suc k)
     by true f more = more f
     by false f more =
         let a = leb-true 1 (t .number) (and-left (leb 1 (t .number)) (leb (t .number) 15) its) in
@@ -97,7 +96,7 @@ measured-told (suc j) t x n l h e = let q : n ≡ suc j = cc in rw q (t j refl)
 pub passed-told : (c : Chip) (ps : List Spot) (n l : ℕ) → measurePassed c ps ≡ notMeasured n l → Numbered 15 n
 unfolding measurePassed tabled
 passed-told c ps n l e =
-    measured-told (firstFailed (measureTests c ps)) (first-told (measureTests c ps) refl) (measured (legal c ps) (wirelength c ps)) n l
+    measured-told (firstFailed (measureTests c ps)) (first-told (measureTests c ps) refl) (measured (legalZ c (integers ps)) (wirelengthZ c (integers ps))) n l
     (λ q. let z : _≡_ {A = ℕ} 0 1 = cc in absurd (omega arith)) e
 
 pub measure-number : (c : Chip) (ps : List Spot) (n l : ℕ) → measurePositions c ps ≡ notMeasured n l → Numbered 15 n

@@ -2,7 +2,7 @@
 use Prim.Native.Nat.{ℕ, _≤_}
 use mathlib.Core.Path.{_≡_}
 use mathlib.Core.Bool.{true}
-use mathlib.Core.List.{List, _++_, map}
+use mathlib.Core.List.{List, _++_}
 use mathlib.Core.Logic.{_⊎_}
 use lib.ListN.{length, drop}
 use Rattle.model.specs.declared.Spot.{Spot}
@@ -10,7 +10,7 @@ use Rattle.model.specs.Meaning.{Chip, Record, none, least}
 use Rattle.text_grammar.specs.Reading.{accepted}
 use Rattle.chip_text.specs.Text.{readChip}
 use Rattle.record_text.specs.Text.{recordText}
-use Rattle.placement.specs.Integers.{Corner, legalZ, EarliestLeastZ, cornerOf}
+use Rattle.placement.specs.Integers.{Corner, legalZ, EarliestLeastZ, integers}
 
 -- the record `none`: no whole-number placement is legal
 pub record SaysNoneZ (c : Chip) (r : Record) : Type 0 where
@@ -22,7 +22,7 @@ pub record SaysLeastZ (c : Chip) (r : Record) : Type 0 where
   pub length : ℕ
   pub placement : List Spot
   pub is : r ≡ least length placement
-  pub first : EarliestLeastZ c length (map cornerOf placement)
+  pub first : EarliestLeastZ c (legalZ c) length (integers placement)
 
 -- a record of k bytes stands in the first bytes of the buffer, the rest is as it was; the text is that of a chip, and the record says what
 -- the demand asks

@@ -11,8 +11,10 @@ use Rattle.text_grammar.proofs.Every.{Every}
 use Rattle.placement.proofs.OrderLaws.{or-says}
 use Rattle.geometry.specs.declared.Box.{Box}
 use Rattle.geometry.specs.Box.{clearOf, apart, below, leftOf}
-use Rattle.placement.specs.Legal.{boxes, fixBoxes, allApart, within, legal, gapOf}
-use Rattle.placement.specs.Letters.{Letter, left, right, low, high, dot, keeps, Pair, with, pairsOf, withEach, pairs, keepsAll, keepsLetters}
+use Rattle.placement.specs.Legal.{boxes, fixBoxes, allApart, within, legal}
+use Rattle.placement.specs.Integers.{gapOf}
+use Rattle.placement.specs.Letters.{Letter, left, right, low, high, dot}
+use Rattle.placement.specs.Pairs.{keeps, Pair, with, pairsOf, withEach, pairs, keepsAll, keepsLetters}
 
 or-first : (p q : Bool) → p ≡ true → (p || q) ≡ true
 or-first p q e = ap (λ (t : Bool). t || q) e
@@ -32,7 +34,7 @@ regroup true b d e = sym (and-assoc b d e) ∙ (ap (λ (t : Bool). t && e) (and-
 regroup false b d e = refl
 
 -- every pair is apart
-abbrev allPairs : Chip → List Pair → Bool
+abbrev pub allPairs : Chip → List Pair → Bool
 allPairs c [] = true
 allPairs c (q ∷ qs) = apart (gapOf c) (q .first) (q .second) && allPairs c qs
 
@@ -52,7 +54,7 @@ module _ (c : Chip) where
   apart-pairs (a ∷ s) = rw (apart-pairs s, from-pairs a s, from-pairs a (fixBoxes c), pairs-append (with a s) (pairsOf s), pairs-append (with a (fixBoxes c)) (withEach s (fixBoxes c)))
       (regroup (allPairs c (with a s)) (allPairs c (with a (fixBoxes c))) (allPairs c (pairsOf s)) (allPairs c (withEach s (fixBoxes c))))
 
-  placement-pairs : (ps : List Spot) → allApart c (boxes (c .macs) ps) ≡ allPairs c (pairs c ps)
+  pub placement-pairs : (ps : List Spot) → allApart c (boxes (c .macs) ps) ≡ allPairs c (pairs c ps)
   unfolding pairs
   placement-pairs ps = apart-pairs (boxes (c .macs) ps) ∙ sym (pairs-append (pairsOf (boxes (c .macs) ps)) (withEach (boxes (c .macs) ps) (fixBoxes c)))
 

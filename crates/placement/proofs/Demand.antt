@@ -2,7 +2,7 @@
 -- So what the search finds is the earliest least legal placement, and where it finds nothing no placement is legal.
 use Prim.{Unit, tt}
 use Prim.Native.Nat.{ℕ, zero, suc, _+_, _≤_, _<_}
-use mathlib.Core.Path.{_≡_, refl, sym, ap, subst, _∙_}
+use mathlib.Core.Path.{_≡_, refl, sym, ap, subst, _∙_, fun-ext}
 use mathlib.Core.Logic.{_⊎_, inl, inr}
 use mathlib.Core.Bool.{Bool, true, or-true}
 use mathlib.Core.List.{List, [], _∷_, _++_, map, List·Memᴰ, List·Memᴰ·head, List·Memᴰ·tail, List·Memᴰ·not-nil, List·Memᴰ·cases-cons, List·Memᴰ·append-cases, List·Memᴰ·eq-of-singleton, Memᴰ·cast, Memᴰ·map, Memᴰ·of-map, Memᴰ·append-left, Memᴰ·append-right, zipWith, flatMap}
@@ -21,9 +21,12 @@ use Rattle.geometry.specs.Box.{boxAt, inDie}
 use Rattle.placement.specs.Legal.{boxes, allApart, within, legal}
 use Rattle.placement.specs.Length.{wirelength}
 use Rattle.placement.specs.Order.{keys, firstSmaller, before}
-use Rattle.placement.specs.Least.{upFrom, corners, placements, Best, nothing, found, firstLeast, earliestLeast, fitOf}
+use Rattle.placement.specs.Least.{upFrom, corners, placements, Best, nothing, found, tryAll, firstLeast, earliestLeast, fitOf}
 use Rattle.placement.specs.Demand.{EarliestLeast}
-use Rattle.placement.specs.Letters.{Letter, pairs, keepsAll, keepsLetters}
+use Rattle.placement.specs.Integers.{Corner, legalZ, EarliestLeastZ, integers}
+use Rattle.placement.specs.Letters.{Letter, keepsLettersZ}
+use Rattle.placement.specs.Pairs.{pairs, keepsAll, keepsLetters}
+use Rattle.placement.proofs.Integers.{legal-same, letters-same, legal-natural, natural-legal, letters-natural, natural-letters, naturals, length-same, earliest-integers}
 use Rattle.placement.proofs.FirstLeast.{Is, LeastAt, NonePasses, first-least}
 
 abbrev spot : ℕ → ℕ → Spot
@@ -219,15 +222,21 @@ unfolding legal
 legal-in-corners c ps h = within-in-corners c ps (and-left (within c ps) (allApart c (boxes (c .macs) ps)) h)
 
 -- for every test that only a placement of the list can pass
-module _ (c : Chip) (passes : List Spot → Bool) (listed : (qs : List Spot) → passes qs ≡ true → List·Memᴰ qs (placements (c .macs) (corners c))) where
+module _ (c : Chip) (passesZ : List Corner → Bool) (passes : List Spot → Bool) (same : (ps : List Spot) → passesZ (integers ps) ≡ passes ps) (listed : (qs : List Spot) → passes qs ≡ true → List·Memᴰ qs (placements (c .macs) (corners c))) where
   abbrev Tried : Best → Type 0
   Tried b = Is c passes (placements (c .macs) (corners c)) b
 
-  tried-all : Tried (firstLeast c passes)
+  -- trying with the lengths and tests over integers is trying with those over natural corners
+  tried-same : firstLeast c passesZ ≡ tryAll (wirelength c) passes (placements (c .macs) (corners c)) nothing
   unfolding firstLeast
-  tried-all = first-least c passes (placements (c .macs) (corners c))
+  tried-same =
+      ap (λ (f : List Spot → ℕ). tryAll f (λ ps. passesZ (integers ps)) (placements (c .macs) (corners c)) nothing) (fun-ext (λ (ps : List Spot). length-same c ps))
+      ∙ ap (λ (f : List Spot → Bool). tryAll (wirelength c) f (placements (c .macs) (corners c)) nothing) (fun-ext same)
 
-  pub found-earliest-least : (l : ℕ) (ps : List Spot) → firstLeast c passes ≡ found l ps → EarliestLeast c passes l ps
+  tried-all : Tried (firstLeast c passesZ)
+  tried-all = subst Tried (sym tried-same) (first-least c passes (placements (c .macs) (corners c)))
+
+  pub found-earliest-least : (l : ℕ) (ps : List Spot) → firstLeast c passesZ ≡ found l ps → EarliestLeast c passes l ps
   found-earliest-least l ps e = record {
     passed = i .passed;
     long = i .long;
@@ -246,7 +255,7 @@ module _ (c : Chip) (passes : List Spot → Bool) (listed : (qs : List Spot) →
       by qs t w n (inl m) = let z = i .earliest qs m t in absurd (omega arith)
       by qs t w n (inr m) = behind qs n (List·Memᴰ·cases-cons m)
 
-  pub found-nothing : firstLeast c passes ≡ nothing → (qs : List Spot) → passes qs ≡ true → ⊥
+  pub found-nothing : firstLeast c passesZ ≡ nothing → (qs : List Spot) → passes qs ≡ true → ⊥
   found-nothing e qs t = i .fails qs (listed qs t) t
     where
       i : NonePasses passes (placements (c .macs) (corners c))
@@ -254,10 +263,10 @@ module _ (c : Chip) (passes : List Spot → Bool) (listed : (qs : List Spot) →
 
 -- the earliest least legal placement, and where there is none
 pub earliest-least-found : (c : Chip) (l : ℕ) (ps : List Spot) → earliestLeast c ≡ found l ps → EarliestLeast c (legal c) l ps
-earliest-least-found c = found-earliest-least c (legal c) (legal-in-corners c)
+earliest-least-found c = found-earliest-least c (legalZ c) (legal c) (legal-same c) (legal-in-corners c)
 
 pub nothing-legal : (c : Chip) → earliestLeast c ≡ nothing → (qs : List Spot) → legal c qs ≡ true → ⊥
-nothing-legal c = found-nothing c (legal c) (legal-in-corners c)
+nothing-legal c = found-nothing c (legalZ c) (legal c) (legal-same c) (legal-in-corners c)
 
 -- the fit of letters: the least that keeps them, of those the earliest, and where there is none
 letters-in-corners : (c : Chip) (ls : List Letter) (ps : List Spot) → keepsLetters c ls ps ≡ true → List·Memᴰ ps (placements (c .macs) (corners c))
@@ -265,7 +274,21 @@ unfolding keepsLetters
 letters-in-corners c ls ps h = within-in-corners c ps (and-left (within c ps) (keepsAll c ls (pairs c ps)) h)
 
 pub fit-found : (c : Chip) (ls : List Letter) (l : ℕ) (ps : List Spot) → fitOf c ls ≡ found l ps → EarliestLeast c (keepsLetters c ls) l ps
-fit-found c ls = found-earliest-least c (keepsLetters c ls) (letters-in-corners c ls)
+fit-found c ls = found-earliest-least c (keepsLettersZ c ls) (keepsLetters c ls) (letters-same c ls) (letters-in-corners c ls)
 
 pub nothing-fits : (c : Chip) (ls : List Letter) → fitOf c ls ≡ nothing → (qs : List Spot) → keepsLetters c ls qs ≡ true → ⊥
-nothing-fits c ls = found-nothing c (keepsLetters c ls) (letters-in-corners c ls)
+nothing-fits c ls = found-nothing c (keepsLettersZ c ls) (keepsLetters c ls) (letters-same c ls) (letters-in-corners c ls)
+
+-- ---- the same over all placements with integer corners
+
+pub earliest-least-integers : (c : Chip) (l : ℕ) (ps : List Spot) → earliestLeast c ≡ found l ps → EarliestLeastZ c (legalZ c) l (integers ps)
+earliest-least-integers c l ps e = earliest-integers c (legalZ c) (legal c) (legal-same c) (legal-natural c) l ps (earliest-least-found c l ps e)
+
+pub nothing-legal-integers : (c : Chip) → earliestLeast c ≡ nothing → (qs : List Corner) → legalZ c qs ≡ true → ⊥
+nothing-legal-integers c e qs t = nothing-legal c e (naturals qs) (natural-legal c qs t)
+
+pub fit-found-integers : (c : Chip) (ls : List Letter) (l : ℕ) (ps : List Spot) → fitOf c ls ≡ found l ps → EarliestLeastZ c (keepsLettersZ c ls) l (integers ps)
+fit-found-integers c ls l ps e = earliest-integers c (keepsLettersZ c ls) (keepsLetters c ls) (letters-same c ls) (letters-natural c ls) l ps (fit-found c ls l ps e)
+
+pub nothing-fits-integers : (c : Chip) (ls : List Letter) → fitOf c ls ≡ nothing → (qs : List Corner) → keepsLettersZ c ls qs ≡ true → ⊥
+nothing-fits-integers c ls e qs t = nothing-fits c ls e (naturals qs) (natural-letters c ls qs t)

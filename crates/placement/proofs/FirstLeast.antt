@@ -82,20 +82,20 @@ module _ (c : Chip) (passes : List Spot → Bool) (done : List (List Spot)) (ps 
     earliest = all-longer b s i;
   }
 
-  module _ (rest : List (List Spot)) (more : (b : Best) → Is c passes Done b → Is c passes (done ++ (ps ∷ rest)) (tryAll c passes rest b)) (b : Best) (i : Is c passes done b) where
+  module _ (rest : List (List Spot)) (more : (b : Best) → Is c passes Done b → Is c passes (done ++ (ps ∷ rest)) (tryAll (wirelength c) passes rest b)) (b : Best) (i : Is c passes done b) where
     by-tests : (t u : Bool) → passes ps ≡ t → shorter (wirelength c ps) b ≡ u
-        → Is c passes (done ++ (ps ∷ rest)) (elim t [ true ↦ elim u [ true ↦ tryAll c passes rest (found (wirelength c ps) ps) | false ↦ tryAll c passes rest b ] | false ↦ tryAll c passes rest b ])
+        → Is c passes (done ++ (ps ∷ rest)) (elim t [ true ↦ elim u [ true ↦ tryAll (wirelength c) passes rest (found (wirelength c ps) ps) | false ↦ tryAll (wirelength c) passes rest b ] | false ↦ tryAll (wirelength c) passes rest b ])
     by-tests true true t s = more (found (wirelength c ps) ps) (taken b t s i)
     by-tests true false t s = more b (longer-kept b s i)
     by-tests false u t s = more b (fails-kept b t i)
 
 module _ (c : Chip) (passes : List Spot → Bool) where
-  pub tried : (all done : List (List Spot)) (b : Best) → Is c passes done b → Is c passes (done ++ all) (tryAll c passes all b)
+  pub tried : (all done : List (List Spot)) (b : Best) → Is c passes done b → Is c passes (done ++ all) (tryAll (wirelength c) passes all b)
   unfolding tryAll
   tried [] done b i = subst (λ (s : List (List Spot)). Is c passes s b) (sym (append-nil done)) i
   tried (ps ∷ rest) done b i = by-tests c passes done ps rest
-      (λ b′ i′. subst (λ (s : List (List Spot)). Is c passes s (tryAll c passes rest b′)) (append-assoc done (ps ∷ []) rest) (tried rest (done ++ (ps ∷ [])) b′ i′))
+      (λ b′ i′. subst (λ (s : List (List Spot)). Is c passes s (tryAll (wirelength c) passes rest b′)) (append-assoc done (ps ∷ []) rest) (tried rest (done ++ (ps ∷ [])) b′ i′))
       b i (passes ps) (shorter (wirelength c ps) b) refl refl
 
-  pub first-least : (all : List (List Spot)) → Is c passes all (tryAll c passes all nothing)
+  pub first-least : (all : List (List Spot)) → Is c passes all (tryAll (wirelength c) passes all nothing)
   first-least all = tried all [] nothing (record { fails = λ qs m t. List·Memᴰ·not-nil m })

@@ -17,7 +17,8 @@ use Rattle.geometry.specs.Box.{inDie}
 use Rattle.placement.specs.Legal.{boxes, within}
 use Rattle.placement.specs.Length.{wirelength}
 use Rattle.placement.specs.Order.{keys, firstSmaller, before}
-use Rattle.placement.specs.Letters.{Letter, pairs, keepsAll, keepsLetters}
+use Rattle.placement.specs.Letters.{Letter}
+use Rattle.placement.specs.Pairs.{pairs, keepsAll, keepsLetters}
 use Rattle.placement.specs.Least.{Best, nothing, found, fitOf}
 use Rattle.placement.proofs.OrderLaws.{Compared, before-total, before-irreflexive}
 use Rattle.placement.specs.Demand.{EarliestLeast}

@@ -16,7 +16,8 @@ use Rattle.model.specs.Limits.{isWithin, pinPlace}
 use Rattle.text_grammar.proofs.Lacks.{and-left}
 use Rattle.chip_text.specs.Valid.{Valid, ValidNet, noPin, noNet}
 use Rattle.num_laws.proofs.Spreads.{spread-le}
-use Rattle.placement.specs.Length.{origin, span, netLength, netsLength, wirelength}
+use Rattle.placement.specs.Length.{origin, netLength, netsLength, wirelength}
+use Rattle.placement.specs.Integers.{span}
 use Rattle.placement.specs.Corners.{CornersWithin}
 use Rattle.placement.proofs.Spans.{shifted, span-shift, from-zero, below-zero, add-shift}
 

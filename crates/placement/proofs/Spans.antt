@@ -2,6 +2,7 @@
 use Prim.Native.Nat.{ℕ, zero, suc, _+_, _-_, _*_, _≤_, _<_, min, max}
 use mathlib.Core.Path.{_≡_, refl, ap, _∙_}
 use mathlib.Core.List.{List, [], _∷_, map}
+use mathlib.Core.Bool.{cond}
 use native.Mathlib.Decide.{decLe, decLt}
 use native.Mathlib.Omega.{arith}
 use lib.Dec.{leb}
@@ -13,7 +14,8 @@ use Rattle.model.specs.declared.Pin.{Pin as HeldPin}
 use Rattle.model.specs.Meaning.{Pin, pinOf, pinsOf}
 use Rattle.num_laws.specs.Spread.{most, fewest, spread}
 use Rattle.num_laws.proofs.Spreads.{fewest-le-most}
-use Rattle.placement.specs.Length.{origin, pinX, pinY, larger, smaller, greatest, least, span, netLength}
+use Rattle.placement.specs.Length.{origin, pinX, pinY, netLength}
+use Rattle.placement.specs.Integers.{greatest, least, span}
 
 -- tests and places of two numbers that agree
 leb-same : (a b c d : ℕ) → (a ≤ b → c ≤ d) → (c ≤ d → a ≤ b) → leb a b ≡ leb c d
@@ -42,6 +44,13 @@ shift-order b p q = by (decLt p b) (decLt q b)
     by (yes h) (no k) = rw (below-zero p b h, from-zero q b (omega arith), le-leb p q (omega arith))
     by (no h) (yes k) = rw (from-zero p b (omega arith), below-zero q b k, lt-leb p q (omega arith))
     by (no h) (no k) = rw (from-zero p b (omega arith), from-zero q b (omega arith)) (leb-same (p - b) (q - b) p q (λ l. omega arith) (λ l. omega arith))
+
+-- the larger and the smaller of two places
+abbrev larger : ℤ → ℤ → ℤ
+larger a b = cond (leZ a b) b a
+
+abbrev smaller : ℤ → ℤ → ℤ
+smaller a b = cond (leZ a b) a b
 
 shift-larger : (b p q : ℕ) → larger (subℕ p b) (subℕ q b) ≡ subℕ (max p q) b
 shift-larger b p q = by (decLe p q)

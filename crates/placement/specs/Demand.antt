@@ -1,4 +1,4 @@
--- Demand 3 in its own words: which placement of all that pass a test is the earliest least one.
+-- The earliest least placement with natural corners of all that pass a test: that of Integers.antt (proofs/Integers.antt, `earliest-integers`).
 use Prim.Native.Nat.{ℕ, _≤_}
 use mathlib.Core.Path.{_≡_}
 use mathlib.Core.Bool.{Bool, true}

@@ -1,20 +1,20 @@
--- Document 01 over the integers: corners are whole numbers, and that x and y are at least 0 is a test of legality, not a type. Widths and heights are sizes,
--- so natural. The laws (proofs/Integers.antt) say that natural corners lose nothing legal.
+-- When a placement is legal and how long it is, and which comes first. Document 01, "Legal, and how long": each macro lies in the die, and of each two macros,
+-- and of each macro and each fix, one is left of, right of, below or above the other; touching edges are allowed. A net's length is its weight times
+-- (greatest x - least x + greatest y - least y) over its pins; the wirelength is the sum.
+-- Corners are whole numbers, and that x and y are at least 0 is a test of legality, not a type. Widths and heights are sizes, so natural.
 use Prim.Native.Nat.{ℕ, zero, suc, _+_, _*_, _≤_}
 use mathlib.Core.Path.{_≡_}
-use mathlib.Core.List.{List, [], _∷_, map, zipWith}
-use mathlib.Core.Bool.{Bool, true, false, _&&_, _||_}
+use mathlib.Core.List.{List, [], _∷_, _++_, map, zipWith, product}
+use mathlib.Core.Bool.{Bool, true, false, _&&_, _||_, cond}
 use lib.Dec.{eqb}
 use lib.ListN.{length, getD}
-use lib.IntN.{ℤ, pos, _+ℤ_}
+use lib.IntN.{ℤ, pos, negℤ, _+ℤ_, natAbs}
 use lib.Signed.{leZ, ltZ}
 use Rattle.num_text.specs.Number.{allOf}
 use Rattle.model.specs.declared.Fix.{Fix}
 use Rattle.model.specs.declared.Mac.{Mac}
 use Rattle.model.specs.declared.Spot.{Spot}
 use Rattle.model.specs.Meaning.{Pin, Net, Chip}
-use Rattle.placement.specs.Legal.{gapOf}
-use Rattle.placement.specs.Length.{span}
 
 -- a corner; a placement is a list of corners, one for each macro
 pub record Corner : Type 0 where
@@ -37,6 +37,10 @@ rectOf f = record { x = pos (f .x); y = pos (f .y); w = f .w; h = f .h }
 
 -- ---- legal
 
+-- the gap that a chip asks between two macros, and between a macro and a fix: none
+abbrev pub gapOf : Chip → ℕ
+gapOf c = 0
+
 -- left of: corner plus width plus gap is at most the other corner; below: corner plus height plus gap
 abbrev pub leftOfZ : Chip → Rect → Rect → Bool
 leftOfZ c a b = leZ (a .x +ℤ pos (a .w) +ℤ pos (gapOf c)) (b .x)
@@ -45,23 +49,48 @@ abbrev pub belowZ : Chip → Rect → Rect → Bool
 belowZ c a b = leZ (a .y +ℤ pos (a .h) +ℤ pos (gapOf c)) (b .y)
 
 -- one is left of, right of, below or above the other
-abbrev pub apartZ : Chip → Rect → Rect → Bool
-apartZ c a b = leftOfZ c a b || (leftOfZ c b a || (belowZ c a b || belowZ c b a))
+abbrev pub apartZ : Chip → Rect × Rect → Bool
+apartZ c (a, b) = leftOfZ c a b || (leftOfZ c b a || (belowZ c a b || belowZ c b a))
 
 -- x and y at least 0, x + w at most W, y + h at most H
 abbrev pub inDieZ : Chip → Rect → Bool
 inDieZ c a = (leZ (pos 0) (a .x) && leZ (pos 0) (a .y)) && (leZ (a .x +ℤ pos (a .w)) (pos (c .die .w)) && leZ (a .y +ℤ pos (a .h)) (pos (c .die .h)))
 
--- each two of the macros, and each macro and each fix
-unfoldable pub allApartZ : Chip → List Rect → Bool
-allApartZ c [] = true
-allApartZ c (a ∷ s) = allOf (apartZ c a) s && (allOf (apartZ c a) (map rectOf (c .fixes)) && allApartZ c s)
+-- the macros at their corners
+abbrev pub rects : Chip → List Corner → List Rect
+rects c ps = zipWith rectAt (c .macs) ps
 
--- one corner for each macro, every macro in the die, and each two apart
+-- one corner for each macro, and every macro in the die
+unfoldable pub withinZ : Chip → List Corner → Bool
+withinZ c ps = eqb (length ps) (length (c .macs)) && allOf (inDieZ c) (rects c ps)
+
+-- each two of a list: 1-2, 1-3 .. 2-3 ..
+unfoldable pub eachTwo : List Rect → List (Rect × Rect)
+eachTwo [] = []
+eachTwo (a ∷ s) = map (λ (b : Rect). (a, b)) s ++ eachTwo s
+
+-- the pairs: each two macros, then macro 1 with fix 1, 2 .., macro 2 with fix 1 ..
+unfoldable pub pairsZ : Chip → List Corner → List (Rect × Rect)
+pairsZ c ps = eachTwo (rects c ps) ++ product (rects c ps) (map rectOf (c .fixes))
+
 unfoldable pub legalZ : Chip → List Corner → Bool
-legalZ c ps = (eqb (length ps) (length (c .macs)) && allOf (inDieZ c) (zipWith rectAt (c .macs) ps)) && allApartZ c (zipWith rectAt (c .macs) ps)
+legalZ c ps = withinZ c ps && allOf (apartZ c) (pairsZ c ps)
 
 -- ---- how long
+
+-- the greatest and the least of a and the places s
+unfoldable pub greatest : ℤ → List ℤ → ℤ
+greatest a [] = a
+greatest a (b ∷ s) = greatest (cond (leZ a b) b a) s
+
+unfoldable pub least : ℤ → List ℤ → ℤ
+least a [] = a
+least a (b ∷ s) = least (cond (leZ a b) a b) s
+
+-- greatest less least (a net has a pin)
+unfoldable pub span : List ℤ → ℕ
+span [] = 0
+span (a ∷ s) = natAbs (greatest a s +ℤ negℤ (least a s))
 
 abbrev pub zeroCorner : Corner
 zeroCorner = record { x = pos 0; y = pos 0 }
@@ -95,15 +124,15 @@ beforeZ [] qs = false
 beforeZ (p ∷ ps) [] = false
 beforeZ (p ∷ ps) (q ∷ qs) = smallerFirst (p .x) (q .x) (smallerFirst (p .y) (q .y) (beforeZ ps qs))
 
--- ---- demand 3
+-- ---- the least
 
--- ps is legal and has length l; every legal placement has at least that length, and each other one of that length comes after ps
-pub record EarliestLeastZ (c : Chip) (l : ℕ) (ps : List Corner) : Type 0 where
-  pub lawful : legalZ c ps ≡ true
-  pub own : l ≡ wirelengthZ c ps
-  pub shortest : (qs : List Corner) → legalZ c qs ≡ true → l ≤ wirelengthZ c qs
-  pub earliest : (qs : List Corner) → legalZ c qs ≡ true → l ≡ wirelengthZ c qs → (qs ≡ ps → ⊥) → beforeZ ps qs ≡ true
+-- ps passes the test and has length l; every placement that passes has at least that length, and each other one of that length comes after ps
+pub record EarliestLeastZ (c : Chip) (passes : List Corner → Bool) (l : ℕ) (ps : List Corner) : Type 0 where
+  pub passed : passes ps ≡ true
+  pub long : l ≡ wirelengthZ c ps
+  pub least : (qs : List Corner) → passes qs ≡ true → l ≤ wirelengthZ c qs
+  pub earliest : (qs : List Corner) → passes qs ≡ true → l ≡ wirelengthZ c qs → (qs ≡ ps → ⊥) → beforeZ ps qs ≡ true
 
--- a natural corner, as one of integers
-abbrev pub cornerOf : Spot → Corner
-cornerOf p = record { x = pos (p .x); y = pos (p .y) }
+-- natural corners, as the program holds them, as integers
+abbrev pub integers : List Spot → List Corner
+integers ps = map (λ (p : Spot). record { x = pos (p .x); y = pos (p .y) }) ps

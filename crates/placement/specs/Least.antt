@@ -9,9 +9,8 @@ use Rattle.model.specs.declared.Mac.{Mac}
 use Rattle.model.specs.declared.Spot.{Spot}
 use Rattle.model.specs.Meaning.{Chip, Record, none}
 use Rattle.model.specs.Meaning as meaning
-use Rattle.placement.specs.Legal.{legal}
-use Rattle.placement.specs.Length.{wirelength}
-use Rattle.placement.specs.Letters.{Letter, keepsLetters}
+use Rattle.placement.specs.Integers.{Corner, legalZ, wirelengthZ, integers}
+use Rattle.placement.specs.Letters.{Letter, keepsLettersZ}
 
 -- a, a + 1 and so on, k of them
 unfoldable pub upFrom : ℕ → ℕ → List ℕ
@@ -36,25 +35,25 @@ abbrev pub shorter : ℕ → Best → Bool
 shorter l nothing = true
 shorter l (found m ps) = ltb l m
 
--- the first of least wirelength among those that pass, after the best so far
-unfoldable pub tryAll : Chip → (List Spot → Bool) → List (List Spot) → Best → Best
-tryAll c passes [] b = b
-tryAll c passes (ps ∷ rest) b =
+-- the first of least length among those that pass, after the best so far
+unfoldable pub tryAll : (List Spot → ℕ) → (List Spot → Bool) → List (List Spot) → Best → Best
+tryAll long passes [] b = b
+tryAll long passes (ps ∷ rest) b =
     elim (passes ps) [
-      | true ↦ (let l : ℕ = wirelength c ps in elim (shorter l b) [ true ↦ tryAll c passes rest (found l ps) | false ↦ tryAll c passes rest b ])
-      | false ↦ tryAll c passes rest b
+      | true ↦ (let l : ℕ = long ps in elim (shorter l b) [ true ↦ tryAll long passes rest (found l ps) | false ↦ tryAll long passes rest b ])
+      | false ↦ tryAll long passes rest b
     ]
 
-unfoldable pub firstLeast : Chip → (List Spot → Bool) → Best
-firstLeast c passes = tryAll c passes (placements (c .macs) (corners c)) nothing
+unfoldable pub firstLeast : Chip → (List Corner → Bool) → Best
+firstLeast c passes = tryAll (λ ps. wirelengthZ c (integers ps)) (λ ps. passes (integers ps)) (placements (c .macs) (corners c)) nothing
 
 -- the earliest least legal placement
 abbrev pub earliestLeast : Chip → Best
-earliestLeast c = firstLeast c (legal c)
+earliestLeast c = firstLeast c (legalZ c)
 
 -- the fit of letters: the least under them, and of those the earliest
 abbrev pub fitOf : Chip → List Letter → Best
-fitOf c ls = firstLeast c (keepsLetters c ls)
+fitOf c ls = firstLeast c (keepsLettersZ c ls)
 
 abbrev pub bestRecord : Best → Record
 bestRecord nothing = none

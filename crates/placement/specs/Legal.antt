@@ -1,7 +1,4 @@
--- When a placement is legal. Document 01, "Legal, and how long": each macro lies in the die, and of each two macros, and of each macro and each fix, one is
--- left of, right of, below or above the other; touching edges are allowed.
--- A placement is a list of corners, one for each macro. Corners are natural numbers: legal demands that x and y are at least 0, so no placement is lost.
-use Prim.Native.Nat.{ℕ}
+-- When a placement with natural corners is legal, box by box, as the program tests it: as Integers.antt says (proofs/Integers.antt, `legal-same`).
 use mathlib.Core.List.{List, [], _∷_, map, zipWith}
 use mathlib.Core.Bool.{Bool, true, _&&_}
 use lib.Dec.{eqb}
@@ -12,6 +9,7 @@ use Rattle.model.specs.declared.Spot.{Spot}
 use Rattle.model.specs.Meaning.{Chip}
 use Rattle.geometry.specs.declared.Box.{Box}
 use Rattle.geometry.specs.Box.{boxAt, boxOf, inDie, clearOf}
+use Rattle.placement.specs.Integers.{gapOf}
 
 -- the macros at their corners
 abbrev pub boxes : List Mac → List Spot → List Box
@@ -20,10 +18,6 @@ boxes ms ps = zipWith boxAt ms ps
 -- the fixes
 abbrev pub fixBoxes : Chip → List Box
 fixBoxes c = map boxOf (c .fixes)
-
--- the gap that a chip asks between two macros, and between a macro and a fix: none
-abbrev pub gapOf : Chip → ℕ
-gapOf c = 0
 
 -- each two of the macros, and each macro and each fix
 unfoldable pub allApart : Chip → List Box → Bool

@@ -1,13 +1,11 @@
--- How long the nets are. Document 01, "Legal, and how long": a net's length is its weight times (greatest x - least x + greatest y - least y) over its pins;
--- the wirelength is the sum.
+-- How long the nets are over natural corners, as the program computes it: the wirelength of Integers.antt (proofs/Integers.antt, `length-same`).
 use Prim.Native.Nat.{ℕ, zero, suc, _+_, _*_}
 use mathlib.Core.List.{List, [], _∷_, map}
-use mathlib.Core.Bool.{cond}
 use lib.ListN.{getD}
-use lib.IntN.{ℤ, pos, negℤ, _+ℤ_, natAbs}
-use lib.Signed.{leZ}
+use lib.IntN.{ℤ, pos, _+ℤ_}
 use Rattle.model.specs.declared.Spot.{Spot}
 use Rattle.model.specs.Meaning.{Pin, Net, Chip, blankSpot}
+use Rattle.placement.specs.Integers.{span}
 
 -- the corner that a pin's x and y are added to: the macro's, or 0,0 for a pad
 abbrev pub origin : List Spot → ℕ → Spot
@@ -20,26 +18,6 @@ pinX ps p = pos (origin ps (p .m) .x) +ℤ p .x
 
 abbrev pub pinY : List Spot → Pin → ℤ
 pinY ps p = pos (origin ps (p .m) .y) +ℤ p .y
-
-abbrev pub larger : ℤ → ℤ → ℤ
-larger a b = cond (leZ a b) b a
-
-abbrev pub smaller : ℤ → ℤ → ℤ
-smaller a b = cond (leZ a b) a b
-
--- the greatest and the least of a and the places s
-unfoldable pub greatest : ℤ → List ℤ → ℤ
-greatest a [] = a
-greatest a (b ∷ s) = greatest (larger a b) s
-
-unfoldable pub least : ℤ → List ℤ → ℤ
-least a [] = a
-least a (b ∷ s) = least (smaller a b) s
-
--- greatest less least (a net has a pin)
-unfoldable pub span : List ℤ → ℕ
-span [] = 0
-span (a ∷ s) = natAbs (greatest a s +ℤ negℤ (least a s))
 
 unfoldable pub netLength : List Spot → Net → ℕ
 netLength ps t = t .weight * (span (map (pinX ps) (t .pins)) + span (map (pinY ps) (t .pins)))

@@ -1,12 +1,9 @@
--- Letters on the pairs. Document 01, "The fit": one letter for each pair, macros 1-2, 1-3 .. 2-3 .., then macro 1 with fix 1, 2 .., macro 2 with fix 1 ..;
--- the first of the pair stands L left, R right, B below, A above the second; `.` demands nothing.
-use mathlib.Core.List.{List, [], _∷_, _++_, map}
+-- Letters on the pairs. Document 01, "The fit": one letter for each pair; the first of the pair stands L left, R right, B below, A above the second;
+-- `.` demands nothing.
+use mathlib.Core.List.{List, [], _∷_}
 use mathlib.Core.Bool.{Bool, true, false, _&&_}
-use Rattle.model.specs.declared.Spot.{Spot}
 use Rattle.model.specs.Meaning.{Chip}
-use Rattle.geometry.specs.declared.Box.{Box}
-use Rattle.geometry.specs.Box.{below, leftOf}
-use Rattle.placement.specs.Legal.{boxes, fixBoxes, within, gapOf}
+use Rattle.placement.specs.Integers.{Corner, Rect, leftOfZ, belowZ, withinZ, pairsZ}
 
 pub data Letter : Type 0 where
   left : Letter
@@ -16,40 +13,20 @@ pub data Letter : Type 0 where
   dot : Letter
 
 -- a stands to b as the letter says
-abbrev pub keeps : Chip → Letter → Box → Box → Bool
-keeps c left a b = leftOf (gapOf c) a b
-keeps c right a b = leftOf (gapOf c) b a
-keeps c low a b = below (gapOf c) a b
-keeps c high a b = below (gapOf c) b a
-keeps c dot a b = true
-
-pub record Pair : Type 0 where
-  pub first : Box
-  pub second : Box
-
-abbrev pub with : Box → List Box → List Pair
-with a s = map (λ (b : Box). record { first = a; second = b }) s
-
--- each two of the boxes
-unfoldable pub pairsOf : List Box → List Pair
-pairsOf [] = []
-pairsOf (a ∷ s) = with a s ++ pairsOf s
-
--- each of the boxes with each of the fixes
-unfoldable pub withEach : List Box → List Box → List Pair
-withEach [] fs = []
-withEach (a ∷ s) fs = with a fs ++ withEach s fs
-
-unfoldable pub pairs : Chip → List Spot → List Pair
-pairs c ps = pairsOf (boxes (c .macs) ps) ++ withEach (boxes (c .macs) ps) (fixBoxes c)
+abbrev pub keepsZ : Chip → Letter → Rect × Rect → Bool
+keepsZ c left (a, b) = leftOfZ c a b
+keepsZ c right (a, b) = leftOfZ c b a
+keepsZ c low (a, b) = belowZ c a b
+keepsZ c high (a, b) = belowZ c b a
+keepsZ c dot q = true
 
 -- one letter for each pair, and every letter is kept
-unfoldable pub keepsAll : Chip → List Letter → List Pair → Bool
-keepsAll c [] [] = true
-keepsAll c [] (q ∷ qs) = false
-keepsAll c (l ∷ ls) [] = false
-keepsAll c (l ∷ ls) (q ∷ qs) = keeps c l (q .first) (q .second) && keepsAll c ls qs
+unfoldable pub keepsAllZ : Chip → List Letter → List (Rect × Rect) → Bool
+keepsAllZ c [] [] = true
+keepsAllZ c [] (q ∷ qs) = false
+keepsAllZ c (l ∷ ls) [] = false
+keepsAllZ c (l ∷ ls) (q ∷ qs) = keepsZ c l q && keepsAllZ c ls qs
 
 -- the placement keeps every macro in the die and keeps every letter
-unfoldable pub keepsLetters : Chip → List Letter → List Spot → Bool
-keepsLetters c ls ps = within c ps && keepsAll c ls (pairs c ps)
+unfoldable pub keepsLettersZ : Chip → List Letter → List Corner → Bool
+keepsLettersZ c ls ps = withinZ c ps && keepsAllZ c ls (pairsZ c ps)

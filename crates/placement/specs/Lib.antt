@@ -1,8 +1,9 @@
+pub mod Integers
+pub mod Letters
+pub mod Least
 pub mod Legal
 pub mod Length
 pub mod Corners
 pub mod Order
-pub mod Letters
-pub mod Least
+pub mod Pairs
 pub mod Demand
-pub mod Integers

@@ -1,4 +1,4 @@
--- Order among placements. Document 01: by x1, then y1, x2, y2 and so on, the smaller first.
+-- Order among placements with natural corners: that of Integers.antt (proofs/Integers.antt, `before-same`).
 use Prim.Native.Nat.{ℕ}
 use mathlib.Core.List.{List, [], _∷_}
 use mathlib.Core.Bool.{Bool, false, _&&_, _||_}

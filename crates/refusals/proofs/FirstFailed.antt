@@ -1,10 +1,10 @@
 -- The first test that fails, one test after the other.
 use Prim.Native.Nat.{ℕ, zero, suc}
 use mathlib.Core.Path.{_≡_, refl, ap}
-use mathlib.Core.Bool.{Bool, true, false}
+use mathlib.Core.Bool.{Bool, true, false, cond}
 use mathlib.Core.List.{List, [], _∷_, _++_}
 use native.Mathlib.Omega.{arith}
-use Rattle.refusals.specs.Tests.{Test, test, orElse, firstFailed, unlessFailed}
+use Rattle.refusals.specs.Tests.{Test, test, firstFailed, unlessFailed}
 
 pub none-failed : 0 ≡ firstFailed []
 unfolding firstFailed
@@ -36,7 +36,7 @@ module _ (n : ℕ) (ts : List Test) where
 pub passes-last : (ts : List Test) (n : ℕ) (b : Bool) → b ≡ true → firstFailed (ts ++ (test n b ∷ [])) ≡ firstFailed ts
 unfolding firstFailed
 passes-last [] n b e = rw e
-passes-last (t ∷ ts) n b e = ap (orElse (t .passes) (t .number)) (passes-last ts n b e)
+passes-last (t ∷ ts) n b e = ap (λ (k : ℕ). cond (t .passes) k (t .number)) (passes-last ts n b e)
 
 -- the answer of a service that branches on the number
 module _ {A : Type 0} (refusal : ℕ → ℕ → A) (more : A) where

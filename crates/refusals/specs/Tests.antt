@@ -2,7 +2,7 @@
 -- number, in order; the first that fails counts, and its line is 0.
 use Prim.Native.Nat.{ℕ, zero, suc}
 use mathlib.Core.List.{List, [], _∷_}
-use mathlib.Core.Bool.{Bool, true, false}
+use mathlib.Core.Bool.{Bool, cond}
 
 pub record Test : Type 0 where
   pub number : ℕ
@@ -11,15 +11,10 @@ pub record Test : Type 0 where
 abbrev pub test : ℕ → Bool → Test
 test number passes = record { number = number; passes = passes }
 
--- what follows where a test passes, or its number
-abbrev pub orElse : Bool → ℕ → ℕ → ℕ
-orElse true number more = more
-orElse false number more = number
-
 -- the number of the first test that fails, or 0
 unfoldable pub firstFailed : List Test → ℕ
 firstFailed [] = 0
-firstFailed (t ∷ ts) = orElse (t .passes) (t .number) (firstFailed ts)
+firstFailed (t ∷ ts) = cond (t .passes) (firstFailed ts) (t .number)
 
 -- what a service answers: the refusal of that number, or what follows where no test fails
 abbrev pub unlessFailed : {A : Type 0} → (ℕ → ℕ → A) → ℕ → A → A

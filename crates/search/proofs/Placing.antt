@@ -21,7 +21,8 @@ use Rattle.chip_read.specs.declared.ChipAnswer.{ChipAnswer}
 use Rattle.chip_read.specs.declared.ChipAnswer.the-variants as answer
 use Rattle.chip_read.specs.Answer.{meant}
 use Rattle.record_text.specs.Text.{recordText, writeRecord}
-use Rattle.placement.specs.Letters.{Letter, dot, pairs}
+use Rattle.placement.specs.Letters.{Letter, dot}
+use Rattle.placement.specs.Pairs.{pairs}
 use Rattle.placement.specs.Least.{earliestLeast, bestRecord, chipRecord}
 use Rattle.fit_slots.specs.declared.Direction.{Direction}
 use Rattle.fit_slots.specs.declared.Direction.the-variants.{Horizontal as horizontal, Vertical as vertical}

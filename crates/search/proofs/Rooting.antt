@@ -11,7 +11,8 @@ use Rattle.model.specs.declared.Spot.{Spot}
 use Rattle.model.specs.Meaning.{Chip, chipOf}
 use Rattle.chip_text.specs.Passed.{Passed}
 use Rattle.placement.specs.Legal.{legal}
-use Rattle.placement.specs.Letters.{Letter, dot, keepsLetters}
+use Rattle.placement.specs.Letters.{Letter, dot}
+use Rattle.placement.specs.Pairs.{keepsLetters}
 use Rattle.placement.specs.Least.{found}
 use Rattle.placement.proofs.Demand.{fit-found}
 use Rattle.axis_bounds.specs.Axis.{Keeps, valueAt, lengthOn, netsLength}

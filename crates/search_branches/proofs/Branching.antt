@@ -8,7 +8,8 @@ use lib.ListN.{length, replicate}
 use Rattle.model.specs.declared.Spot.{Spot}
 use Rattle.model.specs.Meaning.{Chip}
 use Rattle.placement.specs.Legal.{within, legal}
-use Rattle.placement.specs.Letters.{dot, Pair, pairs, keepsAll, keepsLetters}
+use Rattle.placement.specs.Letters.{dot}
+use Rattle.placement.specs.Pairs.{Pair, pairs, keepsAll, keepsLetters}
 use Rattle.search_branches.specs.Branch.{inBranch}
 use Rattle.search_branches.proofs.Unions.{passes-long}
 use Rattle.search_branches.proofs.Closing.{legal-inside}

@@ -11,7 +11,9 @@ use Rattle.text_grammar.proofs.Lacks.{and-left, and-right}
 use Rattle.placement.specs.Legal.{boxes, allApart, within, legal}
 use Rattle.placement.specs.Length.{wirelength}
 use Rattle.placement.specs.Order.{before}
-use Rattle.placement.specs.Letters.{Letter, pairs, keepsAll, keepsLetters}
+use Rattle.placement.specs.Letters.{Letter, keepsLettersZ}
+use Rattle.placement.proofs.Integers.{letters-same}
+use Rattle.placement.specs.Pairs.{pairs, keepsAll, keepsLetters}
 use Rattle.placement.specs.Least.{found, fitOf}
 use Rattle.placement.proofs.Demand.{fit-found}
 use Rattle.search_branches.specs.Branch.{replaces, inBranch}
@@ -33,7 +35,7 @@ module _ (c : Chip) (ls : List Letter) where
   branch-inside ps h = letters-inside ps (and-right (legal c ps) (keepsLetters c ls ps) h)
 
   pub fit-sized : Sized (length (c .macs)) (fitOf c ls)
-  fit-sized = first-sized c (keepsLetters c ls) letters-inside
+  fit-sized = first-sized c (keepsLetters c ls) letters-inside (keepsLettersZ c ls) (letters-same c ls)
 
   fit-stands : (l : ℕ) (ps : List Spot) → fitOf c ls ≡ found l ps → Stands c (keepsLetters c ls) l ps
   fit-stands l ps e = earliest-stands c (keepsLetters c ls) letters-inside l ps (fit-found c ls l ps e)

@@ -11,8 +11,10 @@ use Rattle.model.specs.Meaning.{Chip}
 use Rattle.text_grammar.proofs.Lacks.{and-left, and-right}
 use Rattle.geometry.specs.declared.Box.{Box}
 use Rattle.geometry.specs.Box.{apart}
-use Rattle.placement.specs.Legal.{within, legal, gapOf}
-use Rattle.placement.specs.Letters.{Letter, left, right, low, high, dot, keeps, Pair, pairs, keepsAll, keepsLetters}
+use Rattle.placement.specs.Legal.{within, legal}
+use Rattle.placement.specs.Integers.{gapOf}
+use Rattle.placement.specs.Letters.{Letter, left, right, low, high, dot}
+use Rattle.placement.specs.Pairs.{keeps, Pair, pairs, keepsAll, keepsLetters}
 use Rattle.placement.proofs.Cover.{Says, NoDot, Kept, Some, keeps-apart, apart-keeps, legal-letters, letters-legal}
 use Rattle.search_branches.proofs.Replaces.{true-false}
 

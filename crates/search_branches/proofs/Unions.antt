@@ -10,6 +10,7 @@ use native.Mathlib.Omega.{arith}
 use lib.ListN.{length}
 use Rattle.model.specs.declared.Spot.{Spot}
 use Rattle.model.specs.Meaning.{Chip}
+use Rattle.placement.specs.Integers.{Corner, integers}
 use Rattle.placement.specs.Legal.{within}
 use Rattle.placement.specs.Length.{wirelength}
 use Rattle.placement.specs.Order.{before}
@@ -58,17 +59,19 @@ module _ (c : Chip) (P : List Spot → Bool) (inside : Inside c P) where
       by qs t (inl h) = let a = e .least qs t in omega arith
       by qs t (inr (h, b)) = later qs t (sym h) b
 
-  answers : (b : Best) → firstLeast c P ≡ b → Answers c P b
-  answers nothing e = found-nothing c P listed e
-  answers (found l ps) e = earliest-stands l ps (found-earliest-least c P listed l ps e)
-
-  -- the result answers the test
-  first-answers : Answers c P (firstLeast c P)
-  first-answers = answers (firstLeast c P) refl
-
   answer-sized : (b : Best) → Answers c P b → Sized (length (c .macs)) b
   answer-sized nothing a = tt
   answer-sized (found l ps) a = passes-long ps (a .passed)
 
-  pub first-sized : Sized (length (c .macs)) (firstLeast c P)
-  first-sized = answer-sized (firstLeast c P) first-answers
+  -- PZ is the same test over integers
+  module _ (PZ : List Corner → Bool) (same : (ps : List Spot) → PZ (integers ps) ≡ P ps) where
+    answers : (b : Best) → firstLeast c PZ ≡ b → Answers c P b
+    answers nothing e = found-nothing c PZ P same listed e
+    answers (found l ps) e = earliest-stands l ps (found-earliest-least c PZ P same listed l ps e)
+
+    -- the result answers the test
+    first-answers : Answers c P (firstLeast c PZ)
+    first-answers = answers (firstLeast c PZ) refl
+
+    pub first-sized : Sized (length (c .macs)) (firstLeast c PZ)
+    first-sized = answer-sized (firstLeast c PZ) first-answers

@@ -7,7 +7,8 @@ use Rattle.model.specs.declared.Spot.{Spot}
 use Rattle.model.specs.Meaning.{Chip}
 use Rattle.placement.specs.Legal.{legal}
 use Rattle.placement.specs.Order.{before}
-use Rattle.placement.specs.Letters.{Letter, dot, left, right, low, high, keepsLetters}
+use Rattle.placement.specs.Letters.{Letter, dot, left, right, low, high}
+use Rattle.placement.specs.Pairs.{keepsLetters}
 use Rattle.placement.specs.Least.{Best, nothing, found}
 
 -- a placement of length l, or an equally long one that comes earlier: document 01, "the best placement so far is replaced by a shorter one, or by

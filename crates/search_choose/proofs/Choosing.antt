@@ -17,8 +17,8 @@ use Rattle.model.specs.declared.Chip.{Chip as HeldChip}
 use Rattle.model.specs.Meaning.{Chip, chipOf, firstOf, blankFix, blankMac, blankSpot}
 use Rattle.model.proofs.FirstOf.{first-take}
 use Rattle.geometry.specs.Box.{apart}
-use Rattle.placement.specs.Legal.{gapOf}
-use Rattle.placement.specs.Letters.{Pair, pairs}
+use Rattle.placement.specs.Integers.{gapOf}
+use Rattle.placement.specs.Pairs.{Pair, pairs}
 use Rattle.fit_slots.specs.Slots.{macFix, couplesOf}
 use Rattle.fit_slots.proofs.Pairs.{pairOf, pairs-couples}
 use Rattle.fit_slots.proofs.Counting.{letters-count}

@@ -9,8 +9,8 @@ use Rattle.model.specs.declared.Mac.{Mac}
 use Rattle.model.specs.declared.Spot.{Spot}
 use Rattle.model.specs.Meaning.{Chip, firstOf, blankFix, blankMac}
 use Rattle.geometry.specs.Box.{blankBox, apart}
-use Rattle.placement.specs.Legal.{gapOf}
-use Rattle.placement.specs.Letters.{Pair, pairs}
+use Rattle.placement.specs.Integers.{gapOf}
+use Rattle.placement.specs.Pairs.{Pair, pairs}
 use Rattle.fit_slots.specs.Slots.{Couple, couplesOf}
 use Rattle.fit_pairs.specs.declared.Cursor.{Cursor}
 use Rattle.fit_pairs.specs.Order.{coupleAt, OnPair}

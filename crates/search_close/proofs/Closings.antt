@@ -14,7 +14,8 @@ use Rattle.model.specs.declared.Spot.{Spot}
 use Rattle.model.specs.Meaning.{Chip, chipOf, firstOf, blankSpot, outcomeOf, recordOf}
 use Rattle.model.proofs.FirstOf.{first-take}
 use Rattle.chip_text.specs.Passed.{Passed}
-use Rattle.placement.specs.Letters.{Letter, dot, keepsLetters}
+use Rattle.placement.specs.Letters.{Letter, dot}
+use Rattle.placement.specs.Pairs.{keepsLetters}
 use Rattle.placement.specs.Least.{Best, found, fitOf}
 use Rattle.placement.proofs.Demand.{fit-found}
 use Rattle.search_branches.specs.Branch.{pick, better}

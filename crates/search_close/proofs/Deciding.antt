@@ -8,7 +8,8 @@ use lib.ListN.{length, getD}
 use Rattle.model.specs.declared.Spot.{Spot}
 use Rattle.model.specs.Meaning.{Chip}
 use Rattle.placement.specs.Legal.{legal}
-use Rattle.placement.specs.Letters.{Letter, dot, keepsLetters}
+use Rattle.placement.specs.Letters.{Letter, dot}
+use Rattle.placement.specs.Pairs.{keepsLetters}
 use Rattle.search_branches.proofs.Overlaps.{legal-by-pairs, overlap-undecided}
 use Rattle.search_choose.specs.Choice.{noPair, Chosen}
 

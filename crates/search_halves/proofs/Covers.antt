@@ -14,7 +14,8 @@ use Rattle.text_grammar.proofs.Lacks.{and-left, and-right}
 use Rattle.placement.specs.Legal.{legal}
 use Rattle.placement.specs.Length.{wirelength}
 use Rattle.placement.specs.Order.{before}
-use Rattle.placement.specs.Letters.{Letter, pairs, keepsLetters}
+use Rattle.placement.specs.Letters.{Letter}
+use Rattle.placement.specs.Pairs.{pairs, keepsLetters}
 use Rattle.placement.specs.Least.{Best, nothing, found, fitOf, earliestLeast}
 use Rattle.placement.proofs.Demand.{earliest-least-found, nothing-legal, nothing-fits}
 use Rattle.axis_bounds.specs.Axis.{Keeps}

@@ -10,7 +10,8 @@ use Rattle.model.specs.declared.Spot.{Spot}
 use Rattle.model.specs.Meaning.{Chip}
 use Rattle.chip_text.specs.Valid.{Valid}
 use Rattle.placement.specs.Length.{wirelength}
-use Rattle.placement.specs.Letters.{Letter, dot, keepsLetters}
+use Rattle.placement.specs.Letters.{Letter, dot}
+use Rattle.placement.specs.Pairs.{keepsLetters}
 use Rattle.placement.specs.Least.{found, fitOf}
 use Rattle.placement.proofs.Demand.{fit-found}
 use Rattle.placement.proofs.FitIs.{letters-long}

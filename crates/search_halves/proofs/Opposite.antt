@@ -11,7 +11,8 @@ use borrow.Author.Tests.{leb-true, le-leb, lt-leb}
 use Rattle.model.specs.declared.Spot.{Spot}
 use Rattle.model.specs.Meaning.{Chip}
 use Rattle.placement.specs.Legal.{legal}
-use Rattle.placement.specs.Letters.{Letter, left, right, low, high, dot, keeps, Pair, pairs, keepsLetters}
+use Rattle.placement.specs.Letters.{Letter, left, right, low, high, dot}
+use Rattle.placement.specs.Pairs.{keeps, Pair, pairs, keepsLetters}
 use Rattle.placement.proofs.FitIs.{letters-long}
 use Rattle.placement.proofs.Cover.{Says, Kept, apart-keeps}
 use Rattle.axis_bounds.specs.Axis.{KeepsSlot}

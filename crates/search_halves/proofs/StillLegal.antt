@@ -17,7 +17,8 @@ use Rattle.geometry.specs.declared.Box.{Box}
 use Rattle.geometry.specs.Box.{boxAt, blankBox, clearOf, apart, inDie}
 use Rattle.geometry.proofs.Swap.{apart-swap}
 use Rattle.placement.proofs.Boxes.{boxes-long, boxes-at}
-use Rattle.placement.specs.Legal.{boxes, fixBoxes, gapOf, allApart, within, legal}
+use Rattle.placement.specs.Legal.{boxes, fixBoxes, allApart, within, legal}
+use Rattle.placement.specs.Integers.{gapOf}
 use Rattle.search_branches.proofs.Overlaps.{and-both}
 use Rattle.search_halves.specs.Exchange.{turned, exchanged}
 use Rattle.search_halves.proofs.Exchanging.{by-turned, turned-below, turned-apart, exchanged-long, exchanged-at}

@@ -14,7 +14,8 @@ use Rattle.model.specs.Meaning.{Chip, chipOf, firstOf, blankSpot, outcomeOf, re
 use Rattle.model.proofs.FirstOf.{first-take}
 use Rattle.chip_text.specs.Passed.{Passed}
 use Rattle.placement.specs.Length.{wirelength}
-use Rattle.placement.specs.Letters.{Letter, keepsLetters}
+use Rattle.placement.specs.Letters.{Letter}
+use Rattle.placement.specs.Pairs.{keepsLetters}
 use Rattle.placement.specs.Least.{Best, nothing, found, fitOf}
 use Rattle.placement.proofs.Demand.{fit-found, nothing-fits}
 use Rattle.placement.proofs.LengthBound.{wirelength-bound}

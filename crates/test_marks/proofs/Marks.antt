@@ -1,6 +1,6 @@
 -- The marked cases hold: computed.
 use mathlib.Core.Path.{_≡_, refl}
-use mathlib.Core.List.{[], _∷_, zipWith, flatMap}
+use mathlib.Core.List.{[], _∷_, zipWith, flatMap, product}
 use Rattle.num_text.specs.Number.{allOf, valueFrom, plain, numeralOf, digitsIn, digits}
 use Rattle.refusals.specs.Tests.{firstFailed}
 use Rattle.text_grammar.specs.Line.{lines, upTo, from, strip, fields, fieldsText}
@@ -11,19 +11,18 @@ use Rattle.geometry.specs.Box.{clearOf}
 use Rattle.chip_text.specs.Kind.{pinCount, addPin}
 use Rattle.chip_text.specs.Text.{readChip}
 use Rattle.record_text.specs.Text.{atItems, recordItems, recordText}
-use Rattle.placement.specs.Legal.{allApart, within, legal}
-use Rattle.placement.specs.Length.{greatest, least as smallest, span, netLength, netsLength}
-use Rattle.placement.specs.Letters.{pairsOf, withEach, pairs, keepsAll, keepsLetters}
+use Rattle.placement.specs.Integers.{withinZ, eachTwo, pairsZ, legalZ, greatest, least as smallest, span, netsLengthZ}
+use Rattle.placement.specs.Letters.{keepsAllZ, keepsLettersZ}
 use Rattle.placement.specs.Least.{upFrom, placements, tryAll, firstLeast, chipRecord}
 use Rattle.place_print.specs.Printed.{printed}
 use Rattle.host_fit.specs.FitText.{fitText}
 use Rattle.test_marks.specs.Marks.{bytes, text, RecordCase, FitCase, markedRecords, markedFits}
 
 pub marked-records : Every (λ (c : RecordCase). printed (text (c .chip)) ≡ text (c .prints)) markedRecords
-unfolding bytes text digitsIn digits fieldsText itemText itemsText atItems recordItems recordText allOf valueFrom plain numeralOf lines upTo from strip fields isIn same wordIn stepBytes readLines readText pinCount clearOf addPin readChip zipWith allApart within legal greatest smallest span netLength netsLength pairsOf withEach pairs keepsAll keepsLetters upFrom flatMap placements tryAll firstLeast chipRecord
+unfolding bytes text digitsIn digits fieldsText itemText itemsText atItems recordItems recordText allOf valueFrom plain numeralOf lines upTo from strip fields isIn same wordIn stepBytes readLines readText pinCount clearOf addPin readChip zipWith withinZ eachTwo product pairsZ legalZ greatest smallest span netsLengthZ keepsAllZ keepsLettersZ upFrom flatMap placements tryAll firstLeast chipRecord
 marked-records = (refl, (refl, (refl, (refl, (refl, (refl, tt))))))
 
 -- with 22 slots lent, and 4 positions
 pub marked-fits : Every (λ (c : FitCase). fitText (text (c .chip)) (bytes (c .letters)) 22 4 ≡ c .answer) markedFits
-unfolding bytes text firstFailed allOf valueFrom plain numeralOf lines upTo from strip fields isIn same wordIn stepBytes readLines readText pinCount clearOf addPin readChip zipWith allApart within legal greatest smallest span netLength netsLength pairsOf withEach pairs keepsAll keepsLetters upFrom flatMap placements tryAll firstLeast chipRecord
+unfolding bytes text firstFailed allOf valueFrom plain numeralOf lines upTo from strip fields isIn same wordIn stepBytes readLines readText pinCount clearOf addPin readChip zipWith withinZ eachTwo product pairsZ legalZ greatest smallest span netsLengthZ keepsAllZ keepsLettersZ upFrom flatMap placements tryAll firstLeast chipRecord
 marked-fits = (refl, (refl, (refl, (refl, (refl, tt)))))

@@ -1,6 +1,6 @@
 -- The line of a refusal. Document 01, "The search and its record": the program prints `refused,no,4,line,1` (number, line). Lines end with LF.
 use Prim.Native.Nat.{ℕ}
-use mathlib.Core.Bool.{Bool, true, false}
+use mathlib.Core.Bool.{cond}
 use mathlib.Core.List.{List, [], _∷_, _++_}
 use lib.Dec.{leb, eqb}
 use lib.ListN.{length}
@@ -24,12 +24,7 @@ refusalLine n l = refusedNo ++ (digits n ++ (inLine ++ (digits l ++ (lineFeed �
 abbrev pub writeRefusal : ℕ → ℕ → List ℕ → Written
 writeRefusal n l out = ifRoom (leb (length (refusalLine n l)) (length out)) (refusalLine n l) out
 
--- a refusal as it is, or its line
-abbrev pub lineUnless : Bool → ℕ → ℕ → List ℕ → Written
-lineUnless true n l out = refuse n l out
-lineUnless false n l out = writeRefusal n l out
-
 -- what is shown for an answer: the text that was written, or the line of the refusal; 15 is that of the buffer and stays
 abbrev pub shown : Answer → List ℕ → Written
 shown (wrote n) out = record { answer = wrote n; buffer = out }
-shown (notWritten n l) out = lineUnless (eqb n 15) n l out
+shown (notWritten n l) out = cond (eqb n 15) (refuse n l out) (writeRefusal n l out)
