@@ -115,7 +115,7 @@ fn untried(node: Node) -> Left
     }
 }
 
-// Letter i of pair s is tried: excluded by the differences, closed, or left with its fit.
+// Letter i of pair s is tried, b being the best so far: excluded by the differences, closed, or left with its fit.
 fn try_letter(
     cs: &[u64; chip_array::CELLS],
     parts: Parts,
@@ -132,35 +132,18 @@ fn try_letter(
     s: usize,
     at: Cursor,
     i: usize,
-    best: Record,
+    b: Record,
     left: Left,
-    pool: &mut [u32; POOL],
+    out: &mut [u32; POOL],
 ) -> Left
-    ensures { λ r. ⌜ TriedOne (chipIn (now (cs .entry))) parts p (now (tx .entry)) (now (ty .entry)) node s at i best left r ⌝ }
+    ensures { λ r. ⌜ TriedOne (chipIn (now (cs .entry))) parts p (now (tx .entry)) (now (ty .entry)) node s at i b left r ⌝ }
 {
     let t = letter_slot(parts, at, i);
     if is_excluded(left, i, t) {
         return left;
     }
-    let f = child(
-        cs,
-        p,
-        tx,
-        hx,
-        ty,
-        hy,
-        node,
-        sx,
-        ix,
-        sy,
-        iy,
-        s,
-        i,
-        t,
-        best,
-        pool,
-    );
-    if replaces_best(best, f) {
+    let f = child(cs, p, tx, hx, ty, hy, node, sx, ix, sy, iy, s, i, t, b, out);
+    if replaces_best(b, f) {
         return put_child(left, i, f);
     }
     keep_opposite(left, i, t)
