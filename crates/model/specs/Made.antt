@@ -43,7 +43,8 @@ meantFix fix.Outside = fault 4
 -- a fix with its corner at x,y, of width w and height h
 abbrev pub makeFix : ℕ → ℕ → ℕ → ℕ → Step Fix
 makeFix x y w h =
-    check (isWithin fixCorner (pos x) && isWithin fixCorner (pos y) && isWithin fixSide (pos w) && isWithin fixSide (pos h)) 4 (next (record { x = x; y = y; w = w; h = h }))
+    check (isWithin fixCorner (pos x) && isWithin fixCorner (pos y) && isWithin fixSide (pos w) && isWithin fixSide (pos h)) 4
+    (next (record { x = x; y = y; w = w; h = h }))
 
 -- what each case of the constructor's answer means
 abbrev pub meantMac : MacMade → Step Mac

@@ -1,7 +1,8 @@
--- A thing that a test or a step leads to, or the number of the fault that stands in its place.
+-- Steps and tests: what they lead to, and the numbers of their faults.
 use Prim.Native.Nat.{ℕ}
 use mathlib.Core.Bool.{Bool, true, false}
 
+-- a thing that a step or a test leads to, or the number of the fault that stands in its place
 pub data Step (A : Type 0) : Type 0 where
   next : A → Step A
   fault : ℕ → Step A
