@@ -27,12 +27,15 @@ pub data Fit : Type 0 where
 abbrev pub isLetter : ℕ → Bool
 isLetter b = eqb b 76 || (eqb b 82 || (eqb b 66 || (eqb b 65 || eqb b 46)))
 
+-- every byte is a letter
 abbrev pub areLetters : List ℕ → Bool
 areLetters s = allOf isLetter s
 
+-- the letter of a byte
 abbrev pub letterOf : ℕ → Letter
 letterOf b = cond (eqb b 76) left (cond (eqb b 82) right (cond (eqb b 66) low (cond (eqb b 65) high dot)))
 
+-- the letters of a string
 abbrev pub lettersOf : List ℕ → List Letter
 lettersOf s = map letterOf s
 
@@ -40,6 +43,7 @@ lettersOf s = map letterOf s
 abbrev pub lettersFor : ℕ → ℕ → ℕ
 lettersFor n k = n * (n - 1) / 2 + n * k
 
+-- the number of letters of a chip
 abbrev pub letterCount : Chip → ℕ
 letterCount c = lettersFor (length (c .macs)) (length (c .fixes))
 
@@ -47,6 +51,7 @@ letterCount c = lettersFor (length (c .macs)) (length (c .fixes))
 abbrev pub slotCount : Chip → ℕ
 slotCount c = 2 * (2 * length (c .macs) + letterCount c + 2 * pinCount (c .nets))
 
+-- what a fit answers for what was found
 abbrev pub bestFit : ℕ → Best → Fit
 bestFit slots nothing = noFit
 bestFit slots (found l ps) = placed l slots ps
@@ -59,6 +64,7 @@ fitTests c s room =
     ∷ test 15 (leb (slotCount c) room)
     ∷ []
 
+-- the fit of a chip that was read: its refusal, those of the tests, or the placement
 abbrev pub fitChip : Reading Chip → List ℕ → ℕ → Fit
 fitChip (refused number line) s room = refusedBy number line
 fitChip (accepted c) s room = unlessFailed refusedBy (firstFailed (fitTests c s room)) (bestFit (slotCount c) (fitOf c (lettersOf s)))
@@ -74,14 +80,17 @@ pub record Kept (count : ℕ) (before after : List ℕ) : Type 0 where
   pub long : length after ≡ length before
   pub rest : drop count after ≡ drop count before
 
+-- after a placement: a flow of its length, and the rest as it was
 pub record Fitted (c : Chip) (s : List ℕ) (l count : ℕ) (before after : List ℕ) : Type 0 where
   pub flow : Flow c (lettersOf s) (take count after) l
   pub kept : Kept count before after
 
+-- after no fit: a closed chain, and the rest as it was
 pub record Refuted (c : Chip) (s : List ℕ) (before after : List ℕ) : Type 0 where
   pub chain : Chain c (lettersOf s) (take (slotCount c) after)
   pub kept : Kept (slotCount c) before after
 
+-- what the list holds by what the fit answers; after a refusal what it held before
 abbrev pub Filled : Chip → List ℕ → Fit → List ℕ → List ℕ → Type 0
 Filled c s (refusedBy number line) before after = after ≡ before
 Filled c s noFit before after = Refuted c s before after

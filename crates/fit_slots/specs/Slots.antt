@@ -70,6 +70,7 @@ pub data Couple : Type 0 where
   twoMacs : ℕ → Mac → ℕ → Mac → Couple
   macFix : ℕ → Mac → Fix → Couple
 
+-- macro i with each of the macros from macro j on
 unfoldable pub couplesWith : ℕ → Mac → ℕ → List Mac → List Couple
 couplesWith i a j [] = []
 couplesWith i a j (b ∷ s) = twoMacs i a j b ∷ couplesWith i a (suc j) s
@@ -88,6 +89,7 @@ fixCouples i (a ∷ s) fs = map (macFix i a) fs ++ fixCouples (suc i) s fs
 unfoldable pub couplesOf : List Mac → List Fix → List Couple
 couplesOf ms fs = macCouples 1 ms ++ fixCouples 1 ms fs
 
+-- the pairs of a chip
 abbrev pub couples : Chip → List Couple
 couples c = couplesOf (c .macs) (c .fixes)
 

@@ -73,6 +73,7 @@ eachTwo (a ∷ s) = map (λ (b : Rect). (a, b)) s ++ eachTwo s
 unfoldable pub pairsZ : Chip → List Corner → List (Rect × Rect)
 pairsZ c ps = eachTwo (rects c ps) ++ product (rects c ps) (map rectOf (c .fixes))
 
+-- a placement is legal: every macro in the die, and each pair apart
 unfoldable pub legalZ : Chip → List Corner → Bool
 legalZ c ps = withinZ c ps && allOf (apartZ c) (pairsZ c ps)
 
@@ -92,6 +93,7 @@ unfoldable pub span : List ℤ → ℕ
 span [] = 0
 span (a ∷ s) = natAbs (greatest a s +ℤ negℤ (least a s))
 
+-- the corner 0,0
 abbrev pub zeroCorner : Corner
 zeroCorner = record { x = pos 0; y = pos 0 }
 
@@ -100,16 +102,19 @@ abbrev pub originZ : List Corner → ℕ → Corner
 originZ ps zero = zeroCorner
 originZ ps (suc m) = getD ps m zeroCorner
 
+-- where a pin lies: x and y
 abbrev pub pinXZ : List Corner → Pin → ℤ
 pinXZ ps p = originZ ps (p .m) .x +ℤ p .x
 
 abbrev pub pinYZ : List Corner → Pin → ℤ
 pinYZ ps p = originZ ps (p .m) .y +ℤ p .y
 
+-- the sum of the lengths of nets
 unfoldable pub netsLengthZ : List Corner → List Net → ℕ
 netsLengthZ ps [] = 0
 netsLengthZ ps (t ∷ ts) = t .weight * (span (map (pinXZ ps) (t .pins)) + span (map (pinYZ ps) (t .pins))) + netsLengthZ ps ts
 
+-- the wirelength of a placement
 abbrev pub wirelengthZ : Chip → List Corner → ℕ
 wirelengthZ c ps = netsLengthZ ps (c .nets)
 
@@ -119,6 +124,7 @@ wirelengthZ c ps = netsLengthZ ps (c .nets)
 abbrev pub smallerFirst : ℤ → ℤ → Bool → Bool
 smallerFirst a b follows = ltZ a b || ((leZ a b && leZ b a) && follows)
 
+-- the placement ps comes before qs
 unfoldable pub beforeZ : List Corner → List Corner → Bool
 beforeZ [] qs = false
 beforeZ (p ∷ ps) [] = false

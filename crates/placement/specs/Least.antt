@@ -31,6 +31,7 @@ pub data Best : Type 0 where
   nothing : Best
   found : ℕ → List Spot → Best
 
+-- the length l is shorter than the best so far
 abbrev pub shorter : ℕ → Best → Bool
 shorter l nothing = true
 shorter l (found m ps) = ltb l m
@@ -44,6 +45,7 @@ tryAll long passes (ps ∷ rest) b =
       | false ↦ tryAll long passes rest b
     ]
 
+-- the first of least wirelength among the placements of a chip that pass
 unfoldable pub firstLeast : Chip → (List Corner → Bool) → Best
 firstLeast c passes = tryAll (λ ps. wirelengthZ c (integers ps)) (λ ps. passes (integers ps)) (placements (c .macs) (corners c)) nothing
 
@@ -55,6 +57,7 @@ earliestLeast c = firstLeast c (legalZ c)
 abbrev pub fitOf : Chip → List Letter → Best
 fitOf c ls = firstLeast c (keepsLettersZ c ls)
 
+-- the record of what was found
 abbrev pub bestRecord : Best → Record
 bestRecord nothing = none
 bestRecord (found wl ps) = meaning.least wl ps

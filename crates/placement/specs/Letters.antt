@@ -5,6 +5,7 @@ use mathlib.Core.Bool.{Bool, true, false, _&&_}
 use Rattle.model.specs.Meaning.{Chip}
 use Rattle.placement.specs.Integers.{Corner, Rect, leftOfZ, belowZ, withinZ, pairsZ}
 
+-- L, R, B, A and the dot
 pub data Letter : Type 0 where
   left : Letter
   right : Letter

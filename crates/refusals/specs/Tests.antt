@@ -4,6 +4,7 @@ use Prim.Native.Nat.{ℕ, zero, suc}
 use mathlib.Core.List.{List, [], _∷_}
 use mathlib.Core.Bool.{Bool, cond}
 
+-- a test: the number of its refusal, and whether it is passed
 pub record Test : Type 0 where
   pub number : ℕ
   pub passes : Bool
