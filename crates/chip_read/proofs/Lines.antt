@@ -13,13 +13,14 @@ use Rattle.model.specs.Held.{heldChip}
 use Rattle.model.specs.Limits.{mostFixes, mostMacs, mostNets, mostPins}
 use Rattle.model.proofs.Holding.{holds-none}
 use Rattle.model.proofs.HeldAgain.{held-again}
+use Rattle.text_grammar.specs.declared.Following.{Following}
 use Rattle.text_grammar.specs.Reading.{Reading, refused, isLast, stepLine, partRead}
 use Rattle.text_grammar.specs.Steps.{ending, lineEnd, lineAt}
 use Rattle.text_grammar.proofs.Left.{Left, text-left, text-fails, text-goes-on, text-ends}
 use Rattle.chip_text.specs.declared.ChipWord.the-variants as word
 use Rattle.chip_text.specs.Words.{chipWords}
 use Rattle.chip_text.specs.declared.ChipLast.the-variants as last
-use Rattle.chip_text.specs.Tests.{lastOf}
+use Rattle.chip_text.specs.Tests.{lastOf, chipFollowing}
 use Rattle.chip_text.specs.Kind.{start, chipKind, Part}
 use Rattle.chip_text.specs.Text.{readChip}
 use Rattle.chip_read.specs.declared.State.{State}
@@ -73,13 +74,17 @@ pub all-read : (text : List ℕ) (s : State) (a line : ℕ) → Left chipKind st
 unfolding readChip
 all-read text s a line left h r ok = rw (text-ends chipKind start text (partOf s) a line left h) ok
 
-module _ (s : State) (line : ℕ) (b : Bool) (own : b ≡ isLast chipWords (lastOf (s .last)) word.End) where
-  pub complete : Sound s → not b ≡ false → ReadOk (partRead (λ (s : Part). s .chip) (ending chipKind (partOf s) line)) (record { answer = answer.Accepted; chip = s .chip })
+module _ (s : State) (line : ℕ) (f : Following) (row : f ≡ chipFollowing (lastOf (s .last))) where
+  own : f .over ≡ isLast chipWords (lastOf (s .last)) word.End
+  unfolding chipFollowing
+  own = ap (λ (x : Following). x .over) row
+
+  pub complete : Sound s → not (f .over) ≡ false → ReadOk (partRead (λ (s : Part). s .chip) (ending chipKind (partOf s) line)) (record { answer = answer.Accepted; chip = s .chip })
   complete sound h =
       record {
-        meant = rw (← own, not-false b h);
-        whole = rw (← own, not-false b h) (ap (λ (c : HeldChip). record { answer = answer.Accepted; chip = c }) (sym (held-again (s .chip) (s .pins) (sound .fixes) (sound .macs) (sound .nets) (sound .pins) (sound .counted))));
+        meant = rw (← own, not-false (f .over) h);
+        whole = rw (← own, not-false (f .over) h) (ap (λ (c : HeldChip). record { answer = answer.Accepted; chip = c }) (sym (held-again (s .chip) (s .pins) (sound .fixes) (sound .macs) (sound .nets) (sound .pins) (sound .counted))));
       }
 
-  pub not-complete : not b ≡ true → refused 5 line ≡ partRead (λ (s : Part). s .chip) (ending chipKind (partOf s) line)
-  not-complete h = rw (← own, not-true b h)
+  pub not-complete : not (f .over) ≡ true → refused 5 line ≡ partRead (λ (s : Part). s .chip) (ending chipKind (partOf s) line)
+  not-complete h = rw (← own, not-true (f .over) h)

@@ -276,7 +276,8 @@ fn finish(s: State, line: usize) -> ChipRead
 {
     let last = s.last;
     let chip = s.chip;
-    if !chip_text::is_over(last) {
+    let after = chip_text::following(last);
+    if !after.over {
         return refused(Refusal { no: 5, line });
     }
     ChipRead {

@@ -4,14 +4,13 @@ use model::Fix;
 use model::Mac;
 use model::Net;
 use model::Pin;
+use text_grammar::Following;
 use text_grammar::WORDS;
 ghost use mathlib.Core.Path.{_≡_};
 ghost use mathlib.Core.List.{map};
 ghost use lib.ListN.{take};
 ghost use Rattle.geometry.specs.Box.{boxOf, clearOf};
-ghost use Rattle.text_grammar.specs.Reading.{isLast};
-ghost use Rattle.chip_text.specs.Words.{chipWords};
-ghost use Rattle.chip_text.specs.Tests.{lastOf, countsIn, chipPlaces, chipRooms, chipPinned};
+ghost use Rattle.chip_text.specs.Tests.{lastOf, countsIn, chipFollowing, chipRooms};
 ghost use Rattle.chip_text.specs.Faults.{placedFault, macroFault};
 
 // The words of chip files.
@@ -40,20 +39,28 @@ pub struct Counts {
 
 // The tests before the fields of a line are tables with an entry for each word: die, fix, mac, net, pin, end, and two more.
 
-// Place: the words that may stand after the last word.
-pub fn places(last: ChipLast) -> [bool; WORDS]
-    ensures { λ r. ⌜ r ≡ chipPlaces (lastOf last) ⌝ }
+const YES: bool = true;
+
+const NO: bool = false;
+
+// What the last word says of the next line: which words may stand after it, that after a net only a pin may, and whether it is `end`.
+pub fn following(last: ChipLast) -> Following
+    ensures { λ r. ⌜ r ≡ chipFollowing (lastOf last) ⌝ }
 {
     let ChipLast::After(v) = last else {
-        return [true, false, false, false, false, false, false, false];
+        return text_grammar::followed_by([YES, NO, NO, NO, NO, NO, NO, NO]);
     };
     match v {
-        ChipWord::Die => [false, true, true, true, false, true, false, false],
-        ChipWord::Fix => [false, true, true, true, false, true, false, false],
-        ChipWord::Mac => [false, false, true, true, false, true, false, false],
-        ChipWord::Net => [false, false, false, true, true, true, false, false],
-        ChipWord::Pin => [false, false, false, true, true, true, false, false],
-        ChipWord::End => [false, false, false, false, false, false, false, false],
+        ChipWord::Die => text_grammar::followed_by([NO, YES, YES, YES, NO, YES, NO, NO]),
+        ChipWord::Fix => text_grammar::followed_by([NO, YES, YES, YES, NO, YES, NO, NO]),
+        ChipWord::Mac => text_grammar::followed_by([NO, NO, YES, YES, NO, YES, NO, NO]),
+        ChipWord::Net => Following {
+            placed: [NO, NO, NO, YES, YES, YES, NO, NO],
+            pinned: [NO, NO, NO, NO, YES, NO, YES, YES],
+            over: false,
+        },
+        ChipWord::Pin => text_grammar::followed_by([NO, NO, NO, YES, YES, YES, NO, NO]),
+        ChipWord::End => text_grammar::followed_by_none(),
     }
 }
 
@@ -66,40 +73,6 @@ pub fn rooms(held: Counts) -> [bool; WORDS]
     let net = held.nets < Net::COUNT;
     let pin = held.pins < Pin::COUNT;
     [true, fix, mac, net, pin, true, true, true]
-}
-
-// The words that may stand here for the net above: after a net a pin alone.
-pub fn pinned(last: ChipLast) -> [bool; WORDS]
-    ensures { λ r. ⌜ r ≡ chipPinned (lastOf last) ⌝ }
-{
-    let ChipLast::After(v) = last else {
-        return [true; WORDS];
-    };
-    match v {
-        ChipWord::Die => [true; WORDS],
-        ChipWord::Fix => [true; WORDS],
-        ChipWord::Mac => [true; WORDS],
-        ChipWord::Net => [false, false, false, false, true, false, true, true],
-        ChipWord::Pin => [true; WORDS],
-        ChipWord::End => [true; WORDS],
-    }
-}
-
-// Whether the last line is `end`.
-pub fn is_over(last: ChipLast) -> bool
-    ensures { λ r. ⌜ r ≡ isLast chipWords (lastOf last) ChipWord.End ⌝ }
-{
-    let ChipLast::After(v) = last else {
-        return false;
-    };
-    match v {
-        ChipWord::Die => false,
-        ChipWord::Fix => false,
-        ChipWord::Mac => false,
-        ChipWord::Net => false,
-        ChipWord::Pin => false,
-        ChipWord::End => true,
-    }
 }
 
 // Whether a fix overlaps none of the first k fixes.

@@ -6,6 +6,7 @@ use Prim.Native.Nat.{ℕ, zero, suc, _≤_, _<_}
 use native.Mathlib.Omega.{arith}
 use lib.ListN.{getD}
 use Rattle.text_grammar.specs.Line.{over}
+use Rattle.text_grammar.specs.declared.Following.{Following}
 use Rattle.text_grammar.specs.Steps.{entryFault}
 use Rattle.text_line.specs.declared.Spelling.{Spelling}
 use Rattle.text_line.specs.declared.Layout.{Layout}
@@ -19,7 +20,7 @@ use Rattle.chip_text.specs.declared.ChipWord.the-variants as word
 use Rattle.chip_text.specs.Words.{spell, form, chipWords}
 use Rattle.chip_text.specs.Kind.{Part, Counts, countsOf, chipKind}
 use Rattle.text_grammar.specs.Reading.{Last}
-use Rattle.chip_text.specs.Tests.{chipPlaces, chipRooms, chipPinned}
+use Rattle.chip_text.specs.Tests.{chipFollowing, chipRooms}
 use Rattle.chip_words.specs.Meant.{chipSpellings, chipLayouts, chipTests}
 use Rattle.chip_words.proofs.Words.{laying}
 
@@ -29,8 +30,8 @@ all-spelled z a b c e f g ez ea eb ec ee ef eg = rw (ez, ea, eb, ec, ee, ef, eg)
 pub all-laid : (z a b c e f g : Layout) → z ≡ layoutFor over → a ≡ layoutFor (form word.Die) → b ≡ layoutFor (form word.Fix) → c ≡ layoutFor (form word.Mac) → e ≡ layoutFor (form word.Net) → f ≡ layoutFor (form word.Pin) → g ≡ layoutFor (form word.End) → (a ∷ b ∷ c ∷ e ∷ f ∷ g ∷ z ∷ z ∷ []) ≡ chipLayouts
 all-laid z a b c e f g ez ea eb ec ee ef eg = rw (ez, ea, eb, ec, ee, ef, eg)
 
-pub all-tests : (l : Last ChipWord) (c : Counts) (ps rs qs : List Bool) → ps ≡ chipPlaces l → rs ≡ chipRooms c → qs ≡ chipPinned l → record { placed = ps; room = rs; pinned = qs } ≡ chipTests l c
-all-tests l c ps rs qs ep er eq = rw (ep, er, eq)
+pub all-tests : (l : Last ChipWord) (c : Counts) (f : Following) (rs : List Bool) → f ≡ chipFollowing l → rs ≡ chipRooms c → record { placed = f .placed; room = rs; pinned = f .pinned } ≡ chipTests l c
+all-tests l c f rs ef er = rw (ef, er)
 
 -- past the last word stands the first
 pub past-last : (i : ℕ) → 6 ≤ i → word.Die ≡ getD (chipWords .all) i word.Die
@@ -56,7 +57,7 @@ table-of ps ys e q = rw (e, q) (record { spells = refl; laid = by; lays = laying
 
 -- the tests of word i
 fault-is : (s : Part) (i : ℕ) → i < 6 → faultAt (chipTests (s .last) (countsOf (s .chip))) i ≡ entryFault chipKind s (getD (chipWords .all) i word.Die)
-unfolding chipPlaces chipRooms chipPinned entryFault
+unfolding chipFollowing chipRooms entryFault
 fault-is s zero h = refl
 fault-is s (suc zero) h = refl
 fault-is s (suc (suc zero)) h = refl

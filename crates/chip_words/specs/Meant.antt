@@ -11,7 +11,7 @@ use Rattle.text_walk.specs.declared.Tests.{Tests}
 use Rattle.chip_text.specs.declared.ChipWord.{ChipWord}
 use Rattle.chip_text.specs.Words.{spell, form, chipWords}
 use Rattle.chip_text.specs.Kind.{Counts}
-use Rattle.chip_text.specs.Tests.{chipPlaces, chipRooms, chipPinned}
+use Rattle.chip_text.specs.Tests.{chipFollowing, chipRooms}
 
 -- the spellings
 abbrev pub chipSpellings : List Spelling
@@ -23,4 +23,4 @@ chipLayouts = filled 8 (layoutFor over) (map (λ w. layoutFor (form w)) (chipWor
 
 -- the tests before the fields
 abbrev pub chipTests : Last ChipWord → Counts → Tests
-chipTests l c = record { placed = chipPlaces l; room = chipRooms c; pinned = chipPinned l }
+chipTests l c = record { placed = chipFollowing l .placed; room = chipRooms c; pinned = chipFollowing l .pinned }

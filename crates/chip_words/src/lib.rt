@@ -168,9 +168,12 @@ pub fn layouts() -> [Layout; WORDS]
 pub fn entry_tests(last: ChipLast, held: Counts) -> Tests
     ensures { λ r. ⌜ r ≡ chipTests (lastOf last) (countsIn held) ⌝ }
 {
+    let after = chip_text::following(last);
+    let placed = after.placed;
+    let pinned = after.pinned;
     Tests {
-        placed: chip_text::places(last),
+        placed,
         room: chip_text::rooms(held),
-        pinned: chip_text::pinned(last),
+        pinned,
     }
 }

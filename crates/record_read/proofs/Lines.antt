@@ -14,13 +14,14 @@ use Rattle.model.specs.Limits.{mostMacs}
 use Rattle.model.specs.Held.{filled}
 use Rattle.model.proofs.FirstOf.{length-first}
 use Rattle.model.proofs.Holding.{holds-all, holds-none, filled-again}
+use Rattle.text_grammar.specs.declared.Following.{Following}
 use Rattle.text_grammar.specs.Reading.{Reading, refused, isLast, stepLine, partRead}
 use Rattle.text_grammar.specs.Steps.{ending, lineEnd, lineAt}
 use Rattle.text_grammar.proofs.Left.{Left, text-left, text-fails, text-goes-on, text-ends}
 use Rattle.record_text.specs.declared.RecordWord.the-variants as word
 use Rattle.record_text.specs.Words.{recordWords}
 use Rattle.record_text.specs.declared.RecordLast.the-variants as last
-use Rattle.record_text.specs.Tests.{lastOf}
+use Rattle.record_text.specs.Tests.{lastOf, recordFollowing}
 use Rattle.record_text.specs.Kind.{start, recordKind, Part}
 use Rattle.record_text.specs.Text.{readRecord}
 use Rattle.record_read.specs.declared.State.{State}
@@ -79,13 +80,17 @@ module _ (s : State) (sound : Sound s) where
       let blank : replicate mostMacs blankSpot ≡ s .spots = subst (λ (n : ℕ). filled mostMacs blankSpot (firstOf blankSpot n (s .spots)) ≡ s .spots) (sound .blank e) (filled-again blankSpot mostMacs (s .count) (s .spots) (sound .spots)) in
       rw e (record { meant = refl; whole = ap (λ (ps : List Spot). record { outcome = outcome.None; spots = ps }) (sym blank) })
 
-module _ (s : State) (line : ℕ) (b : Bool) (own : b ≡ isLast recordWords (lastOf (s .last)) word.Done) where
-  pub complete : not b ≡ false → (r : HeldRecord) → RecordIs r (partOf s .result) → ReadOk (partRead (λ (s : Part). s .result) (ending recordKind (partOf s) line)) (record { answer = answer.Accepted; «record» = r })
+module _ (s : State) (line : ℕ) (f : Following) (row : f ≡ recordFollowing (lastOf (s .last))) where
+  own : f .over ≡ isLast recordWords (lastOf (s .last)) word.Done
+  unfolding recordFollowing
+  own = ap (λ (x : Following). x .over) row
+
+  pub complete : not (f .over) ≡ false → (r : HeldRecord) → RecordIs r (partOf s .result) → ReadOk (partRead (λ (s : Part). s .result) (ending recordKind (partOf s) line)) (record { answer = answer.Accepted; «record» = r })
   complete h r q =
       record {
-        meant = rw (← own, not-false b h, q .meant);
-        whole = rw (← own, not-false b h) (ap (λ (d : HeldRecord). record { answer = answer.Accepted; «record» = d }) (q .whole));
+        meant = rw (← own, not-false (f .over) h, q .meant);
+        whole = rw (← own, not-false (f .over) h) (ap (λ (d : HeldRecord). record { answer = answer.Accepted; «record» = d }) (q .whole));
       }
 
-  pub not-complete : not b ≡ true → refused 5 line ≡ partRead (λ (s : Part). s .result) (ending recordKind (partOf s) line)
-  not-complete h = rw (← own, not-true b h)
+  pub not-complete : not (f .over) ≡ true → refused 5 line ≡ partRead (λ (s : Part). s .result) (ending recordKind (partOf s) line)
+  not-complete h = rw (← own, not-true (f .over) h)

@@ -229,7 +229,8 @@ fn finish(s: State, line: usize) -> RecordRead
     ensures { λ r. ⌜ ReadOk (partRead (λ (s : Part). s .result) (ending recordKind (partOf s) line)) r ⌝ }
 {
     let last = s.last;
-    if !record_text::is_over(last) {
+    let after = record_text::following(last);
+    if !after.over {
         return refused(Refusal { no: 5, line });
     }
     RecordRead {

@@ -1,6 +1,6 @@
 -- The tables of a line's tests, in the form of the needs of the functions that make them.
 use mathlib.Core.Path.{_≡_, refl, _∙_}
-use mathlib.Core.Bool.{Bool, true, false}
+use mathlib.Core.Bool.{true, false}
 use mathlib.Core.List.{List, [], _∷_}
 use Prim.Native.Nat.{ℕ, suc, _-_}
 use native.Mathlib.Omega.{arith}
@@ -9,67 +9,45 @@ use lib.ListN.{length}
 use borrow.Author.Tests.{eq-eqb, ne-eqb}
 use Rattle.text_grammar.specs.Line.{Value}
 use Rattle.text_grammar.specs.Words.{same, isIn, size}
-use Rattle.text_grammar.specs.Reading.{before, after, isLast}
+use Rattle.text_grammar.specs.declared.Following.{Following}
+use Rattle.text_grammar.specs.Follow.{followedBy, followedByNone}
+use Rattle.text_grammar.specs.Reading.{before, after}
 use Rattle.text_grammar.proofs.Entry.{foundOr, found-check}
 use Rattle.record_text.specs.declared.RecordWord.{RecordWord}
 use Rattle.record_text.specs.declared.RecordWord.the-variants as word
 use Rattle.record_text.specs.declared.RecordLast.{RecordLast}
 use Rattle.record_text.specs.declared.RecordLast.the-variants as last
-use Rattle.record_text.specs.Words.{recordWords}
 use Rattle.record_text.specs.Kind.{Part, spotsOf, spotOf, withSpot, readTo, add}
-use Rattle.record_text.specs.Tests.{lastOf, recordPlaces, turnFault}
+use Rattle.record_text.specs.Tests.{lastOf, recordFollowing, turnFault}
 
-module _ (l : RecordLast) (e : l ≡ last.Before) where
-  pub first-places : (bs : List Bool) → bs ≡ recordPlaces before → bs ≡ recordPlaces (lastOf l)
-  first-places bs q = q ∙ rw e
+-- the row r is a, and so what is known after the last word
+module _ (l : RecordLast) (r a : Following) (q : r ≡ a) where
+  pub first-row : l ≡ last.Before → a ≡ recordFollowing before → r ≡ recordFollowing (lastOf l)
+  first-row e k = q ∙ k ∙ rw e
 
--- after the word v, which is x
-module _ (l : RecordLast) (v : RecordWord) (e : l ≡ last.After v) (x : RecordWord) (p : v ≡ x) where
-  pub next-places : (bs : List Bool) → bs ≡ recordPlaces (after x) → bs ≡ recordPlaces (lastOf l)
-  next-places bs q = q ∙ rw (e, p)
+  -- after the word v, which is x
+  pub next-row : (v : RecordWord) → l ≡ last.After v → (x : RecordWord) → v ≡ x → a ≡ recordFollowing (after x) → r ≡ recordFollowing (lastOf l)
+  next-row v e x p k = q ∙ k ∙ rw (e, p)
 
-  pub over-as : (b : Bool) → b ≡ isLast recordWords (after x) word.Done → b ≡ isLast recordWords (lastOf l) word.Done
-  over-as b q = q ∙ rw (e, p)
+pub before-first : followedBy (true ∷ true ∷ false ∷ false ∷ false ∷ false ∷ false ∷ false ∷ []) ≡ recordFollowing before
+unfolding recordFollowing isIn same
+before-first = refl
 
--- ---- place
+pub after-least : followedBy (false ∷ false ∷ true ∷ true ∷ false ∷ false ∷ false ∷ false ∷ []) ≡ recordFollowing (after word.Least)
+unfolding recordFollowing isIn same
+after-least = refl
 
-pub places-before : (true ∷ true ∷ false ∷ false ∷ false ∷ false ∷ false ∷ false ∷ []) ≡ recordPlaces before
-unfolding recordPlaces isIn same
-places-before = refl
+pub after-none : followedBy (false ∷ false ∷ false ∷ true ∷ false ∷ false ∷ false ∷ false ∷ []) ≡ recordFollowing (after word.None)
+unfolding recordFollowing isIn same
+after-none = refl
 
-pub places-least : (false ∷ false ∷ true ∷ true ∷ false ∷ false ∷ false ∷ false ∷ []) ≡ recordPlaces (after word.Least)
-unfolding recordPlaces isIn same
-places-least = refl
+pub after-at : followedBy (false ∷ false ∷ true ∷ true ∷ false ∷ false ∷ false ∷ false ∷ []) ≡ recordFollowing (after word.At)
+unfolding recordFollowing isIn same
+after-at = refl
 
-pub places-none : (false ∷ false ∷ false ∷ true ∷ false ∷ false ∷ false ∷ false ∷ []) ≡ recordPlaces (after word.None)
-unfolding recordPlaces isIn same
-places-none = refl
-
-pub places-at : (false ∷ false ∷ true ∷ true ∷ false ∷ false ∷ false ∷ false ∷ []) ≡ recordPlaces (after word.At)
-unfolding recordPlaces isIn same
-places-at = refl
-
-pub places-done : (false ∷ false ∷ false ∷ false ∷ false ∷ false ∷ false ∷ false ∷ []) ≡ recordPlaces (after word.Done)
-unfolding recordPlaces isIn same
-places-done = refl
-
--- ---- the last line
-
-pub over-least : false ≡ isLast recordWords (after word.Least) word.Done
-unfolding same
-over-least = refl
-
-pub over-none : false ≡ isLast recordWords (after word.None) word.Done
-unfolding same
-over-none = refl
-
-pub over-at : false ≡ isLast recordWords (after word.At) word.Done
-unfolding same
-over-at = refl
-
-pub over-done : true ≡ isLast recordWords (after word.Done) word.Done
-unfolding same
-over-done = refl
+pub after-done : followedByNone ≡ recordFollowing (after word.Done)
+unfolding recordFollowing isIn same
+after-done = refl
 
 -- ---- the next macro
 

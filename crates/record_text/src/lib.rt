@@ -1,10 +1,9 @@
 // The record of a placement: its words, what its text means, and that a record has one text; and the tests of a line before its fields and after them.
 use model::Mac;
+use text_grammar::Following;
 use text_grammar::WORDS;
 ghost use mathlib.Core.Path.{_≡_};
-ghost use Rattle.text_grammar.specs.Reading.{isLast};
-ghost use Rattle.record_text.specs.Words.{recordWords};
-ghost use Rattle.record_text.specs.Tests.{lastOf, recordPlaces, recordRooms, turnFault};
+ghost use Rattle.record_text.specs.Tests.{lastOf, recordFollowing, recordRooms, turnFault};
 
 // The words of records.
 pub enum RecordWord {
@@ -22,18 +21,22 @@ pub enum RecordLast {
 
 // The tests before the fields of a line are tables with an entry for each word: least, none, at, done, and four more.
 
-// Place: the words that may stand after the last word.
-pub fn places(last: RecordLast) -> [bool; WORDS]
-    ensures { λ r. ⌜ r ≡ recordPlaces (lastOf last) ⌝ }
+const YES: bool = true;
+
+const NO: bool = false;
+
+// What the last word says of the next line: which words may stand after it, and whether it is `done`; a record has no nets.
+pub fn following(last: RecordLast) -> Following
+    ensures { λ r. ⌜ r ≡ recordFollowing (lastOf last) ⌝ }
 {
     let RecordLast::After(v) = last else {
-        return [true, true, false, false, false, false, false, false];
+        return text_grammar::followed_by([YES, YES, NO, NO, NO, NO, NO, NO]);
     };
     match v {
-        RecordWord::Least => [false, false, true, true, false, false, false, false],
-        RecordWord::None => [false, false, false, true, false, false, false, false],
-        RecordWord::At => [false, false, true, true, false, false, false, false],
-        RecordWord::Done => [false, false, false, false, false, false, false, false],
+        RecordWord::Least => text_grammar::followed_by([NO, NO, YES, YES, NO, NO, NO, NO]),
+        RecordWord::None => text_grammar::followed_by([NO, NO, NO, YES, NO, NO, NO, NO]),
+        RecordWord::At => text_grammar::followed_by([NO, NO, YES, YES, NO, NO, NO, NO]),
+        RecordWord::Done => text_grammar::followed_by_none(),
     }
 }
 
@@ -43,21 +46,6 @@ pub fn rooms(count: usize) -> [bool; WORDS]
 {
     let at = count < Mac::COUNT;
     [true, true, at, true, true, true, true, true]
-}
-
-// Whether the last line is `done`.
-pub fn is_over(last: RecordLast) -> bool
-    ensures { λ r. ⌜ r ≡ isLast recordWords (lastOf last) RecordWord.Done ⌝ }
-{
-    let RecordLast::After(v) = last else {
-        return false;
-    };
-    match v {
-        RecordWord::Least => false,
-        RecordWord::None => false,
-        RecordWord::At => false,
-        RecordWord::Done => true,
-    }
 }
 
 // The fault of macro m after n others, or 0: out of turn 8.

@@ -1,11 +1,12 @@
 -- The tables of the words of records, as the walk takes them.
 use mathlib.Core.Path.{_≡_, refl, sym, subst, _∙_}
-use mathlib.Core.Bool.{Bool, true}
+use mathlib.Core.Bool.{Bool}
 use mathlib.Core.List.{List, [], _∷_}
 use Prim.Native.Nat.{ℕ, zero, suc, _≤_, _<_}
 use native.Mathlib.Omega.{arith}
 use lib.ListN.{length, getD}
 use Rattle.text_grammar.specs.Line.{over}
+use Rattle.text_grammar.specs.declared.Following.{Following}
 use Rattle.text_grammar.specs.Steps.{entryFault}
 use Rattle.text_line.specs.declared.Spelling.{Spelling}
 use Rattle.text_line.specs.declared.Layout.{Layout}
@@ -19,7 +20,7 @@ use Rattle.record_text.specs.declared.RecordWord.the-variants as word
 use Rattle.record_text.specs.Words.{spell, form, recordWords}
 use Rattle.record_text.specs.Kind.{Part, spotsOf, recordKind}
 use Rattle.text_grammar.specs.Reading.{Last}
-use Rattle.record_text.specs.Tests.{recordPlaces, recordRooms}
+use Rattle.record_text.specs.Tests.{recordFollowing, recordRooms}
 use Rattle.record_words.specs.Meant.{recordSpellings, recordLayouts, recordTests}
 use Rattle.record_words.proofs.Words.{laying}
 
@@ -29,8 +30,8 @@ all-spelled z a b c e ez ea eb ec ee = rw (ez, ea, eb, ec, ee)
 pub all-laid : (z a b c e : Layout) → z ≡ layoutFor over → a ≡ layoutFor (form word.Least) → b ≡ layoutFor (form word.None) → c ≡ layoutFor (form word.At) → e ≡ layoutFor (form word.Done) → (a ∷ b ∷ c ∷ e ∷ z ∷ z ∷ z ∷ z ∷ []) ≡ recordLayouts
 all-laid z a b c e ez ea eb ec ee = rw (ez, ea, eb, ec, ee)
 
-pub all-tests : (l : Last RecordWord) (n : ℕ) (ps rs : List Bool) → ps ≡ recordPlaces l → rs ≡ recordRooms n → record { placed = ps; room = rs; pinned = true ∷ true ∷ true ∷ true ∷ true ∷ true ∷ true ∷ true ∷ [] } ≡ recordTests l n
-all-tests l n ps rs ep er = rw (ep, er)
+pub all-tests : (l : Last RecordWord) (n : ℕ) (f : Following) (rs : List Bool) → f ≡ recordFollowing l → rs ≡ recordRooms n → record { placed = f .placed; room = rs; pinned = f .pinned } ≡ recordTests l n
+all-tests l n f rs ef er = rw (ef, er)
 
 -- past the last word stands the first
 pub past-last : (i : ℕ) → 4 ≤ i → word.Least ≡ getD (recordWords .all) i word.Least
@@ -52,7 +53,7 @@ table-of ps ys e q = rw (e, q) (record { spells = refl; laid = by; lays = laying
 
 -- the tests of word i
 fault-is : (s : Part) (i : ℕ) → i < 4 → faultAt (recordTests (s .last) (length (spotsOf (s .result)))) i ≡ entryFault recordKind s (getD (recordWords .all) i word.Least)
-unfolding recordPlaces recordRooms entryFault
+unfolding recordFollowing recordRooms entryFault
 fault-is s zero h = refl
 fault-is s (suc zero) h = refl
 fault-is s (suc (suc zero)) h = refl

@@ -1,8 +1,6 @@
 -- The tables of the walk: all words in their order, then blank ones up to eight.
 use Prim.Native.Nat.{ℕ}
-use mathlib.Core.Bool.{true}
 use mathlib.Core.List.{List, [], map}
-use lib.ListN.{replicate}
 use Rattle.model.specs.Held.{filled}
 use Rattle.text_grammar.specs.Line.{over}
 use Rattle.text_grammar.specs.Reading.{Last}
@@ -13,7 +11,7 @@ use Rattle.text_line.specs.Layout.{layoutFor}
 use Rattle.text_walk.specs.declared.Tests.{Tests}
 use Rattle.record_text.specs.declared.RecordWord.{RecordWord}
 use Rattle.record_text.specs.Words.{spell, form, recordWords}
-use Rattle.record_text.specs.Tests.{recordPlaces, recordRooms}
+use Rattle.record_text.specs.Tests.{recordFollowing, recordRooms}
 
 -- the spellings
 abbrev pub recordSpellings : List Spelling
@@ -25,4 +23,4 @@ recordLayouts = filled 8 (layoutFor over) (map (λ w. layoutFor (form w)) (recor
 
 -- the tests before the fields
 abbrev pub recordTests : Last RecordWord → ℕ → Tests
-recordTests l n = record { placed = recordPlaces l; room = recordRooms n; pinned = replicate 8 true }
+recordTests l n = record { placed = recordFollowing l .placed; room = recordRooms n; pinned = recordFollowing l .pinned }

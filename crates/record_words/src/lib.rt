@@ -119,13 +119,16 @@ pub fn layouts() -> [Layout; WORDS]
     [least, none_word, at, done, blank, blank, blank, blank]
 }
 
-// The tests before the fields of a line, by word; a record has no nets.
+// The tests before the fields of a line, by word.
 pub fn entry_tests(last: RecordLast, count: usize) -> Tests
     ensures { λ r. ⌜ r ≡ recordTests (lastOf last) count ⌝ }
 {
+    let after = record_text::following(last);
+    let placed = after.placed;
+    let pinned = after.pinned;
     Tests {
-        placed: record_text::places(last),
+        placed,
         room: record_text::rooms(count),
-        pinned: [true; WORDS],
+        pinned,
     }
 }

@@ -2,9 +2,40 @@
 ghost use mathlib.Core.Path.{_≡_};
 ghost use lib.Dec.{leb};
 ghost use Rattle.text_grammar.specs.Steps.{need, entryBy};
+ghost use Rattle.text_grammar.specs.Follow.{followedBy, followedByNone};
 
 // How many words a kind of text has at most.
 pub const WORDS: usize = 8;
+
+// What the word of the last line says of the next line, by word: the words that may stand there, those that may for the net above, which has a pin;
+// and whether that line was the text's last.
+pub struct Following {
+    pub placed: [bool; WORDS],
+    pub pinned: [bool; WORDS],
+    pub over: bool,
+}
+
+// After a line that is neither a net nor the last.
+pub fn followed_by(placed: [bool; WORDS]) -> Following
+    ensures { λ r. ⌜ r ≡ followedBy placed ⌝ }
+{
+    Following {
+        placed,
+        pinned: [true; WORDS],
+        over: false,
+    }
+}
+
+// After the last line of a text.
+pub fn followed_by_none() -> Following
+    ensures { λ r. ⌜ r ≡ followedByNone ⌝ }
+{
+    Following {
+        placed: [false; WORDS],
+        pinned: [true; WORDS],
+        over: true,
+    }
+}
 
 // The number of a text's first line.
 pub fn first_line() -> usize

@@ -3,8 +3,8 @@ use Rattle.record_words.proofs.Table.{all-tests}
 use Rattle.record_words.proofs.entry_tests.Statement.{statement}
 use Rattle.record_words.proofs.entry_tests.Tie as tie
 
-places-requires : tie.Need-places-requires
-places-requires c κs = search needs
+following-requires : tie.Need-following-requires
+following-requires c κs = search needs
 
 rooms-requires : tie.Need-rooms-requires
 rooms-requires c κs = search needs
@@ -13,4 +13,4 @@ returns : tie.Need-returns
 returns c = search all-tests
 
 pub entry-tests-spec : {M : Type 1} → statement M
-entry-tests-spec = tie.close (tie.spec places-requires rooms-requires returns)
+entry-tests-spec = tie.close (tie.spec following-requires rooms-requires returns)
