@@ -13,6 +13,7 @@ use Rattle.text_grammar.specs.Steps.{inPlace}
 use Rattle.text_grammar.specs.Reading.{Last, before, after, isLast, accepted, readText}
 use Rattle.text_grammar.proofs.Words.{is-word-equal}
 use Rattle.text_grammar.proofs.Items.{Formed, WellFormed, itemStep, runItems, check-next, onward-accepted, items-read, read-text-lines}
+use Rattle.text_grammar.proofs.Meaning.{part-accepted}
 use Rattle.text_grammar.proofs.Run.{step-passed, ending-accepted}
 use Rattle.chip_text.specs.Kind.{Part, start, counts, countsOf, room, pinned, chipKind}
 use Rattle.text_grammar.specs.Words.{same}
@@ -22,7 +23,6 @@ use Rattle.chip_text.proofs.Told.{words-told}
 use Rattle.chip_text.specs.Valid.{ValidNet, Valid, noNet}
 use Rattle.chip_text.proofs.LineValues.{item-ranges}
 use Rattle.chip_text.proofs.NetsRead.{NetsRead, every-at}
-use Rattle.chip_text.proofs.ReadText.{chip-accepted}
 use Rattle.chip_text.proofs.LineSound.{Sound, isBefore, at-start, sound-add}
 
 sound-step : (s s′ : Part) (i : Item) → Formed chipWords i → itemStep chipKind s i ≡ next s′ → Sound s → Sound s′
@@ -69,7 +69,7 @@ sound-valid s v e =
 pub accepted-valid : (t : List ℕ) (c : Chip) → readChip t ≡ accepted c → Valid c
 unfolding readChip
 accepted-valid t c e =
-    let b = chip-accepted (readText chipKind start t) c e in
+    let b = part-accepted (λ (s : Part). s .chip) (readText chipKind start t) c e in
     let i = items-read chipKind words-told start (b .0) 1 t (read-text-lines chipKind start t (b .0) (b .1)) in
     let r = sound-run start (b .0) 1 (i .items) (i .formed) (i .run) at-start in
     subst Valid (b .2) (sound-valid (b .0) (r .0) (last-word (b .0 .last) word.End (r .1)))

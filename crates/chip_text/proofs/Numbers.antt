@@ -1,7 +1,7 @@
 -- The refusal numbers of reading a chip are 1 to 10, and the line of a refusal is at most 16,385, whatever the text: `chip-number`, `chip-line`.
 use Prim.{tt}
 use Prim.Native.Nat.{ℕ, suc, _≤_}
-use mathlib.Core.Path.{_≡_, refl, subst}
+use mathlib.Core.Path.{_≡_, refl}
 use mathlib.Core.List.{List, map}
 use lib.Dec.{leb}
 use lib.ListN.{length}
@@ -9,8 +9,8 @@ use Rattle.model.specs.Limits.{mostBytes}
 use Rattle.geometry.specs.Box.{boxOf, inDie, clearOf}
 use Rattle.text_grammar.specs.Line.{Value}
 use Rattle.text_grammar.specs.Words.{size}
-use Rattle.text_grammar.specs.Reading.{Reading, accepted, refused, readText, partRead}
-use Rattle.text_grammar.proofs.Numbers.{Numbered, in-table, OfStep, OfReading, check-numbered, text-numbered, UpTo, text-line}
+use Rattle.text_grammar.specs.Reading.{refused}
+use Rattle.text_grammar.proofs.Numbers.{Numbered, in-table, OfStep, check-numbered, read-number, read-line}
 use Rattle.chip_text.specs.declared.ChipWord.{ChipWord}
 use Rattle.chip_text.specs.declared.ChipWord.the-variants as word
 use Rattle.chip_text.specs.Kind.{Part, start, fixOf, pinOf, withFix, withPin, readTo, add, chipKind}
@@ -27,19 +27,10 @@ adds s word.Net vs = tt
 adds s word.Pin vs = check-numbered (leb (size vs 0) (length (s .chip .macs))) (readTo word.Pin (withPin (s .chip) (pinOf vs))) (in-table 8 refl) tt
 adds s word.End vs = tt
 
-numbered : (r : Reading Part) → OfReading r → OfReading (partRead (λ (s : Part). s .chip) r)
-unfolding OfReading
-numbered (accepted s) h = tt
-numbered (refused n l) h = h
-
 pub chip-number : (t : List ℕ) (n l : ℕ) → readChip t ≡ refused n l → Numbered 10 n
-unfolding readChip OfReading
-chip-number t n l e = subst OfReading e (numbered (readText chipKind start t) (text-numbered chipKind adds start t))
-
-up-to : (r : Reading Part) → UpTo (suc mostBytes) r → UpTo (suc mostBytes) (partRead (λ (s : Part). s .chip) r)
-up-to (accepted s) h = tt
-up-to (refused n l) h = h
+unfolding readChip
+chip-number = read-number chipKind adds start (λ (s : Part). s .chip)
 
 pub chip-line : (t : List ℕ) (n l : ℕ) → readChip t ≡ refused n l → l ≤ suc mostBytes
 unfolding readChip
-chip-line t n l e = subst (UpTo (suc mostBytes)) e (up-to (readText chipKind start t) (text-line chipKind start t))
+chip-line = read-line chipKind start (λ (s : Part). s .chip)

@@ -18,10 +18,11 @@ use Rattle.text_grammar.proofs.Every.{Every}
 use Rattle.text_grammar.proofs.Items.{Within, items-read, read-text-lines}
 use Rattle.text_grammar.proofs.Lacks.{and-right}
 use Rattle.text_grammar.proofs.Lengths.{digits-short}
+use Rattle.text_grammar.proofs.Meaning.{part-accepted}
 use Rattle.text_grammar.proofs.Values.{passing}
 use Rattle.record_text.specs.declared.RecordWord.the-variants as word
 use Rattle.record_text.specs.Words.{form, recordWords}
-use Rattle.record_text.specs.Kind.{start, recordKind}
+use Rattle.record_text.specs.Kind.{Part, start, recordKind}
 use Rattle.record_text.specs.Text.{leastItem, doneItem, atItem, atItems, recordItems, recordText, readRecord}
 use Rattle.record_text.proofs.ReadText.{record-means, read-text}
 
@@ -71,7 +72,7 @@ within-short (least wl ps) e =
 accepted-within : (t : List ℕ) (r : Record) → readRecord t ≡ accepted r → Every (Within recordWords) (recordItems r)
 unfolding readRecord
 accepted-within t r e =
-    let b = record-means .back (readText recordKind start t) r e in
+    let b = part-accepted (λ (s : Part). s .result) (readText recordKind start t) r e in
     let i = items-read recordKind (record-means .told) start (b .0) 1 t (read-text-lines recordKind start t (b .0) (b .1)) in
     subst (Every (Within recordWords)) (record-means .run (b .0) 1 (i .items) (i .formed) (i .run) ∙ ap recordItems (b .2)) (i .within)
 

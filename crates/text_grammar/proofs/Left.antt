@@ -3,13 +3,16 @@ use mathlib.Core.Path.{_≡_, sym, _∙_}
 use mathlib.Core.List.{List}
 use Prim.Native.Nat.{ℕ, suc, _+_, _≤_, _<_}
 use native.Mathlib.Numerals.{add-one}
+use native.Mathlib.Omega.{arith}
+use lib.Dec.{leb}
 use lib.ListN.{length, drop, drop-of-length-le}
 use borrow.Author.Tests.{le-leb, lt-leb}
 use Rattle.model.specs.Step.{Step, next, fault}
 use Rattle.text_grammar.specs.Line.{lines}
-use Rattle.text_grammar.specs.Reading.{Kind, refused, onward, stepLine, readLines, readText}
-use Rattle.text_grammar.specs.Steps.{ending, lineEnd, lineAt}
+use Rattle.text_grammar.specs.Reading.{Kind, refused, partRead, onward, stepLine, readLines, readText}
+use Rattle.text_grammar.specs.Steps.{need, ending, lineEnd, lineAt}
 use Rattle.text_grammar.proofs.LineAt.{lines-from}
+use Rattle.text_grammar.proofs.Most.{told-above, told-within}
 
 module _ {W S : Type 0} (k : Kind W S) (start : S) (text : List ℕ) where
   -- s is what the lines before `line` say, and the text from a on is left to read
@@ -18,9 +21,17 @@ module _ {W S : Type 0} (k : Kind W S) (start : S) (text : List ℕ) where
 
   -- ---- before the first line
 
-  pub text-too-long : k .mostBytes < length text → refused 1 0 ≡ readText k start text
+  pub text-too-long : {A : Type 0} (f : S → A) → k .mostBytes < length text → refused 1 0 ≡ partRead f (readText k start text)
   unfolding readText
-  text-too-long h = rw (lt-leb (length text) (k .mostBytes) h)
+  text-too-long f h = rw (lt-leb (length text) (k .mostBytes) h)
+
+  -- by the fault of its length
+  module _ (n : ℕ) (e : n ≡ need (leb (length text) (k .mostBytes)) 1 0) where
+    pub length-fails : {A : Type 0} (f : S → A) → (n ≡ 0 → ⊥) → refused n 0 ≡ partRead f (readText k start text)
+    length-fails f z = let q = told-above 1 (length text) (k .mostBytes) n e z in rw (q .0) (text-too-long f (q .1))
+
+    pub length-fits : n ≡ 0 → length text ≤ k .mostBytes
+    length-fits z = told-within 1 (length text) (k .mostBytes) n e (λ x. omega arith) z
 
   pub text-left : length text ≤ k .mostBytes → Left start 0 1
   unfolding readText

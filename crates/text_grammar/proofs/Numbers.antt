@@ -1,9 +1,9 @@
--- The refusal numbers of reading a text are 1 to 10 (`text-numbered`) and its line is at most one past the greatest length of a text (`text-line`),
+-- The refusal numbers of reading a text are 1 to 10 (`read-number`) and its line is at most one past the greatest length of a text (`read-line`),
 -- for every kind of text whose last tests have such numbers. A number comes from one of the tests of a line, from the end of the text or from its
 -- length, so the laws go along the definition of reading.
 use Prim.{Unit, tt}
 use Prim.Native.Nat.{ℕ, suc, _+_, _≤_}
-use mathlib.Core.Path.{_≡_, refl}
+use mathlib.Core.Path.{_≡_, refl, subst}
 use mathlib.Core.Bool.{Bool, true, false, _&&_}
 use mathlib.Core.List.{List, [], _∷_}
 use native.Mathlib.Omega.{arith}
@@ -16,7 +16,7 @@ use Rattle.model.specs.Limits.{Range, isWithin}
 use Rattle.text_grammar.specs.Words.{Words, same, wordIn}
 use Rattle.model.specs.Step.{Step, next, fault, check, onNext}
 use Rattle.text_grammar.specs.Line.{comma, lineFeed, Line, before, cut, lines, upTo, from, Sort, numbers, strings, Value, number, string, absent, isString, numbered, valueOf, Rule, Form, over, one, either, strip, andThen, marked, fields}
-use Rattle.text_grammar.specs.Reading.{Reading, accepted, refused, onward, Kind, stepWord, stepBytes, stepLine, readLines, readText}
+use Rattle.text_grammar.specs.Reading.{Reading, accepted, refused, partRead, onward, Kind, stepWord, stepBytes, stepLine, readLines, readText}
 use Rattle.text_grammar.specs.Steps.{inPlace}
 use Rattle.text_grammar.proofs.Lacks.{and-left, and-right}
 
@@ -85,7 +85,7 @@ word-numbered d (w ∷ ws) s = by (same (d .spell w) s) refl (word-numbered d ws
     by false q ih = rw (q, wordIn) ih
 
 module _ {S : Type 0} where
-  unfoldable pub OfReading : Reading S → Type 0
+  unfoldable OfReading : Reading S → Type 0
   OfReading (accepted s) = Unit {0}
   OfReading (refused n l) = Numbered 10 n
 
@@ -112,11 +112,21 @@ module _ {S : Type 0} where
         onward-numbered (stepLine k s l) n (λ t. readLines k t (suc n) ls) (check-numbered (l .ended) _ (in-table 2 refl) (bytes-numbered s (l .bytes)))
         (λ t. lines-numbered t (suc n) ls)
 
-    pub text-numbered : (start : S) (t : List ℕ) → OfReading (readText k start t)
+    text-numbered : (start : S) (t : List ℕ) → OfReading (readText k start t)
     unfolding readText OfStep
     text-numbered start t =
         onward-numbered (check (leb (length t) (k .mostBytes)) 1 (next start)) 0 (λ s. readLines k s 1 (lines t))
         (check-numbered (leb (length t) (k .mostBytes)) (next start) (in-table 1 refl) tt) (λ s. lines-numbered s 1 (lines t))
+
+part-numbered : {S A : Type 0} (f : S → A) (r : Reading S) → OfReading r → OfReading (partRead f r)
+unfolding OfReading
+part-numbered f (accepted s) h = tt
+part-numbered f (refused n l) h = h
+
+-- of a part of what a text means
+pub read-number : {W S A : Type 0} (k : Kind W S) → ((s : S) (w : W) (vs : List Value) → OfStep (k .add s w vs)) → (start : S) (f : S → A) (t : List ℕ) (n l : ℕ) → partRead f (readText k start t) ≡ refused n l → Numbered 10 n
+unfolding OfReading
+read-number k adds start f t n l e = subst OfReading e (part-numbered f (readText k start t) (text-numbered k adds start t))
 
 -- ---- the line of a refusal
 
@@ -135,7 +145,7 @@ lines-count [] = omega arith
 lines-count (b ∷ t) = let h = cut-count (eqb b lineFeed) b (lines t) in let i = lines-count t in omega arith
 
 -- a refusal has a line up to most
-abbrev pub UpTo : {A : Type 0} → ℕ → Reading A → Type 0
+abbrev UpTo : {A : Type 0} → ℕ → Reading A → Type 0
 UpTo most (accepted s) = Unit {0}
 UpTo most (refused f l) = l ≤ most
 
@@ -150,10 +160,18 @@ module _ {W S : Type 0} (k : Kind W S) where
     lines-line s n [] h = onward-line (check (k .complete s) 5 (next s)) n accepted (omega arith) (λ t. tt)
     lines-line s n (l ∷ ls) h = onward-line (stepLine k s l) n (λ t. readLines k t (suc n) ls) (omega arith) (λ t. lines-line t (suc n) ls (omega arith))
 
-  pub text-line : (start : S) (t : List ℕ) → UpTo (suc (k .mostBytes)) (readText k start t)
+  text-line : (start : S) (t : List ℕ) → UpTo (suc (k .mostBytes)) (readText k start t)
   unfolding readText
   text-line start t = by (leb (length t) (k .mostBytes)) refl
     where
       by : (b : Bool) → leb (length t) (k .mostBytes) ≡ b → UpTo (suc (k .mostBytes)) (onward (check b 1 (next start)) 0 (λ s. readLines k s 1 (lines t)))
       by true e = let h = leb-true (length t) (k .mostBytes) e in let i = lines-count t in lines-line (suc (k .mostBytes)) start 1 (lines t) (omega arith)
       by false e = omega arith
+
+part-line : {S A : Type 0} (most : ℕ) (f : S → A) (r : Reading S) → UpTo most r → UpTo most (partRead f r)
+part-line most f (accepted s) h = tt
+part-line most f (refused n l) h = h
+
+-- of a part of what a text means
+pub read-line : {W S A : Type 0} (k : Kind W S) (start : S) (f : S → A) (t : List ℕ) (n l : ℕ) → partRead f (readText k start t) ≡ refused n l → l ≤ suc (k .mostBytes)
+read-line k start f t n l e = subst (UpTo (suc (k .mostBytes))) e (part-line (suc (k .mostBytes)) f (readText k start t) (text-line k start t))
