@@ -3,7 +3,6 @@
 -- Amounts that balance and stand on tight slots make the values least, as those of the solver. By the order of the ranks every node
 -- stands as near to node 0 as in any other least values (`above`).
 use mathlib.Core.Path.{_≡_, ap}
-use mathlib.Core.Bool.{Bool, false, not}
 use mathlib.Core.List.{List, []}
 use mathlib.Core.Logic.{⊎-elim}
 use Prim.Native.Nat.{ℕ, zero, suc, _+_, _≤_, _<_}

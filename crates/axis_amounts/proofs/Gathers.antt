@@ -3,19 +3,18 @@ use mathlib.Core.Path.{_≡_, refl, sym, ap, subst, _∙_}
 use mathlib.Core.Bool.{Bool, false, not}
 use mathlib.Core.List.{List}
 use Prim.Native.Nat.{ℕ, zero, suc, _+_, _*_, _≤_, _<_}
-use native.Mathlib.Decide.{ℕ-discrete}
 use native.Mathlib.Nat.{mul-le-mul-right}
 use native.Mathlib.Numerals.{add-one}
 use native.Mathlib.Omega.{arith}
-use borrow.Author.Tests.{eq-eqb, ne-eqb, ltb-true}
+use borrow.Author.Tests.{ltb-true}
 use mir.Syntax.{w64}
 use mir.Val.{Fits}
-use lib.Dec.{eqb, ltb}
+use lib.Dec.{ltb}
 use lib.ListN.{length, set, length-set, length-replicate}
-use lib.Seq.{getD-set-same, getD-set-other}
-use Rattle.num_laws.specs.Sum.{sum, when}
-use Rattle.num_laws.proofs.Sums.{when-le, sum-le, sum-grows}
+use Rattle.num_laws.specs.Sum.{sum}
+use Rattle.num_laws.proofs.Sums.{sum-grows}
 use Rattle.flow_laws.specs.Flow.{atNode, weigh}
+use Rattle.flow_laws.proofs.Gathering.{node-none, node-most, node-sum, node-added}
 use Rattle.axis_bounds.specs.declared.Slot.{Slot}
 use Rattle.axis_bounds.specs.Listed.{tails, heads, pluses, minuses}
 use Rattle.axis_graph.specs.declared.Graph.{Graph}
@@ -25,49 +24,17 @@ use Rattle.axis_graph.specs.Graph.{at, GraphWithin, Shows}
 use Rattle.axis_graph.specs.Solved.{Refuted, los, his, weights, NetEnds}
 use Rattle.axis_amounts.specs.Amounts.{noSums, addedAt, sumMost, RoomFor, Within, Idle, Gathered, Summed, Modest, SpansWithin, Spanned, Outweighs, Flow}
 use Rattle.axis_tie.specs.Even.{Even}
-use Rattle.axis_graph.proofs.Zeros.{zero-at}
+use Rattle.num_laws.proofs.Stores.{zero-at}
 use Rattle.axis_graph.proofs.Answers.{shown-by}
 
 -- ---- sums at the nodes
 
 module _ (end f : ℕ → ℕ) where
-  node-next : (i k : ℕ) → atNode end f (i + 1) k ≡ atNode end f i k + when (eqb (end i) k) (f i)
-  unfolding atNode sum
-  node-next i k = rw (add-one i) refl
-
-  node-none : (k : ℕ) → atNode end f 0 k ≡ 0
-  unfolding atNode sum
-  node-none k = refl
-
-  node-most : (q : ℕ) → ((s : ℕ) → f s ≤ q) → (i k : ℕ) → atNode end f i k ≤ i * q
-  unfolding atNode sum
-  node-most q h zero k = omega arith
-  node-most q h (suc i) k = let a = node-most q h i k in let b = when-le (eqb (end i) k) (f i) in let c = h i in omega arith
-
-  node-sum : (i k : ℕ) → atNode end f i k ≤ sum f i
-  unfolding atNode
-  node-sum i k = sum-le (λ s. when (eqb (end s) k) (f s)) f i (λ s l. when-le (eqb (end s) k) (f s))
-
   gathered-none : (b : List ℕ) → length b ≡ nodeRoom → Gathered b end f 0 b
-  gathered-none b e = record { long = e; is = λ k l. let z = node-none k in omega arith }
+  gathered-none b e = record { long = e; is = λ k l. let z = node-none end f k in omega arith }
 
   gathered-more : (b : List ℕ) (i : ℕ) (r : List ℕ) → Gathered b end f i r → end i < nodeRoom → Gathered b end f (i + 1) (set r (end i) (at r (end i) + f i))
-  gathered-more b i r h l = record { long = length-set r (end i) (at r (end i) + f i) ∙ h .long; is = λ k m. by k m (ℕ-discrete k (end i)) }
-    where
-      by : (k : ℕ) → k < nodeRoom → Dec (k ≡ end i) → at (set r (end i) (at r (end i) + f i)) k ≡ at b k + atNode end f (i + 1) k
-      by k m (yes e) =
-          let s = ap (at (set r (end i) (at r (end i) + f i))) e ∙ getD-set-same r (end i) (at r (end i) + f i) 0 (let o = h .long in omega arith) in
-          let p = h .is k m in
-          let q : at r (end i) ≡ at r k = ap (at r) (sym e) in
-          let n = node-next i k in
-          let w : when (eqb (end i) k) (f i) ≡ f i = ap (λ (t : Bool). when t (f i)) (eq-eqb (end i) k (sym e)) in
-          omega arith
-      by k m (no n) =
-          let s = getD-set-other r (end i) k (at r (end i) + f i) 0 n in
-          let p = h .is k m in
-          let o = node-next i k in
-          let w : when (eqb (end i) k) (f i) ≡ 0 = ap (λ (t : Bool). when t (f i)) (ne-eqb (end i) k (λ e. n (sym e))) in
-          omega arith
+  gathered-more b i r h l = record { long = length-set r (end i) (at r (end i) + f i) ∙ h .long; is = λ k m. node-added end f (at b) i r k (let o = h .long in omega arith) (h .is k m) }
 
 -- amounts that may be added in turn: their ends are nodes, and no sum is above the limit
 pub record Addable (into₀ out₀ : List ℕ) (to from f : ℕ → ℕ) (c : ℕ) : Type 0 where

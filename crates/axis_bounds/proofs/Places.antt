@@ -6,7 +6,7 @@ use native.Mathlib.Omega.{arith}
 use lib.ListN.{length, getD, length-map, List·getD-map}
 use Rattle.num_laws.specs.Sum.{sum}
 use Rattle.num_laws.specs.Spread.{spread}
-use Rattle.num_laws.proofs.Terms.{sum-front}
+use Rattle.num_laws.proofs.Sums.{sum-first}
 use Rattle.axis_bounds.specs.declared.AxisPin.{AxisPin}
 use Rattle.axis_bounds.specs.Axis.{NetOn, noPin, bareNet, placeOf, places, netsLength}
 
@@ -23,4 +23,4 @@ netLength z ts j = getD ts j bareNet .weight * spread (places z (getD ts j bareN
 pub length-sum : (z : List ℕ) (ts : List NetOn) → netsLength z ts ≡ sum (netLength z ts) (length ts)
 unfolding netsLength sum
 length-sum z [] = refl
-length-sum z (t ∷ ts) = let p = length-sum z ts in let q = sum-front (netLength z (t ∷ ts)) (length ts) in omega arith
+length-sum z (t ∷ ts) = let p = length-sum z ts in let q = sum-first (netLength z (t ∷ ts)) (length ts) in omega arith

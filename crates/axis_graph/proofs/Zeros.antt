@@ -7,14 +7,10 @@ use lib.ListN.{replicate}
 use lib.Dec.{eqb}
 use Rattle.num_laws.specs.Sum.{sum, when}
 use Rattle.num_laws.proofs.Sums.{when-zero}
+use Rattle.num_laws.proofs.Stores.{zero-at}
 use Rattle.flow_laws.specs.Flow.{atNode}
 use Rattle.axis_graph.specs.Limits.{slotRoom}
 use Rattle.axis_graph.specs.Graph.{at}
-
-pub zero-at : (n k : ℕ) → at (replicate n 0) k ≡ 0
-zero-at zero k = refl
-zero-at (suc n) zero = refl
-zero-at (suc n) (suc k) = zero-at n k
 
 -- no slot carries anything
 abbrev pub none : List ℕ

@@ -7,7 +7,7 @@ use native.Mathlib.Omega.{arith}
 use lib.ListN.{length, getD, set, length-set, replicate}
 use lib.Seq.{getD-set-same, getD-set-other}
 use Rattle.axis_graph.specs.Graph.{at}
-use Rattle.axis_graph.proofs.Zeros.{zero-at}
+use Rattle.num_laws.proofs.Stores.{zero-at}
 use Rattle.axis_held.specs.Graphs.{Offsets}
 
 -- the first i of n macros have their coordinates

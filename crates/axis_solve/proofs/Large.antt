@@ -13,7 +13,7 @@ use Rattle.axis_graph.specs.Limits.{slotRoom}
 use Rattle.axis_graph.specs.Graph.{at}
 use Rattle.axis_graph.specs.Above.{FirstAbove}
 use Rattle.axis_graph.specs.Service.{UnsolvableOk}
-use Rattle.axis_graph.proofs.Zeros.{zero-at}
+use Rattle.num_laws.proofs.Stores.{zero-at}
 use Rattle.axis_held.proofs.HeldAxes.{Shaped}
 use Rattle.axis_held.proofs.HeldGraphs.{n-is, size-is, side-is}
 

@@ -15,7 +15,7 @@ use Rattle.axis_graph.specs.Limits.{nodeRoom}
 use Rattle.axis_graph.specs.Graph.{at, GraphWithin, Leads, Net}
 use Rattle.axis_solve.specs.Growth.{seedOf, outside, Growing}
 use Rattle.axis_solve.specs.Augment.{Sound}
-use Rattle.axis_graph.proofs.Zeros.{zero-at}
+use Rattle.num_laws.proofs.Stores.{zero-at}
 use Rattle.axis_solve.proofs.Joins.{outside-less}
 
 -- no node is in the set

@@ -1,7 +1,7 @@
 -- What has been read before each item of a chip, and the step at each kind of item.
 use mathlib.Core.Path.{_≡_, refl, sym, ap, _∙_}
 use mathlib.Core.Bool.{Bool, true, false, not, or-true, or-false}
-use mathlib.Core.List.{List, [], _∷_, _++_}
+use mathlib.Core.List.{List, [], _∷_}
 use Prim.{tt}
 use Prim.Native.Nat.{ℕ, suc, _+_, _≤_, _<_}
 use native.Mathlib.Omega.{arith}
@@ -28,6 +28,7 @@ use Rattle.chip_text.specs.Text.{dieItem, fixItem, macItem, pinItem, endItem}
 use Rattle.chip_print.specs.Items.{weightItem}
 use Rattle.chip_faults.specs.Faults.{dieFault, fixFault, macFault, bareBefore, netFault, pinFault}
 use Rattle.chip_text.proofs.Faults.{fix-adds, pin-adds}
+use Rattle.chip_text.proofs.NetsRead.{count-net, length-pin}
 use Rattle.chip_test.proofs.Fields.{die-fields, fix-fields, mac-fields, net-fields, pin-fields, end-fields}
 use Rattle.chip_test.proofs.Steps.{Steps, goes, steps-found, item-steps}
 
@@ -108,17 +109,6 @@ pub nets-next : {i : ℕ} (ts : List HeldNet) (s : Part) → Macs i s → Nets i
 unfolding pinCount
 nets-next ts s p = record { places = p .places .1; last = p .last; macs = p .macs; nets = ap length (p .nets); pins = ap pinCount (p .nets); few = (omega arith, omega arith) }
 
-pins-net : (ts : List Net) (t : Net) → pinCount (ts ++ (t ∷ [])) ≡ pinCount ts + length (t .pins)
-unfolding pinCount
-pins-net [] t = omega arith
-pins-net (u ∷ ts) t = let q = pins-net ts t in omega arith
-
-nets-pin : (p : Pin) (ts : List Net) → length (addPin p ts) ≡ length ts
-unfolding addPin
-nets-pin p [] = refl
-nets-pin p (t ∷ []) = refl
-nets-pin p (t ∷ (u ∷ ts)) = ap suc (nets-pin p (u ∷ ts))
-
 pins-pin : (p : Pin) (ts : List Net) → 0 < length ts → pinCount (addPin p ts) ≡ suc (pinCount ts)
 unfolding pinCount addPin
 pins-pin p [] h = absurd (omega arith)
@@ -133,7 +123,7 @@ module _ (n : ℕ) (ts : List HeldNet) where
       (λ r.
       let g : j < 32 = ltb-true j 32 r in
       let h : q ≤ 128 = p .few .1 in
-      goes _ refl (record { places = (refl, (refl, (refl, tt))); last = refl; macs = p .macs; nets = rw (length-append, p .nets) (omega arith); pins = rw (pins-net, p .pins) (omega arith); few = (g, omega arith) }))
+      goes _ refl (record { places = (refl, (refl, (refl, tt))); last = refl; macs = p .macs; nets = rw (length-append, p .nets) (omega arith); pins = rw (count-net, p .pins) (omega arith); few = (g, omega arith) }))
 
   pub end-steps : (q j : ℕ) (s : Part) → Nets n ts q j s → Steps Ended (itemStep chipKind s endItem) (need (not (bareBefore ts j)) 7 0)
   unfolding same
@@ -154,4 +144,4 @@ pin-steps n ps q j i s p =
     let c = p .pins in
     let l = p .nets in
     let k = pins-pin (pinOf x) (s .chip .nets) (omega arith) in
-    goes _ refl (record { places = (refl, (refl, (refl, tt))); last = sym (ne-eqb (suc i) 0 (λ e. omega arith)); macs = p .macs; nets = nets-pin _ _ ∙ l; pins = omega arith; few = (p .few .0, omega arith) })))))
+    goes _ refl (record { places = (refl, (refl, (refl, tt))); last = sym (ne-eqb (suc i) 0 (λ e. omega arith)); macs = p .macs; nets = length-pin _ _ ∙ l; pins = omega arith; few = (p .few .0, omega arith) })))))

@@ -9,35 +9,13 @@ use borrow.Author.Tests.{le-leb}
 use Rattle.num_text.specs.Number.{allOf}
 use Rattle.model.specs.declared.Spot.{Spot}
 use Rattle.model.specs.Meaning.{blankSpot}
-use Rattle.fit_slots.specs.declared.Direction.the-variants.{Horizontal as horizontal, Vertical as vertical}
-use Rattle.fit_slots.specs.Axes.{cornersOn}
 use Rattle.measure_tests.specs.Positions.{inRange}
-use Rattle.fit_lists.specs.Lists.{spotsOf}
+use Rattle.model.specs.Corners.{spotsOf}
 
 pub past : (f : List ℕ) (s : ℕ) → length f ≤ s → getD f s 0 ≡ 0
 past [] s l = refl
 past (x ∷ f) zero l = absurd (omega arith)
 past (x ∷ f) (suc s) l = past f s (omega arith)
-
-pub take-spots : (n : ℕ) (xs ys : List ℕ) → take n (spotsOf xs ys) ≡ spotsOf (take n xs) (take n ys)
-unfolding spotsOf
-take-spots zero xs ys = refl
-take-spots (suc n) [] ys = refl
-take-spots (suc n) (x ∷ xs) [] = refl
-take-spots (suc n) (x ∷ xs) (y ∷ ys) = ap (λ (r : List Spot). record { x = x; y = y } ∷ r) (take-spots n xs ys)
-
-pub corners-x : (xs ys : List ℕ) → length xs ≡ length ys → cornersOn horizontal (spotsOf xs ys) ≡ xs
-unfolding spotsOf
-corners-x [] ys e = refl
-corners-x (x ∷ xs) [] e = absurd (omega arith)
-corners-x (x ∷ xs) (y ∷ ys) e = ap (λ (r : List ℕ). x ∷ r) (corners-x xs ys (omega arith))
-
-pub corners-y : (xs ys : List ℕ) → length xs ≡ length ys → cornersOn vertical (spotsOf xs ys) ≡ ys
-unfolding spotsOf
-corners-y [] [] e = refl
-corners-y [] (y ∷ ys) e = absurd (omega arith)
-corners-y (x ∷ xs) [] e = absurd (omega arith)
-corners-y (x ∷ xs) (y ∷ ys) e = ap (λ (r : List ℕ). y ∷ r) (corners-y xs ys (omega arith))
 
 -- coordinates within 0..1,024 make positions within range
 pub spots-in-range : (xs ys : List ℕ) → ((i : ℕ) → getD xs i 0 ≤ 1024) → ((i : ℕ) → getD ys i 0 ≤ 1024) → inRange (spotsOf xs ys) ≡ true

@@ -21,6 +21,7 @@ use Rattle.fit_slots.specs.Slots.{slotsOn}
 use Rattle.fit_slots.specs.Amounts.{Flow, amountsOn}
 use Rattle.fit_slots.specs.Axes.{axisFor, cornersOn}
 use Rattle.fit_slots.specs.Fit.{Fit, lettersOf, slotCount, Kept, Filled}
+use Rattle.num_laws.proofs.Stores.{zero-at}
 use Rattle.fit_slots.proofs.Flowing.{Agrees}
 use Rattle.fit_slots.proofs.Lengths.{lengths-split}
 use Rattle.fit_slots.proofs.Whole.{Lists, AllZero, other, whole-flow, whole-chain}
@@ -42,17 +43,12 @@ low-all : (f : List ℕ) → ((t : ℕ) → getD f t 0 ≤ 65535) → map low16 
 low-all [] h = refl
 low-all (x ∷ f) h = let l = h 0 in let e : x % 65536 ≡ x = omega arith in rw (e, low-all f (λ t. h (suc t)))
 
-zeros-at : (k t : ℕ) → _≡_ {A = ℕ} (getD (replicate k 0) t 0) 0
-zeros-at zero t = refl
-zeros-at (suc k) zero = refl
-zeros-at (suc k) (suc t) = zeros-at k t
-
 zeros : List ℕ
 zeros = replicate 456 0
 
 zeros-small : Small zeros
 unfolding zeros
-zeros-small = record { long = length-replicate {A = ℕ} 456 0; most = λ t. let e = zeros-at 456 t in omega arith }
+zeros-small = record { long = length-replicate {A = ℕ} 456 0; most = λ t. let e = zero-at 456 t in omega arith }
 
 module _ (c : HeldChip) (s : List ℕ) (m : ℕ) (ask : Asking c s m) (entry : List ℕ) (room : m + m ≤ length entry) where
   abbrev C : Chip
@@ -157,9 +153,9 @@ module _ (c : HeldChip) (s : List ℕ) (m : ℕ) (ask : Asking c s m) (entry : L
     by : (v w : Verdict) → Directed c s horizontal v ax fx → (isSolved v ≡ true → Directed c s vertical w ay fy) → Filled C s (fitting c s) entry (putIf true (bothLists m (shown (showsAcross v w) fx) (shown (isSolved v) fy) entry) entry)
     unfolding zeros
     by verdict.Malformed w a b = absurd a
-    by verdict.Unsolvable w a b = let f = chain-small horizontal fx a in put fx zeros f zeros-small (across-chain fx zeros f zeros-small a (zeros-at 456))
+    by verdict.Unsolvable w a b = let f = chain-small horizontal fx a in put fx zeros f zeros-small (across-chain fx zeros f zeros-small a (zero-at 456))
     by verdict.Solved verdict.Malformed a b = absurd (b refl)
-    by verdict.Solved verdict.Unsolvable a b = let u = b refl in let g = chain-small vertical fy u in put zeros fy zeros-small g (up-chain zeros fy zeros-small g u (zeros-at 456))
+    by verdict.Solved verdict.Unsolvable a b = let u = b refl in let g = chain-small vertical fy u in put zeros fy zeros-small g (up-chain zeros fy zeros-small g u (zero-at 456))
     by verdict.Solved verdict.Solved a b =
         let f = solved-small horizontal ax fx a in
         let u = b refl in

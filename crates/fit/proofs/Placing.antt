@@ -35,13 +35,13 @@ use Rattle.measure.specs.Measuring.{measured, measurePassed, measurePositions}
 use Rattle.measure.specs.Held.{lengthIn}
 use Rattle.measure.proofs.Answers.{measured-same}
 use Rattle.fit_axes.specs.Axes.{SolvedBy}
-use Rattle.fit_lists.specs.Lists.{spotsOf}
-use Rattle.fit_lists.proofs.Corners.{spots-length}
+use Rattle.model.specs.Corners.{spotsOf}
+use Rattle.model.proofs.Corners.{spots-length, take-spots, spots-x, spots-y}
 use Rattle.fit_tests.specs.Entry.{Asking, fitting}
 use Rattle.fit.specs.declared.FitOutcome.the-variants as outcome
 use Rattle.fit.specs.Answer.{answerFor}
 use Rattle.fit.proofs.Asked.{el}
-use Rattle.fit.proofs.Corners.{past, take-spots, corners-x, corners-y, spots-in-range, spots-padded}
+use Rattle.fit.proofs.Corners.{past, spots-in-range, spots-padded}
 
 -- a coordinate that keeps the die is within 0..1,024
 coordinate-most : (d : Direction) (C : Chip) (ls : List Letter) → Valid C → (z : List ℕ) → Keeps (axisFor d C ls) z → (i : ℕ) → getD z i 0 ≤ 1024
@@ -98,8 +98,8 @@ module _ (c : HeldChip) (s : List ℕ) (m : ℕ) (ask : Asking c s m) (ax ay fx 
   on vertical = zy
 
   pub corners-on : (d : Direction) → cornersOn d ps ≡ on d
-  corners-on horizontal = corners-x zx zy as-long
-  corners-on vertical = corners-y zx zy as-long
+  corners-on horizontal = spots-x zx zy as-long
+  corners-on vertical = spots-y zx zy as-long
 
   solved-least : (d : Direction) → LeastOn (axisFor d C ls) (on d)
   solved-least horizontal = sx .solved .least

@@ -1,28 +1,15 @@
 -- Corners made from coordinates, in the form of the needs of `spots_at`.
-use Prim.Native.Nat.{ℕ, zero, suc, _+_, _≤_, _<_}
+use Prim.Native.Nat.{ℕ, _+_, _≤_, _<_}
 use mathlib.Core.Path.{_≡_, refl, sym, _∙_}
-use mathlib.Core.List.{List, [], _∷_}
+use mathlib.Core.List.{List}
 use native.Mathlib.Decide.{ℕ-discrete}
 use native.Mathlib.Omega.{arith}
 use lib.ListN.{length, getD, set, length-set, replicate}
 use lib.Seq.{ext-getD, getD-set-same, getD-set-other}
 use Rattle.model.specs.declared.Spot.{Spot}
 use Rattle.model.specs.Meaning.{blankSpot}
-use Rattle.fit_lists.specs.Lists.{spotsOf}
-
-pub spots-length : (xs ys : List ℕ) → length xs ≡ length ys → length (spotsOf xs ys) ≡ length xs
-unfolding spotsOf
-spots-length [] ys e = refl
-spots-length (x ∷ xs) [] e = absurd (omega arith)
-spots-length (x ∷ xs) (y ∷ ys) e = let h = spots-length xs ys (omega arith) in omega arith
-
--- each corner from its two coordinates
-spots-each : (us vs : List ℕ) (j : ℕ) → j < length us → j < length vs → getD (spotsOf us vs) j blankSpot ≡ record { x = getD us j 0; y = getD vs j 0 }
-unfolding spotsOf
-spots-each [] vs j l h = absurd (omega arith)
-spots-each (u ∷ us) [] j l h = absurd (omega arith)
-spots-each (u ∷ us) (v ∷ vs) zero l h = refl
-spots-each (u ∷ us) (v ∷ vs) (suc j) l h = spots-each us vs j (omega arith) (omega arith)
+use Rattle.model.specs.Corners.{spotsOf}
+use Rattle.model.proofs.Corners.{spots-length, spots-each}
 
 pub record SpotsTo (xs ys : List ℕ) (spots : List Spot) (i : ℕ) : Type 0 where
   pub long : length spots ≡ 8

@@ -1,19 +1,12 @@
 -- What a fit puts into its lists.
 use Prim.Native.Nat.{ℕ, _+_, _%_}
 use mathlib.Core.Bool.{Bool, true, false, not, _&&_, _||_}
-use mathlib.Core.List.{List, [], _∷_, map}
+use mathlib.Core.List.{List, map}
 use lib.Dec.{leb}
 use lib.ListN.{length, take, replicate}
 use lib.Seq.{sets}
-use Rattle.model.specs.declared.Spot.{Spot}
 use Rattle.axis_graph.specs.declared.Verdict.{Verdict}
 use Rattle.axis_graph.specs.declared.Verdict.the-variants as verdict
-
--- corners from their coordinates
-unfoldable pub spotsOf : List ℕ → List ℕ → List Spot
-spotsOf [] ys = []
-spotsOf (x ∷ xs) [] = []
-spotsOf (x ∷ xs) (y ∷ ys) = record { x = x; y = y } ∷ spotsOf xs ys
 
 -- a slot holds 16 bits
 abbrev pub low16 : ℕ → ℕ

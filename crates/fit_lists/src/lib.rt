@@ -9,7 +9,8 @@ ghost use mathlib.Core.List.{map};
 ghost use Prim.Native.Nat.{_+_, _≤_};
 ghost use lib.ListN.{length, take};
 ghost use lib.Seq.{sets};
-ghost use Rattle.fit_lists.specs.Lists.{low16, spotsOf, isSolved, showsAcross, shown, bothLists, slotsPut};
+ghost use Rattle.model.specs.Corners.{spotsOf};
+ghost use Rattle.fit_lists.specs.Lists.{low16, isSolved, showsAcross, shown, bothLists, slotsPut};
 
 // Whether a direction has coordinates.
 pub fn is_solved(v: Verdict) -> bool

@@ -13,15 +13,11 @@ use Rattle.model.specs.declared.Fix.{Fix}
 use Rattle.model.specs.declared.Mac.{Mac}
 use Rattle.model.specs.Meaning.{blankFix, blankMac}
 use Rattle.fit_slots.specs.Slots.{Couple, twoMacs, macFix, couplesWith, macCouples, fixCouples, couplesOf}
+use Rattle.fit_slots.proofs.Counting.{with-count}
 use Rattle.fit_pairs.specs.declared.Cursor.{Cursor}
 use Rattle.fit_pairs.specs.Order.{pairAt, restAt, restFrom, OnPair, Ready, First, Next, cursor}
 
 -- ---- lists of pairs
-
-with-length : (i : ℕ) (a : Mac) (j : ℕ) (s : List Mac) → length (couplesWith i a j s) ≡ length s
-unfolding couplesWith
-with-length i a j [] = refl
-with-length i a j (b ∷ s) = ap suc (with-length i a (suc j) s)
 
 with-at : (i : ℕ) (a : Mac) (j : ℕ) (s : List Mac) (e : ℕ) (z : Couple) → e < length s → getD (couplesWith i a j s) e z ≡ twoMacs i a (j + e) (getD s e blankMac)
 unfolding couplesWith
@@ -76,7 +72,7 @@ module _ (ms : List Mac) (fs : List Fix) (i j : ℕ) where
     macRow = couplesWith (suc i) (getD ms i blankMac) (suc (suc i)) (drop (suc i) ms)
 
     row-length : length macRow ≡ length ms - suc i
-    row-length = with-length (suc i) (getD ms i blankMac) (suc (suc i)) (drop (suc i) ms) ∙ length-drop (suc i) ms
+    row-length = with-count (suc i) (getD ms i blankMac) (suc (suc i)) (drop (suc i) ms) ∙ length-drop (suc i) ms
 
     row-at : getD macRow (j - suc i) (twoMacs 0 blankMac 0 blankMac) ≡ pairAt ms fs false i j
     row-at =

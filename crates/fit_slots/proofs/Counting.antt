@@ -20,7 +20,7 @@ use Rattle.fit_slots.specs.Fit.{lettersFor, letterCount}
 use Rattle.fit_slots.specs.Axes.{axisPin, axisNet, heldSlots, axisFor}
 use Rattle.fit_slots.proofs.Matches.{same-slots, same-length}
 
-with-count : (i : ℕ) (a : Mac) (j : ℕ) (ms : List Mac) → length (couplesWith i a j ms) ≡ length ms
+pub with-count : (i : ℕ) (a : Mac) (j : ℕ) (ms : List Mac) → length (couplesWith i a j ms) ≡ length ms
 unfolding couplesWith
 with-count i a j [] = refl
 with-count i a j (m ∷ ms) = let h = with-count i a (suc j) ms in omega arith

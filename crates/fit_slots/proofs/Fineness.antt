@@ -30,7 +30,7 @@ use Rattle.fit_slots.proofs.Counting.{letters-count, held-count, pins-c
 
 -- ---- sides
 
-mac-side : (d : Direction) (m : Mac) → ValidMac m → macSide d m ≤ 1024
+pub mac-side : (d : Direction) (m : Mac) → ValidMac m → macSide d m ≤ 1024
 mac-side horizontal m v = v .w .high
 mac-side vertical m v = v .h .high
 

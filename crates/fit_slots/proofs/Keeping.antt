@@ -1,7 +1,7 @@
 -- A placement keeps the letters exactly when both directions keep the die and the pairs' bounds.
 use Prim.Native.Nat.{ℕ, zero, suc, _+_, _≤_, _<_}
 use mathlib.Core.Path.{_≡_, refl, sym, ap, subst, _∙_}
-use mathlib.Core.Bool.{Bool, true, _&&_}
+use mathlib.Core.Bool.{true}
 use mathlib.Core.List.{List, [], _∷_, map, zipWith}
 use native.Mathlib.Nat.{le-of-suc-le-suc}
 use native.Mathlib.Omega.{arith}
@@ -12,7 +12,7 @@ use Rattle.num_text.specs.Number.{allOf}
 use Rattle.model.specs.declared.Mac.{Mac}
 use Rattle.model.specs.declared.Spot.{Spot}
 use Rattle.model.specs.Meaning.{Chip}
-use Rattle.text_grammar.proofs.Lacks.{and-left, and-right}
+use Rattle.text_grammar.proofs.Lacks.{and-left, and-right, and-both}
 use Rattle.geometry.specs.Box.{boxAt, inDie}
 use Rattle.placement.specs.Legal.{boxes, within}
 use Rattle.placement.specs.Letters.{Letter}
@@ -24,9 +24,6 @@ use Rattle.fit_slots.specs.declared.Direction.the-variants.{Horizontal a
 use Rattle.fit_slots.specs.Slots.{dieSide, macSide, Couple, couples}
 use Rattle.fit_slots.specs.Axes.{heldSlots, axisFor, cornerOn, cornersOn}
 use Rattle.fit_slots.proofs.Pairs.{pairOf, pairs-couples, kept-slot, slot-kept}
-
-and-both : (p q : Bool) → p ≡ true → q ≡ true → (p && q) ≡ true
-and-both p q e f = rw (e, f)
 
 -- ---- the die
 

@@ -84,7 +84,7 @@ no-values tail head plus minus f x m n te he bal more b =
     omega arith
 
 -- and a common factor above 0 may be dropped
-cancel : (v a b : ℕ) → 0 < v → a * v ≡ b * v → a ≤ b → a ≡ b
+pub cancel : (v a b : ℕ) → 0 < v → a * v ≡ b * v → a ≤ b → a ≡ b
 cancel zero a b h e l = absurd (omega arith)
 cancel (suc v) a b h e l = by (ℕ-discrete a b)
   where

@@ -1,1 +1,2 @@
 pub mod Duality
+pub mod Gathering

@@ -3,28 +3,18 @@ use Prim.Native.Nat.{ℕ, zero, suc, _+_, _*_, _≤_, _<_}
 use mathlib.Core.Path.{_≡_, refl, ap, _∙_}
 use mathlib.Core.List.{List}
 use native.Mathlib.Nat.{mul-le-mul-right}
-use native.Mathlib.Decide.{ℕ-discrete}
 use native.Mathlib.Omega.{arith}
 use Rattle.num_laws.specs.Sum.{sum}
 use Rattle.num_laws.proofs.Sums.{sum-le, sum-eq, sum-add, sum-tight}
 use Rattle.num_laws.proofs.Spreads.{top-bottom}
 use Rattle.flow_laws.specs.Flow.{weigh, Ends, Bounds, Tight}
-use Rattle.flow_laws.proofs.Duality.{exchange, weak, tight-at-least}
+use Rattle.flow_laws.proofs.Duality.{exchange, weak, cancel, tight-at-least}
 use Rattle.axis_bounds.specs.Axis.{Keeps, lengthOn, places, valueAt}
 use Rattle.half_arrays.specs.Arrays.{raised, fromNode, toNode, boundAt, entryCount, nodeAt, mostAt, leastAt, netAt, weightAt, entryPins, axisOn}
 use Rattle.half_arrays.proofs.Ranges.{node-below, net-below}
 use Rattle.half_arrays.proofs.Arcs.{keeps-on}
 use Rattle.half_arrays.proofs.Nets.{topOn, bottomOn, spreadOn, nets-length, under-top, over-bottom}
 use Rattle.half_worth.specs.Amounts.{atMacro, onNet, Balances, Passes, gained, lost, WorthLength}
-
--- a common factor above 0 may be dropped
-cancel : (v a b : ℕ) → 0 < v → a * v ≡ b * v → a ≤ b → a ≡ b
-cancel zero a b h e l = absurd (omega arith)
-cancel (suc v) a b h e l = by (ℕ-discrete a b)
-  where
-    by : Dec (a ≡ b) → a ≡ b
-    by (yes q) = q
-    by (no q) = let p : suc a * suc v ≤ b * suc v = mul-le-mul-right (suc v) (omega arith) in absurd (omega arith)
 
 scaled : (f a b : ℕ) → a ≤ b → a * f ≤ b * f
 scaled f a b h = mul-le-mul-right f h

@@ -5,16 +5,13 @@ use mathlib.Core.List.{List, [], _∷_}
 use native.Mathlib.Numerals.{add-one}
 use native.Mathlib.Omega.{arith}
 use lib.ListN.{length, getD, take, set}
-use lib.Seq.{set-out, sets, length-sets, take-suc, take-all, length-take-le}
+use lib.Seq.{sets, length-sets, take-suc, take-all, length-take-le}
 use Rattle.model.specs.declared.Spot.{Spot}
 use Rattle.model.specs.Meaning.{blankSpot}
 use Rattle.num_laws.proofs.Stores.{sets-append}
 use Rattle.placement.specs.Order.{keys}
-use Rattle.host_lists.proofs.Numbers.{length-keys, keys-snoc}
-
--- nothing is put past the end of a list
-pub set-past : (list : List ℕ) (i v : ℕ) → length list ≤ i → list ≡ set list i v
-set-past list i v h = sym (set-out list i v h)
+use Rattle.placement.proofs.OrderLaws.{length-keys}
+use Rattle.host_lists.proofs.Numbers.{keys-snoc}
 
 -- the first i corners are stored at the front of a list
 pub record Stored (entry : List ℕ) (spots : List Spot) (list : List ℕ) (i : ℕ) : Type 0 where

@@ -2,15 +2,8 @@
 use Prim.Native.Nat.{ℕ, _+_}
 use mathlib.Core.Path.{_≡_, refl, ap}
 use mathlib.Core.List.{List, [], _∷_, _++_}
-use native.Mathlib.Omega.{arith}
-use lib.ListN.{length}
 use Rattle.model.specs.declared.Spot.{Spot}
 use Rattle.placement.specs.Order.{keys}
-
-pub length-keys : (ps : List Spot) → length (keys ps) ≡ length ps + length ps
-unfolding keys
-length-keys [] = refl
-length-keys (p ∷ ps) = let i = length-keys ps in omega arith
 
 keys-append : (ps qs : List Spot) → keys (ps ++ qs) ≡ keys ps ++ keys qs
 unfolding keys

@@ -5,3 +5,4 @@ pub mod Places
 pub mod Pins
 pub mod Holding
 pub mod HeldAgain
+pub mod Corners

@@ -4,3 +4,4 @@ pub mod Limits
 pub mod Made
 pub mod Held
 pub mod Counted
+pub mod Corners

@@ -1,11 +1,11 @@
--- Runs of stores into a list.
-use Prim.Native.Nat.{ℕ, suc, _+_, _<_}
-use mathlib.Core.Path.{_≡_, sym, ap, _∙_}
+-- Stores into a list: runs of them, none past its end; a list of zeros.
+use Prim.Native.Nat.{ℕ, zero, suc, _+_, _≤_, _<_}
+use mathlib.Core.Path.{_≡_, refl, sym, ap, _∙_}
 use mathlib.Core.List.{List, [], _∷_, _++_}
 use native.Mathlib.Numerals.{add-one}
 use native.Mathlib.Omega.{arith}
-use lib.ListN.{length, getD, take, set}
-use lib.Seq.{sets, take-suc, length-take-le}
+use lib.ListN.{length, getD, take, set, replicate}
+use lib.Seq.{sets, set-out, take-suc, length-take-le}
 
 module _ {A : Type 0} where
   -- a run of stores after another
@@ -18,3 +18,13 @@ module _ {A : Type 0} where
   sets-more d s at i z h =
       rw add-one (sym (ap (sets d at) (take-suc s i z h) ∙ sets-append (take i s) (getD s i z ∷ []) d at
       ∙ ap (λ (k : ℕ). sets (sets d at (take i s)) (at + k) (getD s i z ∷ [])) (length-take-le i s (omega arith))))
+
+-- a list of zeros
+pub zero-at : (n k : ℕ) → _≡_ {A = ℕ} (getD (replicate n 0) k 0) 0
+zero-at zero k = refl
+zero-at (suc n) zero = refl
+zero-at (suc n) (suc k) = zero-at n k
+
+-- nothing is stored past the end of a list
+pub set-past : (s : List ℕ) (i v : ℕ) → length s ≤ i → s ≡ set s i v
+set-past s i v h = sym (set-out s i v h)

@@ -1,4 +1,4 @@
--- Laws of sums by their terms: the first term, terms that are 0, one term, and a limit of all terms.
+-- Laws of sums by their terms: terms that are 0, one term, and a limit of all terms.
 use mathlib.Core.Path.{_≡_, refl, sym, ap}
 use Prim.Native.Nat.{ℕ, zero, suc, _+_, _*_, _≤_, _<_}
 use native.Mathlib.Nat.{le-antisymm}
@@ -6,12 +6,6 @@ use native.Mathlib.Decide.{ℕ-discrete}
 use native.Mathlib.Omega.{arith}
 use Rattle.num_laws.specs.Sum.{sum}
 use Rattle.num_laws.proofs.Sums.{sum-grows}
-
--- the first term apart
-pub sum-front : (f : ℕ → ℕ) (n : ℕ) → sum f (suc n) ≡ f 0 + sum (λ i. f (suc i)) n
-unfolding sum
-sum-front f zero = omega arith
-sum-front f (suc n) = let p = sum-front f n in omega arith
 
 -- terms past n that are 0
 pub sum-stop : (f : ℕ → ℕ) (n m : ℕ) → n ≤ m → ((i : ℕ) → n ≤ i → i < m → f i ≡ 0) → sum f m ≡ sum f n

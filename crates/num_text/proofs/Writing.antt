@@ -1,21 +1,17 @@
 -- The steps of the writers: one byte, the next byte of a text, the last digit, the sign.
-use mathlib.Core.Path.{_≡_, sym}
+use mathlib.Core.Path.{_≡_}
 use mathlib.Core.List.{List, [], _∷_}
 use Prim.Native.Nat.{ℕ, suc, _+_, _-_, _/_, _%_, _^_, _≤_, _<_}
 use native.Mathlib.Numerals.{add-one}
 use native.Mathlib.Omega.{arith}
 use borrow.Author.Tests.{lt-ltb, le-ltb}
 use lib.IntN.{subℕ}
-use lib.ListN.{length, getD, take, set}
-use lib.Seq.{set-out, take-all, take-suc}
+use lib.ListN.{length, getD, take}
+use lib.Seq.{take-all, take-suc}
 use Rattle.num_text.specs.Number.{digits, numberText}
 use Rattle.num_text.specs.Held.{Wrote}
 use Rattle.num_text.proofs.Digits.{digits-small, digits-large}
 use Rattle.num_text.proofs.Wrote.{wrote-then}
-
--- a byte past the end changes nothing
-pub past : (b : List ℕ) (at v : ℕ) → length b ≤ at → b ≡ set b at v
-past b at v h = sym (set-out b at v h)
 
 pub byte-more : (b m a s : List ℕ) (i at k r : ℕ) → length b < 2 ^ 64 → i < length s → Wrote b m (take i s) at k → Wrote m a (getD s i 0 ∷ []) k r → Wrote b a (take (i + 1) s) at r
 byte-more b m a s i at k r f h p q = rw (add-one, take-suc s i 0 h) (wrote-then b m a _ _ at k r f p q)

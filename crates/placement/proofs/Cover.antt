@@ -6,7 +6,7 @@ use mathlib.Core.Logic.{_⊎_, inl, inr, _↔_}
 use Prim.{Unit, tt}
 use Rattle.model.specs.declared.Spot.{Spot}
 use Rattle.model.specs.Meaning.{Chip}
-use Rattle.text_grammar.proofs.Lacks.{and-left, and-right}
+use Rattle.text_grammar.proofs.Lacks.{and-left, and-right, and-both}
 use Rattle.text_grammar.proofs.Every.{Every}
 use Rattle.placement.proofs.OrderLaws.{or-says}
 use Rattle.geometry.specs.declared.Box.{Box}
@@ -21,9 +21,6 @@ or-first p q e = ap (λ (t : Bool). t || q) e
 
 or-second : (p q : Bool) → q ≡ true → (p || q) ≡ true
 or-second p q e = ap (λ (t : Bool). p || t) e ∙ or-true p
-
-and-both : (p q : Bool) → p ≡ true → q ≡ true → (p && q) ≡ true
-and-both p q e f = ap (λ (t : Bool). t && q) e ∙ f
 
 and-still : (p q r s : Bool) → (p ≡ true → r ≡ true) → (q ≡ true → s ≡ true) → (p && q) ≡ true → (r && s) ≡ true
 and-still p q r s f g e = and-both r s (f (and-left p q e)) (g (and-right p q e))

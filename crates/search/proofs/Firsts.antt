@@ -16,7 +16,7 @@ use Rattle.axis_bounds.specs.Half.{HalfOn}
 use Rattle.fit_slots.specs.declared.Direction.{Direction}
 use Rattle.fit_slots.specs.declared.Direction.the-variants.{Horizontal as horizontal, Vertical as vertical}
 use Rattle.fit_slots.specs.Axes.{axisFor, cornersOn}
-use Rattle.search_halves.proofs.Halving.{spots-y}
+use Rattle.model.proofs.Corners.{spots-y}
 use Rattle.half_fit.specs.declared.service.HalfFit.{HalfFit}
 use Rattle.half_fit.specs.declared.service.HalfOutcome.{HalfOutcome}
 use Rattle.half_fit.specs.declared.service.HalfOutcome.the-variants as answer
@@ -58,7 +58,7 @@ module _ (c : HeldChip) (letters : List ℕ) (p : ℕ) (ok : Passed c) where
             let g = ok .fine .macCount in let w = wide in
             ap (cornersOn vertical) (first-take blankSpot (c .n) (uprightSpots at) (omega arith))
             ∙ (sym (take-corners vertical (c .n) (uprightSpots at))
-            ∙ (ap (take (c .n)) (spots-y (cornersOn horizontal (replicate 8 blankSpot)) at many)
+            ∙ (ap (take (c .n)) (spots-y (cornersOn horizontal (replicate 8 blankSpot)) at (sym many))
             ∙ ap (λ (m : ℕ). take m at) (sym (ok .macs))))
 
   -- what is found is the fit

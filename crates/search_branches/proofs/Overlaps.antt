@@ -1,14 +1,14 @@
 -- The pairs of a placement and their letters: a pair whose letter is kept and is no dot is apart, so a placement that keeps the letters is legal when each undecided pair is apart, and a pair that overlaps is undecided.
 use Prim.Native.Nat.{ℕ, zero, suc, _<_}
 use Prim.{tt}
-use mathlib.Core.Path.{_≡_, refl, ap, _∙_}
-use mathlib.Core.Bool.{Bool, true, false, _&&_, false≢true}
+use mathlib.Core.Path.{_≡_, refl}
+use mathlib.Core.Bool.{Bool, true, false, false≢true}
 use mathlib.Core.List.{List, [], _∷_}
 use native.Mathlib.Omega.{arith}
 use lib.ListN.{length, getD, set}
 use Rattle.model.specs.declared.Spot.{Spot}
 use Rattle.model.specs.Meaning.{Chip}
-use Rattle.text_grammar.proofs.Lacks.{and-left, and-right}
+use Rattle.text_grammar.proofs.Lacks.{and-left, and-right, and-both}
 use Rattle.geometry.specs.declared.Box.{Box}
 use Rattle.geometry.specs.Box.{apart}
 use Rattle.placement.specs.Legal.{within, legal}
@@ -17,9 +17,6 @@ use Rattle.placement.specs.Letters.{Letter, left, right, low, high, dot}
 use Rattle.placement.specs.Pairs.{keeps, Pair, pairs, keepsAll, keepsLetters}
 use Rattle.placement.proofs.Cover.{Says, NoDot, Kept, Some, keeps-apart, apart-keeps, legal-letters, letters-legal}
 use Rattle.search_branches.proofs.Replaces.{true-false}
-
-pub and-both : (p q : Bool) → p ≡ true → q ≡ true → (p && q) ≡ true
-and-both p q e f = ap (λ (t : Bool). t && q) e ∙ f
 
 -- the pair at place s is apart, d standing past the end
 abbrev pub apartAt : Chip → Pair → List Pair → ℕ → Bool

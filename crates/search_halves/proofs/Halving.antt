@@ -27,28 +27,11 @@ use Rattle.fit_slots.proofs.Pairs.{value-corner}
 use Rattle.fit_slots.proofs.Smallest.{letters-counted, fit-smallest}
 use Rattle.fit_slots.proofs.Fitting.{both-fit, neither-fits}
 use Rattle.axis_bounds.specs.Half.{HalfOn}
-use Rattle.search_halves.specs.Half.{Half, noHalf, half, IsHalf, spotsOf, joined}
+use Rattle.model.specs.Corners.{spotsOf}
+use Rattle.model.proofs.Corners.{spots-length, spots-x, spots-y}
+use Rattle.search_halves.specs.Half.{Half, noHalf, half, IsHalf, joined}
 
 -- ---- corners and coordinates
-
-spots-long : (xs ys : List ℕ) → length ys ≡ length xs → length (spotsOf xs ys) ≡ length xs
-unfolding spotsOf
-spots-long [] ys e = refl
-spots-long (x ∷ xs) [] e = absurd (omega arith)
-spots-long (x ∷ xs) (y ∷ ys) e = ap {B = ℕ} (λ (n : ℕ). suc n) (spots-long xs ys (omega arith))
-
-pub spots-x : (xs ys : List ℕ) → length ys ≡ length xs → cornersOn horizontal (spotsOf xs ys) ≡ xs
-unfolding spotsOf
-spots-x [] ys e = refl
-spots-x (x ∷ xs) [] e = absurd (omega arith)
-spots-x (x ∷ xs) (y ∷ ys) e = ap (λ (s : List ℕ). x ∷ s) (spots-x xs ys (omega arith))
-
-pub spots-y : (xs ys : List ℕ) → length ys ≡ length xs → cornersOn vertical (spotsOf xs ys) ≡ ys
-unfolding spotsOf
-spots-y [] [] e = refl
-spots-y [] (y ∷ ys) e = absurd (omega arith)
-spots-y (x ∷ xs) [] e = absurd (omega arith)
-spots-y (x ∷ xs) (y ∷ ys) e = ap (λ (s : List ℕ). y ∷ s) (spots-y xs ys (omega arith))
 
 same-numbers : (s t : List ℕ) → length s ≡ length t → ((i : ℕ) → getD s i 0 ≡ getD t i 0) → s ≡ t
 same-numbers [] [] e h = refl
@@ -88,15 +71,15 @@ module _ (c : Chip) (ls : List Letter) (v : Valid c) where
     both l xs m ys p q =
         let ex = axis-sizes horizontal xs (p .least .keeps) in let ey = axis-sizes vertical ys (q .least .keeps) in
         let e : length ys ≡ length xs = ey ∙ sym ex in
-        let f = both-fit c ls v el (spotsOf xs ys) (spots-long xs ys e ∙ ex) (each e) in
+        let f = both-fit c ls v el (spotsOf xs ys) (spots-length xs ys (sym e) ∙ ex) (each e) in
         f ∙ ap (λ (n : ℕ). found n (spotsOf xs ys))
-        (let a : lengthOn X (cornersOn horizontal (spotsOf xs ys)) ≡ lengthOn X xs = ap (lengthOn X) (spots-x xs ys e) in
-        let b : lengthOn Y (cornersOn vertical (spotsOf xs ys)) ≡ lengthOn Y ys = ap (lengthOn Y) (spots-y xs ys e) in
+        (let a : lengthOn X (cornersOn horizontal (spotsOf xs ys)) ≡ lengthOn X xs = ap (lengthOn X) (spots-x xs ys (sym e)) in
+        let b : lengthOn Y (cornersOn vertical (spotsOf xs ys)) ≡ lengthOn Y ys = ap (lengthOn Y) (spots-y xs ys (sym e)) in
         let g = p .long in let h = q .long in omega arith)
       where
         each : length ys ≡ length xs → (d : Direction) → LeastOn (axisFor d c ls) (cornersOn d (spotsOf xs ys))
-        each e horizontal = subst (LeastOn X) (sym (spots-x xs ys e)) (p .least)
-        each e vertical = subst (LeastOn Y) (sym (spots-y xs ys e)) (q .least)
+        each e horizontal = subst (LeastOn X) (sym (spots-x xs ys (sym e))) (p .least)
+        each e vertical = subst (LeastOn Y) (sym (spots-y xs ys (sym e))) (q .least)
 
     -- the fit is the two half fits, joined
     pub halves : (h k : Half) → IsHalf X h → IsHalf Y k → fitOf c ls ≡ joined h k
@@ -122,21 +105,21 @@ module _ (c : Chip) (ls : List Letter) (v : Valid c) where
     put vertical z = spotsOf (cornersOn horizontal ps) z
 
     put-long : (d : Direction) (z : List ℕ) → length z ≡ length (c .macs) → length (put d z) ≡ length (c .macs)
-    put-long horizontal z e = spots-long z (cornersOn vertical ps) (long vertical ∙ sym e) ∙ e
-    put-long vertical z e = spots-long (cornersOn horizontal ps) z (e ∙ sym (long horizontal)) ∙ long horizontal
+    put-long horizontal z e = spots-length z (cornersOn vertical ps) (e ∙ sym (long vertical)) ∙ e
+    put-long vertical z e = spots-length (cornersOn horizontal ps) z (long horizontal ∙ sym e) ∙ long horizontal
 
     module _ (z : List ℕ) (e : length z ≡ length (c .macs)) where
       x-x : cornersOn horizontal (put horizontal z) ≡ z
-      x-x = spots-x z (cornersOn vertical ps) (long vertical ∙ sym e)
+      x-x = spots-x z (cornersOn vertical ps) (e ∙ sym (long vertical))
 
       x-y : cornersOn vertical (put horizontal z) ≡ cornersOn vertical ps
-      x-y = spots-y z (cornersOn vertical ps) (long vertical ∙ sym e)
+      x-y = spots-y z (cornersOn vertical ps) (e ∙ sym (long vertical))
 
       y-x : cornersOn horizontal (put vertical z) ≡ cornersOn horizontal ps
-      y-x = spots-x (cornersOn horizontal ps) z (e ∙ sym (long horizontal))
+      y-x = spots-x (cornersOn horizontal ps) z (long horizontal ∙ sym e)
 
       y-y : cornersOn vertical (put vertical z) ≡ z
-      y-y = spots-y (cornersOn horizontal ps) z (e ∙ sym (long horizontal))
+      y-y = spots-y (cornersOn horizontal ps) z (long horizontal ∙ sym e)
 
     put-at : (d : Direction) (z : List ℕ) → length z ≡ length (c .macs) → cornersOn d (put d z) ≡ z
     put-at horizontal z e = x-x z e

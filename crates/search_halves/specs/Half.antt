@@ -1,8 +1,8 @@
 -- A direction's half of a fit: the least length and, of the coordinates that have it, the smallest, under that direction's bounds. Two halves
 -- joined are a placement with its length.
 use Prim.Native.Nat.{ℕ, _+_}
-use mathlib.Core.List.{List, [], _∷_}
-use Rattle.model.specs.declared.Spot.{Spot}
+use mathlib.Core.List.{List}
+use Rattle.model.specs.Corners.{spotsOf}
 use Rattle.placement.specs.Least.{Best, nothing, found}
 use Rattle.axis_bounds.specs.Axis.{Axis, Keeps}
 use Rattle.axis_bounds.specs.Half.{HalfOn}
@@ -18,12 +18,6 @@ pub data Half : Type 0 where
 abbrev pub IsHalf : Axis → Half → Type 0
 IsHalf a noHalf = (y : List ℕ) → Keeps a y → ⊥
 IsHalf a (half l z) = HalfOn a l z
-
--- corners from their x and their y
-unfoldable pub spotsOf : List ℕ → List ℕ → List Spot
-spotsOf [] ys = []
-spotsOf (x ∷ xs) [] = []
-spotsOf (x ∷ xs) (y ∷ ys) = record { x = x; y = y } ∷ spotsOf xs ys
 
 -- the placement of two halves, horizontal and vertical; its length is their sum
 abbrev pub joined : Half → Half → Best

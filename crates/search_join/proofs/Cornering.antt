@@ -1,7 +1,7 @@
 -- Corners and their coordinates in a direction: written one by one, replaced in one direction, and the first of them.
-use Prim.Native.Nat.{ℕ, zero, suc, _+_, _≤_, _<_}
-use mathlib.Core.Path.{_≡_, refl, sym, ap, _∙_}
-use mathlib.Core.List.{List, [], _∷_}
+use Prim.Native.Nat.{ℕ, _+_, _≤_, _<_}
+use mathlib.Core.Path.{_≡_, sym, ap, _∙_}
+use mathlib.Core.List.{List}
 use native.Mathlib.Decide.{ℕ-discrete}
 use native.Mathlib.Omega.{arith}
 use lib.ListN.{length, getD, take, set, length-set, length-map, List·getD-map}
@@ -12,8 +12,8 @@ use Rattle.fit_slots.specs.declared.Direction.{Direction}
 use Rattle.fit_slots.specs.declared.Direction.the-variants.{Horizontal as horizontal, Vertical as vertical}
 use Rattle.fit_slots.specs.Axes.{cornerOn, cornersOn}
 use Rattle.fit_axes.proofs.Copies.{map-take, Copied, copied-more}
-use Rattle.search_halves.specs.Half.{spotsOf}
-use Rattle.search_halves.proofs.Halving.{spots-x}
+use Rattle.model.specs.Corners.{spotsOf}
+use Rattle.model.proofs.Corners.{spots-length, spots-each, take-spots}
 use Rattle.search_join.specs.Joined.{spotWith, spotsWith}
 
 -- ---- the coordinates of corners
@@ -28,30 +28,11 @@ corner-at : (d : Direction) (ps : List Spot) (i : ℕ) → getD (cornersOn d ps)
 corner-at horizontal ps i = List·getD-map (cornerOn horizontal) ps i blankSpot
 corner-at vertical ps i = List·getD-map (cornerOn vertical) ps i blankSpot
 
--- ---- corners from coordinates
-
-spots-long : (xs ys : List ℕ) → length ys ≡ length xs → length (spotsOf xs ys) ≡ length xs
-spots-long xs ys e = sym (length-map (spotsOf xs ys) (cornerOn horizontal)) ∙ ap (λ (s : List ℕ). length s) (spots-x xs ys e)
-
-spots-each : (xs ys : List ℕ) (j : ℕ) → j < length xs → j < length ys → getD (spotsOf xs ys) j blankSpot ≡ record { x = getD xs j 0; y = getD ys j 0 }
-unfolding spotsOf
-spots-each [] ys j g h = absurd (omega arith)
-spots-each (x ∷ xs) [] j g h = absurd (omega arith)
-spots-each (x ∷ xs) (y ∷ ys) zero g h = refl
-spots-each (x ∷ xs) (y ∷ ys) (suc j) g h = spots-each xs ys j (omega arith) (omega arith)
-
-take-spots : (n : ℕ) (xs ys : List ℕ) → take n (spotsOf xs ys) ≡ spotsOf (take n xs) (take n ys)
-unfolding spotsOf
-take-spots zero xs ys = refl
-take-spots (suc n) [] ys = refl
-take-spots (suc n) (x ∷ xs) [] = refl
-take-spots (suc n) (x ∷ xs) (y ∷ ys) = ap (λ (r : List Spot). record { x = x; y = y } ∷ r) (take-spots n xs ys)
-
 -- ---- corners with other coordinates in a direction
 
 with-long : (d : Direction) (at : List ℕ) (ps : List Spot) → length at ≡ length ps → length (spotsWith d at ps) ≡ length ps
-with-long horizontal at ps e = let m = length-map ps (cornerOn vertical) in spots-long at (cornersOn vertical ps) (m ∙ sym e) ∙ e
-with-long vertical at ps e = let m = length-map ps (cornerOn horizontal) in spots-long (cornersOn horizontal ps) at (e ∙ sym m) ∙ m
+with-long horizontal at ps e = let m = length-map ps (cornerOn vertical) in spots-length at (cornersOn vertical ps) (e ∙ sym m) ∙ e
+with-long vertical at ps e = let m = length-map ps (cornerOn horizontal) in spots-length (cornersOn horizontal ps) at (m ∙ sym e) ∙ m
 
 pub take-with : (d : Direction) (n : ℕ) (at : List ℕ) (ps : List Spot) → take n (spotsWith d at ps) ≡ spotsWith d (take n at) (take n ps)
 take-with horizontal n at ps = take-spots n at (cornersOn vertical ps) ∙ ap (spotsOf (take n at)) (take-corners vertical n ps)

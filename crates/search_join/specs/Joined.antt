@@ -18,7 +18,8 @@ use Rattle.fit_slots.specs.declared.Direction.{Direction}
 use Rattle.fit_slots.specs.declared.Direction.the-variants.{Horizontal as horizontal, Vertical as vertical}
 use Rattle.fit_slots.specs.Axes.{axisFor, cornersOn}
 use Rattle.search_branches.specs.Branch.{inBranch}
-use Rattle.search_halves.specs.Half.{spotsOf, otherWay}
+use Rattle.model.specs.Corners.{spotsOf}
+use Rattle.search_halves.specs.Half.{otherWay}
 use Rattle.search_halves.specs.Result.{placed, NotAfter}
 use Rattle.half_fit.specs.declared.service.HalfFit.{HalfFit}
 use Rattle.half_fit.specs.declared.service.HalfOutcome.{HalfOutcome}

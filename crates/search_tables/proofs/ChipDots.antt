@@ -11,7 +11,6 @@ use Rattle.model.specs.declared.Mac.{Mac}
 use Rattle.model.specs.declared.Chip.{Chip as HeldChip}
 use Rattle.model.specs.Meaning.{firstOf, blankMac, chipOf}
 use Rattle.model.proofs.FirstOf.{getD-first}
-use Rattle.chip_text.specs.Valid.{ValidMac}
 use Rattle.chip_text.specs.Passed.{Passed}
 use Rattle.placement.specs.Letters.{Letter, dot}
 use Rattle.axis_bounds.specs.Axis.{Keeps, KeepsSlot, valueAt, noSlot}
@@ -21,7 +20,7 @@ use Rattle.fit_slots.specs.Slots.{dieSide, macSide, asked, couples}
 use Rattle.fit_slots.specs.Fit.{letterCount}
 use Rattle.fit_slots.specs.Axes.{heldSlot, heldSlots, axisFor}
 use Rattle.fit_slots.proofs.Counting.{letters-count, held-count}
-use Rattle.fit_slots.proofs.Fineness.{die-most}
+use Rattle.fit_slots.proofs.Fineness.{mac-side, die-most}
 use Rattle.search_halves.specs.Kept.{noCouple}
 use Rattle.half_arrays.specs.Arrays.{raised, boundAt, KeepsTo}
 use Rattle.search_tables.specs.Tables.{padded, Arced}
@@ -33,10 +32,6 @@ use Rattle.search_tables.proofs.LetterBounds.{slots-at, asks-nothing, n
 size-at : (d : Direction) (ms : List Mac) (i : ℕ) → getD (map (macSide d) ms) i 0 ≡ macSide d (getD ms i blankMac)
 size-at horizontal ms i = List·getD-map (macSide horizontal) ms i blankMac
 size-at vertical ms i = List·getD-map (macSide vertical) ms i blankMac
-
-size-most : (d : Direction) (m : Mac) → ValidMac m → macSide d m ≤ 1024
-size-most horizontal m v = v .w .high
-size-most vertical m v = v .h .high
 
 module _ (c : HeldChip) (pass : Passed c) (d : Direction) where
   abbrev dots : List Letter
@@ -61,7 +56,7 @@ module _ (c : HeldChip) (pass : Passed c) (d : Direction) where
   sizes-same i l = size-at d (firstOf blankMac (c .n) (c .macs)) i ∙ (ap (macSide d) (getD-first blankMac (c .n) (c .macs) i l) ∙ sym (size-at d (c .macs) i))
 
   sizes-most : (i : ℕ) → i < c .n → getD ws i 0 ≤ 1024
-  sizes-most i l = let a = size-at d (c .macs) i in let b = size-most d (getD (c .macs) i blankMac) (pass .fine .mac i l) in omega arith
+  sizes-most i l = let a = size-at d (c .macs) i in let b = mac-side d (getD (c .macs) i blankMac) (pass .fine .mac i l) in omega arith
 
   sizes-long : length (map (macSide d) (chipOf c .macs)) ≡ c .n
   sizes-long = length-map (chipOf c .macs) (macSide d) ∙ pass .macs

@@ -12,7 +12,7 @@ use Rattle.model.specs.declared.Pin.{Pin as HeldPin}
 use Rattle.model.specs.declared.Chip.{Chip as HeldChip}
 use Rattle.model.specs.Meaning.{firstOf, blankNet, blankPin, pinOf, pinsOf, netsOf, chipOf}
 use Rattle.model.proofs.FirstOf.{length-first, getD-first}
-use Rattle.model.proofs.Nets.{length-pins}
+use Rattle.model.proofs.Nets.{length-pins, length-nets}
 use Rattle.chip_text.specs.Valid.{HeldValidPin, noNet, pinsBefore}
 use Rattle.chip_text.specs.Passed.{Passed}
 use Rattle.chip_text.proofs.HeldNets.{pins-before-more, pins-before-up, before-first, getD-weight, getD-net}
@@ -52,11 +52,6 @@ axis-pin-at d (p ∷ ps) (suc i) l = axis-pin-at d ps i (omega arith)
 net-at : (d : Direction) (ts : List HeldNet) (ps : List HeldPin) (j : ℕ) → getD (map (axisNet d) (netsOf ts ps)) j bareNet ≡ axisNet d (getD (netsOf ts ps) j noNet)
 net-at d ts ps j = List·getD-map (axisNet d) (netsOf ts ps) j noNet
 
-nets-count : (ts : List HeldNet) (ps : List HeldPin) → length (netsOf ts ps) ≡ length ts
-unfolding netsOf
-nets-count [] ps = refl
-nets-count (t ∷ ts) ps = let q = nets-count ts (drop (t .pins) ps) in omega arith
-
 -- ---- the nets of a chip
 
 module _ (c : HeldChip) (pass : Passed c) (w : Whole c) (d : Direction) where
@@ -68,7 +63,7 @@ module _ (c : HeldChip) (pass : Passed c) (w : Whole c) (d : Direction) where
 
   us-long : length us ≡ c .t
   us-long =
-      let a = length-map (netsOf F (c .pins)) (axisNet d) in let b = nets-count F (c .pins) in
+      let a = length-map (netsOf F (c .pins)) (axisNet d) in let b = length-nets F (c .pins) in
       let e = w .nets in let g = pass .fine .netCount in
       let h = length-first blankNet (c .t) (c .nets) (omega arith) in
       omega arith

@@ -6,6 +6,7 @@ use native.Mathlib.Decide.{decLt}
 use native.Mathlib.Omega.{arith}
 use lib.ListN.{length, getD, take, replicate, length-append, length-replicate, List·getD-eq-default, length-take}
 use lib.Seq.{getD-take}
+use Rattle.num_laws.proofs.Stores.{zero-at}
 use Rattle.model.specs.Meaning.{Pin, Net, Chip}
 use Rattle.chip_text.specs.Valid.{ValidPin, ValidNet, Valid, noPin, noNet}
 use Rattle.axis_bounds.specs.Axis.{valueAt, places, netsLength}
@@ -26,13 +27,8 @@ take-least n z i = by (decLt i n)
     by (yes l) = let q = getD-take n z i 0 l in omega arith
     by (no l) = let e = length-take n z in let q = List·getD-eq-default (take n z) 0 {n = i} (omega arith) in omega arith
 
-pub zeros-at : (m i : ℕ) → _≡_ {A = ℕ} (getD (replicate m 0) i 0) 0
-zeros-at zero i = refl
-zeros-at (suc m) zero = refl
-zeros-at (suc m) (suc i) = zeros-at m i
-
 followed : (y : List ℕ) (m i : ℕ) → getD (y ++ replicate m 0) i 0 ≡ getD y i 0
-followed [] m i = zeros-at m i
+followed [] m i = zero-at m i
 followed (a ∷ y) m zero = refl
 followed (a ∷ y) m (suc i) = followed y m i
 

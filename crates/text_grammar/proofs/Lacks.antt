@@ -15,6 +15,9 @@ pub and-right : (a b : Bool) → (a && b) ≡ true → b ≡ true
 and-right true b e = e
 and-right false b e = absurd (false≢true e)
 
+pub and-both : (a b : Bool) → a ≡ true → b ≡ true → (a && b) ≡ true
+and-both a b e f = rw (e, f)
+
 pub all-append : (p : ℕ → Bool) (s t : List ℕ) → allOf p s ≡ true → allOf p t ≡ true → allOf p (s ++ t) ≡ true
 unfolding allOf
 all-append p [] t h g = g

@@ -1,5 +1,5 @@
 use borrow.Author.Needs.{needs}
-use Rattle.host_lists.proofs.CornersStored.{set-past}
+use Rattle.num_laws.proofs.Stores.{set-past}
 use Rattle.host_lists.proofs.put.Statement.{statement}
 use Rattle.host_lists.proofs.put.Tie as tie
 

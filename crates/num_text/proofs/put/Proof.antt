@@ -1,5 +1,5 @@
 -- One byte: past the end nothing is written.
-use Rattle.num_text.proofs.Writing.{past}
+use Rattle.num_laws.proofs.Stores.{set-past}
 use borrow.Author.Needs.{needs}
 use Rattle.num_text.proofs.put.Statement.{statement}
 use Rattle.num_text.proofs.put.Tie as tie
@@ -20,10 +20,10 @@ add-result-2 : tie.Need-add-result-2
 add-result-2 c = search needs
 
 returns-2 : tie.Need-returns-2
-returns-2 c = search (needs, past)
+returns-2 c = search (needs, set-past)
 
 returns-3 : tie.Need-returns-3
-returns-3 c = search (needs, past)
+returns-3 c = search (needs, set-past)
 
 pub put-spec : {M : Type 1} → statement M
 put-spec =
