@@ -13,7 +13,8 @@ use Rattle.placement.specs.Pairs.{Pair, pairs, keepsAll, keepsLetters}
 use Rattle.search_branches.specs.Branch.{inBranch}
 use Rattle.search_branches.proofs.Unions.{passes-long}
 use Rattle.search_branches.proofs.Closing.{legal-inside}
-use Rattle.search_branches.proofs.Overlaps.{and-both}
+use Rattle.text_grammar.proofs.Lacks.{and-both}
+use Rattle.search_branches.proofs.Overlaps.{}
 
 pub same-test : (p q : Bool) → (p ≡ true → q ≡ true) → (q ≡ true → p ≡ true) → p ≡ q
 same-test true q f g = sym (f refl)

@@ -10,7 +10,7 @@ use lib.ListN.{length, set}
 use Rattle.model.specs.declared.Spot.{Spot}
 use Rattle.model.specs.Meaning.{Chip}
 use Rattle.chip_text.specs.Valid.{Valid}
-use Rattle.text_grammar.proofs.Lacks.{and-left, and-right}
+use Rattle.text_grammar.proofs.Lacks.{and-left, and-right, and-both}
 use Rattle.placement.specs.Legal.{legal}
 use Rattle.placement.specs.Length.{wirelength}
 use Rattle.placement.specs.Order.{before}
@@ -28,7 +28,7 @@ use Rattle.fit_slots.proofs.Lengths.{lengths-split}
 use Rattle.search_branches.specs.Branch.{replaces, pick, better, inBranch}
 use Rattle.search_branches.proofs.Replaces.{true-false, not-true-false, replaces-says}
 use Rattle.search_branches.proofs.Betters.{Sized}
-use Rattle.search_branches.proofs.Overlaps.{and-both, keepsAt, keeps-set}
+use Rattle.search_branches.proofs.Overlaps.{keepsAt, keeps-set}
 use Rattle.search_branches.proofs.Unions.{Stands, passes-long, earliest-stands}
 use Rattle.search_branches.proofs.Closing.{legal-inside, branch-inside, fit-sized, fit-first}
 use Rattle.search_halves.specs.Half.{otherWay}

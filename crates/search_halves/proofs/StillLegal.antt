@@ -12,14 +12,13 @@ use Rattle.num_text.specs.Number.{allOf}
 use Rattle.model.specs.declared.Mac.{Mac}
 use Rattle.model.specs.declared.Spot.{Spot}
 use Rattle.model.specs.Meaning.{Chip, blankMac, blankSpot}
-use Rattle.text_grammar.proofs.Lacks.{and-left, and-right}
+use Rattle.text_grammar.proofs.Lacks.{and-left, and-right, and-both}
 use Rattle.geometry.specs.declared.Box.{Box}
 use Rattle.geometry.specs.Box.{boxAt, blankBox, clearOf, apart, inDie}
 use Rattle.geometry.proofs.Swap.{apart-swap}
 use Rattle.placement.proofs.Boxes.{boxes-long, boxes-at}
 use Rattle.placement.specs.Legal.{boxes, fixBoxes, allApart, within, legal}
 use Rattle.placement.specs.Integers.{gapOf}
-use Rattle.search_branches.proofs.Overlaps.{and-both}
 use Rattle.search_halves.specs.Exchange.{turned, exchanged}
 use Rattle.search_halves.proofs.Exchanging.{by-turned, turned-below, turned-apart, exchanged-long, exchanged-at}
 

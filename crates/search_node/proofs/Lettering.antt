@@ -9,11 +9,10 @@ use lib.ListN.{length, take, set, replicate, length-map}
 use lib.Seq.{take-set-lt, length-take-le, set-out}
 use Rattle.num_text.specs.Number.{allOf}
 use Rattle.model.specs.declared.Chip.{Chip as HeldChip}
-use Rattle.text_grammar.proofs.Lacks.{and-left, and-right}
+use Rattle.text_grammar.proofs.Lacks.{and-left, and-right, and-both}
 use Rattle.placement.specs.Letters.{Letter, dot}
 use Rattle.fit_slots.specs.Fit.{isLetter, areLetters, letterOf}
 use Rattle.search_branches.specs.Branch.{isDot}
-use Rattle.search_branches.proofs.Overlaps.{and-both}
 use Rattle.search_node.specs.Letters.{byteOf, lettersIn, Lettered}
 
 map-set : {A B : Type 0} (f : A → B) (l : List A) (i : ℕ) (a : A) → map f (set l i a) ≡ set (map f l) i (f a)

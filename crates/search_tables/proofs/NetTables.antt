@@ -23,7 +23,7 @@ use Rattle.fit_slots.specs.declared.Direction.{Direction}
 use Rattle.half_arrays.specs.Arrays.{weightAt, entryCount}
 use Rattle.search_numbers.specs.declared.Span.{Span}
 use Rattle.search_tables.specs.Entries.{pinsOn, startOf, Lies, Spans, withEntry, Entered, onNodes, Few, SameRest, Weighed, NetsIn, NetPut}
-use Rattle.search_tables.proofs.Padding.{zeros-at}
+use Rattle.num_laws.proofs.Stores.{zero-at}
 use Rattle.search_tables.proofs.Entering.{PinsWithin, entered-store, entered-none, entered-rest, entered-more}
 
 -- ---- how many
@@ -185,7 +185,7 @@ module _ (d : Direction) (nets : List Net) (pins : List Pin) where
   unfolding weightAt pinsBefore
   nets-none tab e = rw e (record {
     entered = record { long = length-replicate {A = ℕ} 1024 0; backed = λ x l. absurd (omega arith); stood = λ a i g h l. absurd (omega arith) };
-    weighed = record { here = λ a l. absurd (omega arith); past = λ a l g. rw (zeros-at 1024 (576 + a % 64)) };
+    weighed = record { here = λ a l. absurd (omega arith); past = λ a l g. rw (zero-at 1024 (576 + a % 64)) };
     few = omega arith;
   })
 
