@@ -3,3 +3,4 @@ pub mod Words
 pub mod Reading
 pub mod Writing
 pub mod Steps
+pub mod Choice
