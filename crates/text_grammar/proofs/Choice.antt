@@ -25,7 +25,6 @@ module _ (other : ℕ) where
     pub told-absent : (v : ℕ) (t : Bool) → t ≡ eqb v absentHeld → t ≡ isAbsent other v
     told-absent v t e = rw (ne-eqb other 0 h) e
 
-
 pub absent-is : (other : ℕ) → eqb other 0 ≡ false → isAbsent other absentHeld ≡ true
 absent-is other h = rw h
 

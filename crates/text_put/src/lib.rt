@@ -43,7 +43,15 @@ fn put_word(out: &mut [u8], at: usize, bytes: [u8; 5], size: usize) -> usize
 }
 
 // The same for a field: the first `size` bytes of its mark, then its value v, held `up` higher; nothing for one that is absent.
-fn put_field(out: &mut [u8], at: usize, mark: [u8; 4], size: usize, up: u64, v: u64, absent: bool) -> usize
+fn put_field(
+    out: &mut [u8],
+    at: usize,
+    mark: [u8; 4],
+    size: usize,
+    up: u64,
+    v: u64,
+    absent: bool,
+) -> usize
     ensures { λ r. ⌜ Wrote (now (out .entry)) (now (out .exit)) (pick absent [] (take size mark ++ numberText (lowered up v))) at r ⌝ }
 {
     if absent {
