@@ -1,6 +1,6 @@
 -- The sample layouts are their forms, within the limits.
 use mathlib.Core.Path.{_≡_, refl}
-use mathlib.Core.List.{List, [], _∷_}
+use mathlib.Core.List.{[], _∷_}
 use Rattle.text_line.specs.declared.Rule.{Rule}
 use Rattle.text_line.specs.Layout.{noRule, withOther, shortRule, formAt, isLayout, layoutFor}
 use Rattle.text_line.proofs.Layouts.{Laying}

@@ -3,7 +3,7 @@ use Prim.Native.Nat.{ℕ}
 use mathlib.Core.List.{List, [], _∷_}
 use lib.IntN.{pos, negsuc}
 use Rattle.model.specs.Limits.{Range}
-use Rattle.text_grammar.specs.Line.{Form, over, one, either, named, field, numbers}
+use Rattle.text_grammar.specs.Line.{Form, over, either, named, field, numbers}
 
 -- `net`, `at`
 abbrev pub netName : List ℕ

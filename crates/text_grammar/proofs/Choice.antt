@@ -1,12 +1,12 @@
 -- A choice in a line, in the form of the needs of the functions that follow it; and that no number of a field stands for an absent one.
 use mathlib.Core.Path.{_≡_, refl, _∙_}
 use mathlib.Core.Bool.{Bool, true, false, not, and-false}
-use Prim.Native.Nat.{ℕ, _+_, _-_, _≤_, _<_, min}
+use Prim.Native.Nat.{ℕ, _+_, _-_, _≤_, _<_}
 use native.Mathlib.Omega.{arith}
 use lib.Dec.{eqb}
 use borrow.Author.Tests.{eq-eqb, ne-eqb, not-true, not-false}
 use Rattle.num_text.specs.Held.{cap}
-use Rattle.text_grammar.specs.Choice.{ruleRoom, absentHeld, nameFault, isAbsent, ruleStep, nextPlace}
+use Rattle.text_grammar.specs.Choice.{ruleRoom, absentHeld, nameFault, isAbsent, nextPlace}
 
 module _ (other : ℕ) where
   -- a field that must stand here

@@ -1,5 +1,5 @@
 -- The steps of the reader of a line's fields: what its loop keeps, and each answer.
-use mathlib.Core.Path.{_≡_, refl, sym, ap, ap₂, subst, _∙_}
+use mathlib.Core.Path.{_≡_, refl, sym, ap, subst, _∙_}
 use mathlib.Core.List.{List, [], _∷_, _++_, append-assoc, append-nil}
 use Prim.Native.Nat.{ℕ, zero, suc, _+_, _-_, _≤_, _<_}
 use native.Mathlib.Numerals.{add-one}
@@ -28,7 +28,7 @@ use Rattle.text_line.specs.declared.Field.the-variants as field
 use Rattle.text_line.specs.declared.Fields.the-variants as held
 use Rattle.text_line.specs.declared.FieldsRead.{FieldsRead}
 use Rattle.text_line.specs.Held.{lowered}
-use Rattle.text_line.specs.Layout.{ruleAt, pick, wayOf, formAt, valueIn, placeAfter, valuesAt, numberFor, numbersAt, formOf, valuesOf, isLayout, Laid, located, refusedFields, readFields, FieldsOk}
+use Rattle.text_line.specs.Layout.{ruleAt, pick, wayOf, formAt, valueIn, placeAfter, valuesAt, numberFor, numbersAt, formOf, valuesOf, isLayout, Laid, located, readFields, FieldsOk}
 use Rattle.text_line.proofs.Ways.{form-ends, values-end, form-goes-on, values-go-on, way-taken}
 use Rattle.text_line.specs.Steps.{Got, Faulty, FieldOk, endAnswer}
 

@@ -1,22 +1,21 @@
 -- The fields of a line written one after the other, in the form of the needs.
 use mathlib.Core.Path.{_≡_, refl, sym, ap, _∙_}
-use mathlib.Core.Bool.{Bool, true, false, not, _&&_, true≢false}
+use mathlib.Core.Bool.{Bool, true, false, true≢false}
 use mathlib.Core.List.{List, [], _∷_, _++_, append-assoc, append-nil}
 use Prim.Native.Nat.{ℕ, zero, suc, _+_, _-_, _≤_, _<_, _^_}
 use native.Mathlib.Numerals.{add-one}
 use native.Mathlib.Omega.{arith}
 use borrow.Author.Tests.{le-ltb}
-use lib.Dec.{eqb}
 use lib.IntN.{pos, subℕ}
 use lib.ListN.{length, getD, take}
 use Rattle.num_text.specs.Number.{numberText}
 use Rattle.num_text.specs.Held.{Wrote}
 use Rattle.num_text.proofs.Wrote.{wrote-none, wrote-then}
 use Rattle.text_grammar.specs.Line.{Value, number, absent, Form, one, either, over, fieldsText}
-use Rattle.text_grammar.specs.Choice.{absentHeld, isAbsent, nextPlace}
+use Rattle.text_grammar.specs.Choice.{isAbsent, nextPlace}
 use Rattle.text_line.specs.declared.Rule.{Rule as HeldRule}
 use Rattle.text_line.specs.Held.{lowered}
-use Rattle.text_line.specs.Layout.{markOf, ruleOf, ruleAt, mustStand, pick, wayOf, formAt, valueIn, placeAfter, valuesAt, formOf, valuesOf}
+use Rattle.text_line.specs.Layout.{markOf, ruleOf, ruleAt, mustStand, pick, formAt, placeAfter, valuesAt, formOf, valuesOf}
 use Rattle.text_line.proofs.Ways.{form-ends, form-goes-on, values-go-on, way-taken}
 
 -- ---- one field
