@@ -28,7 +28,7 @@ use Rattle.model.proofs.Tests.{refused, kept}
 use Rattle.text_grammar.specs.Steps.{ReadAs}
 use Rattle.text_grammar.proofs.FieldsText.{fields-written}
 use Rattle.text_grammar.proofs.Values.{Passing, passing}
-use Rattle.text_line.specs.Held.{loweredAll}
+use Rattle.text_line.specs.Layout.{valuesAt}
 use Rattle.chip_text.specs.declared.ChipWord.{ChipWord}
 use Rattle.chip_text.specs.declared.ChipWord.the-variants as word
 use Rattle.chip_text.specs.Words.{form, chipWords}
@@ -81,35 +81,35 @@ never t a m h q e = absurd (true≢false (sym h ∙ refused t a (sym q ∙ e)))
 
 module _ (v : List ℕ) (four : length v ≡ 4) (s : State) (r : Taken) (l : ℕ) where
   pub die-never : ReadAs chipWords word.Die (chipValues word.Die v) → (m : DieMade) → meantDie m ≡ makeDie (getD v 0 0) (getD v 1 0) → m ≡ die.Outside → TakenOk r l (add (partOf s) word.Die (chipValues word.Die v))
-  unfolding loweredAll
+  unfolding valuesAt
   die-never i m e q =
       never (dieTest (getD v 0 0) (getD v 1 0)) _ (meantDie m)
       (by-four (λ u. Passing (form word.Die) (chipValues word.Die u) → dieTest (getD u 0 0) (getD u 1 0) ≡ true) (λ a b c d p. rw (p .0, p .1 .0)) v four (passed word.Die v i))
       (ap meantDie q) e
 
   pub fix-never : ReadAs chipWords word.Fix (chipValues word.Fix v) → (m : FixMade) → meantFix m ≡ makeFix (getD v 0 0) (getD v 1 0) (getD v 2 0) (getD v 3 0) → m ≡ fix.Outside → TakenOk r l (add (partOf s) word.Fix (chipValues word.Fix v))
-  unfolding loweredAll
+  unfolding valuesAt
   fix-never i m e q =
       never (fixTest (getD v 0 0) (getD v 1 0) (getD v 2 0) (getD v 3 0)) _ (meantFix m)
       (by-four (λ u. Passing (form word.Fix) (chipValues word.Fix u) → fixTest (getD u 0 0) (getD u 1 0) (getD u 2 0) (getD u 3 0) ≡ true) (λ a b c d p. rw (p .0, p .1 .0, p .1 .1 .0, p .1 .1 .1 .0)) v four (passed word.Fix v i))
       (ap meantFix q) e
 
   pub mac-never : ReadAs chipWords word.Mac (chipValues word.Mac v) → (m : MacMade) → meantMac m ≡ makeMac (getD v 0 0) (getD v 1 0) → m ≡ mac.Outside → TakenOk r l (add (partOf s) word.Mac (chipValues word.Mac v))
-  unfolding loweredAll
+  unfolding valuesAt
   mac-never i m e q =
       never (macTest (getD v 0 0) (getD v 1 0)) _ (meantMac m)
       (by-four (λ u. Passing (form word.Mac) (chipValues word.Mac u) → macTest (getD u 0 0) (getD u 1 0) ≡ true) (λ a b c d p. rw (p .0, p .1 .0)) v four (passed word.Mac v i))
       (ap meantMac q) e
 
   pub net-never : ReadAs chipWords word.Net (chipValues word.Net v) → (m : NetMade) → meantNet m ≡ makeNet (getD v 0 0) 0 → m ≡ net.Outside → TakenOk r l (add (partOf s) word.Net (chipValues word.Net v))
-  unfolding loweredAll
+  unfolding valuesAt
   net-never i m e q =
       never (isWithin netWeight (pos (getD v 0 0))) _ (meantNet m)
       (by-four (λ u. Passing (form word.Net) (chipValues word.Net u) → isWithin netWeight (pos (getD u 0 0)) ≡ true) (λ a b c d p. p .0) v four (passed word.Net v i))
       (ap meantNet q) e
 
   pub pin-never : ReadAs chipWords word.Pin (chipValues word.Pin v) → (m : PinMade) → meantPin m ≡ remakePin (heldPin v) → m ≡ pin.Outside → TakenOk r l (add (partOf s) word.Pin (chipValues word.Pin v))
-  unfolding loweredAll
+  unfolding valuesAt
   pin-never i m e q =
       never (pinTest (heldPin v)) _ (meantPin m)
       (by-four (λ u. Passing (form word.Pin) (chipValues word.Pin u) → pinTest (heldPin u) ≡ true) (λ a b c d p. rw (p .0, p .1 .0, p .1 .1 .0)) v four (passed word.Pin v i))

@@ -11,7 +11,7 @@ use Rattle.model.specs.declared.Pin.{Pin as HeldPin}
 use Rattle.chip_text.specs.declared.ChipWord.the-variants as word
 use Rattle.model.specs.Meaning.{pinOf}
 use Rattle.text_grammar.specs.Words.{size}
-use Rattle.text_line.specs.Held.{loweredAll}
+use Rattle.text_line.specs.Layout.{valuesAt}
 use Rattle.chip_read.specs.State.{chipValues}
 use Rattle.chip_text.specs.Kind.{dieOf, fixOf, macOf, pinOf as pinIn}
 
@@ -41,21 +41,21 @@ module _ (v : List ℕ) where
 -- ---- what the values mean
 
 pub die-values : (v : List ℕ) → length v ≡ 4 → dieOf (chipValues word.Die v) ≡ heldDie v
-unfolding loweredAll
+unfolding valuesAt
 die-values = by-four (λ v. dieOf (chipValues word.Die v) ≡ heldDie v) (λ a b c d. refl)
 
 pub fix-values : (v : List ℕ) → length v ≡ 4 → fixOf (chipValues word.Fix v) ≡ heldFix v
-unfolding loweredAll
+unfolding valuesAt
 fix-values = by-four (λ v. fixOf (chipValues word.Fix v) ≡ heldFix v) (λ a b c d. refl)
 
 pub mac-values : (v : List ℕ) → length v ≡ 4 → macOf (chipValues word.Mac v) ≡ heldMac v
-unfolding loweredAll
+unfolding valuesAt
 mac-values = by-four (λ v. macOf (chipValues word.Mac v) ≡ heldMac v) (λ a b c d. refl)
 
 pub net-values : (v : List ℕ) → length v ≡ 4 → size (chipValues word.Net v) 0 ≡ getD v 0 0
-unfolding loweredAll
+unfolding valuesAt
 net-values = by-four (λ v. size (chipValues word.Net v) 0 ≡ getD v 0 0) (λ a b c d. refl)
 
 pub pin-values : (v : List ℕ) → length v ≡ 4 → pinIn (chipValues word.Pin v) ≡ pinOf (heldPin v)
-unfolding loweredAll
+unfolding valuesAt
 pin-values = by-four (λ v. pinIn (chipValues word.Pin v) ≡ pinOf (heldPin v)) (λ a b c d. refl)

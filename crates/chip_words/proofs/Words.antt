@@ -5,7 +5,7 @@ use mathlib.Core.List.{[], _∷_}
 use Rattle.text_line.specs.declared.Rule.{Rule}
 use Rattle.text_line.specs.declared.Layout.{Layout}
 use Rattle.text_line.specs.Held.{spelled}
-use Rattle.text_line.specs.Layout.{chain, allSane, isLayout, formOf, shortRule, laidOut, layoutFor}
+use Rattle.text_line.specs.Layout.{formAt, isLayout, formOf, shortRule, laidOut, layoutFor}
 use Rattle.text_line.proofs.Layouts.{Laying}
 use Rattle.chip_text.specs.declared.ChipWord.{ChipWord}
 use Rattle.chip_text.specs.declared.ChipWord.the-variants as word
@@ -25,17 +25,17 @@ net-laid w e a r p q = q ∙ rw (p, e)
 
 -- ---- the layout of a word is its form, within the limits
 
-chain-of : (w : ChipWord) → formOf (layoutFor (form w) .count) (layoutFor (form w) .rules) ≡ form w
-unfolding chain
-chain-of word.Die = refl
-chain-of word.Fix = refl
-chain-of word.Mac = refl
-chain-of word.Net = refl
-chain-of word.Pin = refl
-chain-of word.End = refl
+form-of : (w : ChipWord) → formOf (layoutFor (form w) .rules) ≡ form w
+unfolding formAt
+form-of word.Die = refl
+form-of word.Fix = refl
+form-of word.Mac = refl
+form-of word.Net = refl
+form-of word.Pin = refl
+form-of word.End = refl
 
-layout-of : (w : ChipWord) → isLayout (layoutFor (form w) .count) (layoutFor (form w) .rules) ≡ true
-unfolding allSane
+layout-of : (w : ChipWord) → isLayout (layoutFor (form w) .rules) ≡ true
+unfolding isLayout
 layout-of word.Die = refl
 layout-of word.Fix = refl
 layout-of word.Mac = refl
@@ -44,4 +44,4 @@ layout-of word.Pin = refl
 layout-of word.End = refl
 
 pub laying : (w : ChipWord) → Laying (form w)
-laying w = record { means = chain-of w; fine = layout-of w }
+laying w = record { means = form-of w; fine = layout-of w }

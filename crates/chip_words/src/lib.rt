@@ -98,8 +98,7 @@ fn sides(least: u64, most: u64) -> Layout
     let h = text_line::short_rule(b'h', 0, least, most);
     let none = text_line::no_rule();
     Layout {
-        count: 2,
-        rules: [w, h, none, none],
+        rules: [w, h, none, none, none, none],
     }
 }
 
@@ -111,9 +110,9 @@ fn fix_fields() -> Layout
     let y = text_line::short_rule(b'y', 0, 0, Fix::CORNER_MOST);
     let w = text_line::short_rule(b'w', 0, Fix::SIDE_LEAST, Fix::SIDE_MOST);
     let h = text_line::short_rule(b'h', 0, Fix::SIDE_LEAST, Fix::SIDE_MOST);
+    let none = text_line::no_rule();
     Layout {
-        count: 4,
-        rules: [x, y, w, h],
+        rules: [x, y, w, h, none, none],
     }
 }
 
@@ -126,8 +125,7 @@ fn pin_fields() -> Layout
     let y = text_line::short_rule(b'y', Pin::UP, Pin::LEAST_UP, Pin::MOST_UP);
     let none = text_line::no_rule();
     Layout {
-        count: 3,
-        rules: [m, x, y, none],
+        rules: [m, x, y, none, none, none],
     }
 }
 

@@ -12,8 +12,7 @@ use Rattle.model.specs.declared.Outcome.the-variants as outcome
 use Rattle.model.specs.declared.Record.{Record as HeldRecord}
 use Rattle.model.specs.Meaning.{Record, firstOf, blankSpot, recordOf}
 use Rattle.text_grammar.specs.Words.{itemText, itemsText}
-use Rattle.text_line.specs.Held.{loweredAll}
-use Rattle.text_line.specs.Layout.{valuesIn}
+use Rattle.text_line.specs.Layout.{valuesAt, valuesIn}
 use Rattle.text_put.specs.Shown.{shownOf}
 use Rattle.text_put.specs.Run.{run}
 use Rattle.text_put.proofs.Counted.{numbered-run}
@@ -38,20 +37,20 @@ spots-run s n k l e = numbered-run blankSpot s (λ q p. atItem (suc q) p) (λ q 
 module _ (b m a : List ℕ) (at k r : ℕ) (f : length b < 2 ^ 64) where
   -- one macro more
   pub spot-more : (s : List Spot) (p : Spot) (i : ℕ) → p ≡ getD s i blankSpot → Wrote b m (itemsText recordWords (run (spotItem s) 0 i)) at k → Wrote m a (lineOf word.At ((i + 1) ∷ p .x ∷ p .y ∷ 0 ∷ [])) k r → Wrote b a (itemsText recordWords (run (spotItem s) 0 (i + 1))) at r
-  unfolding loweredAll
+  unfolding valuesAt
   spot-more s p i y v w = run-more recordWords (spotItem s) 0 b at m a i k r f v (rw (zero-add, ← y) (rw add-one at w))
 
   -- the text of a record: its first lines, then `done`
   pub record-written : (x : Record) → Wrote b m (itemsText recordWords (body x)) at k → Wrote m a (lineOf word.Done (0 ∷ 0 ∷ 0 ∷ 0 ∷ [])) k r → Wrote b a (recordText x) at r
-  unfolding recordText recordItems loweredAll
+  unfolding recordText recordItems valuesAt
   record-written x v w = then-line recordWords b m a (body x) at k r f v doneItem w
 
   pub least-written : (x : HeldRecord) (wl n : ℕ) → x .outcome ≡ outcome.Least wl n → Wrote b m (lineOf word.Least (wl ∷ 0 ∷ 0 ∷ 0 ∷ [])) at k → Wrote m a (itemsText recordWords (atItems 1 (firstOf blankSpot n (x .spots)))) k r → Wrote b a (itemsText recordWords (body (recordOf x))) at r
-  unfolding recordOf loweredAll
+  unfolding recordOf valuesAt
   least-written x wl n e v w = rw e (items-then recordWords b m a (leastItem wl ∷ []) at k r f (items-one recordWords b m (leastItem wl) at k v) _ w)
 
 pub none-written : (b a : List ℕ) (at r : ℕ) (x : HeldRecord) → x .outcome ≡ outcome.None → Wrote b a (lineOf word.None (0 ∷ 0 ∷ 0 ∷ 0 ∷ [])) at r → Wrote b a (itemsText recordWords (body (recordOf x))) at r
-unfolding recordOf loweredAll
+unfolding recordOf valuesAt
 none-written b a at r x e w = rw e (items-one recordWords b a noneItem at r w)
 
 pub spots-all : (b a : List ℕ) (at r : ℕ) (s : List Spot) (i k n : ℕ) → length s ≡ 8 → k ≡ shownOf n 8 → i ≤ k → k ≤ i → Wrote b a (itemsText recordWords (run (spotItem s) 0 i)) at r → Wrote b a (itemsText recordWords (atItems 1 (firstOf blankSpot n s))) at r

@@ -16,7 +16,7 @@ use Rattle.record_read.specs.State.{recordValues}
 use Rattle.model.specs.Limits.{isWithin, placedCorner}
 use Rattle.text_grammar.specs.Words.{size}
 use Rattle.text_grammar.specs.Steps.{ReadAs}
-use Rattle.text_line.specs.Held.{loweredAll}
+use Rattle.text_line.specs.Layout.{valuesAt}
 use Rattle.record_text.specs.Kind.{spotOf}
 
 -- the spot that the program makes of the numbers v
@@ -24,12 +24,12 @@ abbrev pub heldSpot : List ℕ → Spot
 heldSpot v = record { x = getD v 1 0; y = getD v 2 0 }
 
 pub least-values : (v : List ℕ) → size (recordValues word.Least v) 0 ≡ getD v 0 0
-unfolding loweredAll
+unfolding valuesAt
 least-values [] = refl
 least-values (a ∷ v) = refl
 
 pub at-values : (v : List ℕ) → (size (recordValues word.At v) 0 ≡ getD v 0 0) × (spotOf (recordValues word.At v) ≡ heldSpot v)
-unfolding loweredAll
+unfolding valuesAt
 at-values [] = (refl, refl)
 at-values (a ∷ []) = (refl, refl)
 at-values (a ∷ b ∷ []) = (refl, refl)
@@ -37,7 +37,7 @@ at-values (a ∷ b ∷ c ∷ v) = (refl, refl)
 
 -- x and y of an `at` line that was read are in their ranges
 pub corners-in : (v : List ℕ) → length v ≡ 4 → ReadAs recordWords word.At (recordValues word.At v) → (isWithin placedCorner (pos (getD v 1 0)) && isWithin placedCorner (pos (getD v 2 0))) ≡ true
-unfolding loweredAll
+unfolding valuesAt
 corners-in [] e i = absurd (omega arith)
 corners-in (a ∷ []) e i = absurd (omega arith)
 corners-in (a ∷ b ∷ []) e i = absurd (omega arith)

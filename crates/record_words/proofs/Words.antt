@@ -3,7 +3,7 @@ use mathlib.Core.Path.{_≡_, refl}
 use mathlib.Core.Bool.{true}
 use Rattle.text_line.specs.declared.Layout.{Layout}
 use Rattle.text_line.specs.Held.{spelled}
-use Rattle.text_line.specs.Layout.{chain, allSane, isLayout, formOf, layoutFor}
+use Rattle.text_line.specs.Layout.{formAt, isLayout, formOf, layoutFor}
 use Rattle.text_line.proofs.Layouts.{Laying}
 use Rattle.record_text.specs.declared.RecordWord.{RecordWord}
 use Rattle.record_text.specs.declared.RecordWord.the-variants as word
@@ -20,19 +20,19 @@ module _ (x w : RecordWord) (e : w ≡ x) where
 
 -- ---- the layout of a word is its form, within the limits
 
-chain-of : (w : RecordWord) → formOf (layoutFor (form w) .count) (layoutFor (form w) .rules) ≡ form w
-unfolding chain
-chain-of word.Least = refl
-chain-of word.None = refl
-chain-of word.At = refl
-chain-of word.Done = refl
+form-of : (w : RecordWord) → formOf (layoutFor (form w) .rules) ≡ form w
+unfolding formAt
+form-of word.Least = refl
+form-of word.None = refl
+form-of word.At = refl
+form-of word.Done = refl
 
-layout-of : (w : RecordWord) → isLayout (layoutFor (form w) .count) (layoutFor (form w) .rules) ≡ true
-unfolding allSane
+layout-of : (w : RecordWord) → isLayout (layoutFor (form w) .rules) ≡ true
+unfolding isLayout
 layout-of word.Least = refl
 layout-of word.None = refl
 layout-of word.At = refl
 layout-of word.Done = refl
 
 pub laying : (w : RecordWord) → Laying (form w)
-laying w = record { means = chain-of w; fine = layout-of w }
+laying w = record { means = form-of w; fine = layout-of w }

@@ -84,8 +84,7 @@ fn at_fields() -> Layout
     let y = text_line::short_rule(b'y', 0, 0, Spot::MOST);
     let none = text_line::no_rule();
     Layout {
-        count: 3,
-        rules: [m, x, y, none],
+        rules: [m, x, y, none, none, none],
     }
 }
 
@@ -97,6 +96,7 @@ pub fn layout_of(w: RecordWord) -> Layout
         RecordWord::Least => text_line::one_field(Rule {
             mark: [44, b'w', b'l', 44],
             size: 4,
+            other: 0,
             up: 0,
             least: 0,
             most: Record::LENGTH_MOST,

@@ -13,6 +13,7 @@ pub mod Left
 pub mod Fit
 pub mod Entry
 pub mod Most
+pub mod Choice
 pub mod OneLine
 pub mod Lengths
 pub mod Numbers

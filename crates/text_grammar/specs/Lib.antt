@@ -4,3 +4,4 @@ pub mod Reading
 pub mod Writing
 pub mod Steps
 pub mod Follow
+pub mod Choice

@@ -3,9 +3,16 @@ ghost use mathlib.Core.Path.{_≡_};
 ghost use lib.Dec.{leb};
 ghost use Rattle.text_grammar.specs.Steps.{need, entryBy};
 ghost use Rattle.text_grammar.specs.Follow.{followedBy, followedByNone};
+ghost use Rattle.text_grammar.specs.Choice.{nameFault, isAbsent, nextPlace};
 
 // How many words a kind of text has at most.
 pub const WORDS: usize = 8;
+
+// How many rules a line's layout has.
+pub const RULES: usize = 6;
+
+// How a field that is not there is held: above every number that a field can hold.
+pub const ABSENT: u64 = 18446744073709551615;
 
 // What the word of the last line says of the next line, by word: the words that may stand there, those that may for the net above, which has a pin;
 // and whether that line was the text's last.
@@ -78,4 +85,41 @@ pub fn entry_fault(placed: bool, room: bool, pinned: bool) -> usize
         return 7;
     }
     0
+}
+
+// The fault where the name of a field does not stand here: 2 where there is no other way to go on, or 0.
+pub fn name_fault(other: usize) -> usize
+    ensures { λ r. ⌜ r ≡ nameFault other ⌝ }
+{
+    if other != 0 {
+        return 0;
+    }
+    2
+}
+
+// Whether the value v stands for a field that is not there; a field without another way is always there.
+pub fn is_absent(other: usize, v: u64) -> bool
+    ensures { λ r. ⌜ r ≡ isAbsent other v ⌝ }
+{
+    if other == 0 {
+        return false;
+    }
+    v == ABSENT
+}
+
+// The place of the rule after that at j: the next, or `other` places further on where the field is absent; at most RULES, where there is none.
+pub fn next_place(j: usize, other: usize, absent: bool) -> usize
+    ensures { λ r. ⌜ r ≡ nextPlace j other absent ⌝ }
+{
+    if RULES <= j {
+        return RULES;
+    }
+    let next = j + 1;
+    if !absent {
+        return next;
+    }
+    if RULES - j < other {
+        return RULES;
+    }
+    j + other
 }

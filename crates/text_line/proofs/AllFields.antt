@@ -1,14 +1,15 @@
 -- The steps of the reader of a line's fields: what its loop keeps, and each answer.
-use mathlib.Core.Path.{_≡_, refl, sym, ap, ap₂, subst}
-use mathlib.Core.List.{List, [], _∷_, _++_}
-use Prim.Native.Nat.{ℕ, zero, suc, _+_, _≤_, _<_}
+use mathlib.Core.Path.{_≡_, refl, sym, ap, subst, _∙_}
+use mathlib.Core.List.{List, [], _∷_, _++_, append-assoc, append-nil}
+use Prim.Native.Nat.{ℕ, zero, suc, _+_, _-_, _≤_, _<_}
 use native.Mathlib.Numerals.{add-one}
+use native.Mathlib.Decide.{decLe}
 use native.Mathlib.Omega.{arith}
-use lib.Dec.{leb}
-use lib.ListN.{length, getD, take, drop, set, replicate, drop-of-length-le}
-use lib.Seq.{drop-cons, take-all}
-use mathlib.Core.Bool.{Bool, not, true}
-use borrow.Author.Tests.{not-true}
+use lib.Dec.{leb, eqb}
+use lib.ListN.{length, length-append, getD, take, drop, set, replicate, drop-of-length-le}
+use lib.Seq.{drop-cons, getD-set-same, getD-set-other}
+use mathlib.Core.Bool.{Bool, not, true, false}
+use borrow.Author.Tests.{eqb-true, le-leb, lt-leb, not-true}
 use Rattle.model.specs.declared.Refusal.{Refusal}
 use Rattle.model.specs.Counted.{Holds}
 use Rattle.model.specs.Held.{filled, raised}
@@ -16,18 +17,53 @@ use Rattle.model.proofs.FirstOf.{first-take}
 use Rattle.model.proofs.Holding.{holds-more, holds-none, holds-all, filled-again}
 use Rattle.model.proofs.HeldAgain.{raised-again}
 use Rattle.text_grammar.specs.Steps.{need}
-use Rattle.text_grammar.proofs.Most.{told-above, told-within}
+use Rattle.text_grammar.proofs.Lacks.{and-right}
 use Rattle.text_grammar.specs.Reading.{accepted, refused}
 use Rattle.model.specs.Step.{Step, next, fault}
-use Rattle.text_grammar.specs.Line.{Value, number, andThen, fields}
+use Rattle.text_grammar.specs.Line.{Value, number, absent, andThen, Form, over, fields, ifAbsent}
+use Rattle.text_grammar.specs.Choice.{absentHeld, isAbsent, nextPlace}
 use Rattle.text_line.specs.declared.Rule.{Rule as HeldRule}
 use Rattle.text_line.specs.declared.Field.{Field}
 use Rattle.text_line.specs.declared.Field.the-variants as field
 use Rattle.text_line.specs.declared.Fields.the-variants as held
-use Rattle.text_line.specs.Held.{lowered, loweredAll, raisedAll}
-use Rattle.text_line.specs.Layout.{rulesOf, upsOf, chain, blankRule, isLayout, Laid, located, valuesOf, readFields, FieldsOk}
-use Rattle.text_line.specs.Steps.{Got, Faulty, FieldOk}
-use Rattle.text_line.proofs.Laid.{few, next-rule, next-up, rules-length, ups-length}
+use Rattle.text_line.specs.declared.FieldsRead.{FieldsRead}
+use Rattle.text_line.specs.Held.{lowered}
+use Rattle.text_line.specs.Layout.{ruleAt, pick, wayOf, formAt, valueIn, placeAfter, valuesAt, numberFor, numbersAt, formOf, valuesOf, isLayout, Laid, located, readFields, FieldsOk}
+use Rattle.text_line.proofs.Ways.{form-ends, values-end, form-goes-on, values-go-on, way-taken}
+use Rattle.text_line.specs.Steps.{Got, Faulty, FieldOk, endAnswer}
+
+-- ---- values held again
+
+value-again : (r : HeldRule) (v : ℕ) → (numberFor r (valueIn r v) ≡ v) × (ifAbsent (valueIn r v) true false ≡ isAbsent (r .other) v)
+value-again r v = by (isAbsent (r .other) v) refl
+  where
+    lowered-again : (u : ℕ) → raised u (lowered u v) ≡ v
+    lowered-again zero = omega arith
+    lowered-again (suc u) = raised-again (suc u) v
+
+    by : (b : Bool) → isAbsent (r .other) v ≡ b → (numberFor r (pick b absent (number (lowered (r .up) v))) ≡ v) × (ifAbsent (pick b absent (number (lowered (r .up) v))) true false ≡ b)
+    by true q = (sym (eqb-true v absentHeld (and-right (not (eqb (r .other) 0)) (eqb v absentHeld) q)), refl)
+    by false q = (lowered-again (r .up), refl)
+
+numbers-again : (k : ℕ) (rs : List HeldRule) (vs : List ℕ) (j i : ℕ) → i + k ≤ length vs → numbersAt rs j (valuesAt k rs vs j i) ≡ take (length (valuesAt k rs vs j i)) (drop i vs)
+unfolding valuesAt numbersAt
+numbers-again zero rs vs j i h = refl
+numbers-again (suc k) rs vs j i h = by (eqb (ruleAt rs j .size) 0) (numbers-again k rs vs (placeAfter rs j (getD vs i 0)) (suc i) (omega arith))
+  where
+    r : HeldRule
+    r = ruleAt rs j
+
+    v : ℕ
+    v = getD vs i 0
+
+    rest : List Value
+    rest = valuesAt k rs vs (placeAfter rs j v) (suc i)
+
+    by : (b : Bool) → numbersAt rs (placeAfter rs j v) rest ≡ take (length rest) (drop (suc i) vs) → numbersAt rs j (pick b [] (valueIn r v ∷ rest)) ≡ take (length (pick b [] (valueIn r v ∷ rest))) (drop i vs)
+    by true ih = refl
+    by false ih = rw (value-again r v .1, value-again r v .0, ih, drop-cons vs i 0 (omega arith))
+
+-- ---- values in front
 
 -- the values zs in front of those that follow
 pub prefixed : List Value → Step (List Value) → Step (List Value)
@@ -49,91 +85,124 @@ unfolding prefixed
 prefixed-all [] = refl
 prefixed-all (z ∷ zs) = rw (prefixed-all zs)
 
--- one value more
-lowered-more : (us vs : List ℕ) (j v : ℕ) → j < length us → j < length vs → loweredAll (take j us) vs ++ (number (lowered (getD us j 0) v) ∷ []) ≡ loweredAll (take (suc j) us) (set vs j v)
-unfolding loweredAll
-lowered-more [] vs j v h k = absurd (omega arith)
-lowered-more (u ∷ us) [] j v h k = absurd (omega arith)
-lowered-more (u ∷ us) (x ∷ vs) zero v h k = refl
-lowered-more (u ∷ us) (x ∷ vs) (suc j) v h k = ap (λ (t : List Value). number (lowered u x) ∷ t) (lowered-more us vs j v (omega arith) (omega arith))
+-- ---- what the loop keeps
 
 pub read-place : (text : List ℕ) (a l v b : ℕ) (r : HeldRule) (f : Field) → FieldOk text a r l f → f ≡ field.Value v b → b ≤ length text
 read-place text a l v b r f one e = let g : Got text a r v b = subst (FieldOk text a r l) e one in g .place
 
--- the first j of the n fields have the values vs, and the next one begins at a
-pub record ReadTo (n : ℕ) (rs : List HeldRule) (text vs : List ℕ) (a j : ℕ) : Type 0 where
-  pub room : Holds 0 4 j vs
-  pub kept : fields (chain (rulesOf n rs)) text ≡ prefixed (loweredAll (take j (upsOf n rs)) vs) (fields (chain (drop j (rulesOf n rs))) (drop a text))
+-- the first i fields have the values vs, and the next one begins at a and has its rule at place j
+pub record ReadTo (rs : List HeldRule) (text vs : List ℕ) (a j i : ℕ) : Type 0 where
+  pub room : Holds 0 4 i vs
+  pub far : List Value
+  pub many : length far ≡ i
+  pub kept : fields (formOf rs) text ≡ prefixed far (fields (formAt (4 - i) rs j) (drop a text))
+  pub again : (ws : List ℕ) → ((n : ℕ) → n < i → getD ws n 0 ≡ getD vs n 0) → valuesOf rs ws ≡ far ++ valuesAt (4 - i) rs ws j i
 
-pub read-none : (n : ℕ) (rs : List HeldRule) (text : List ℕ) → ReadTo n rs text (replicate 4 0) 0 0
-unfolding prefixed loweredAll
-read-none n rs text = record { room = holds-none 0 4; kept = refl }
+pub read-none : (rs : List HeldRule) (text : List ℕ) → ReadTo rs text (replicate 4 0) 0 0 0
+unfolding prefixed
+read-none rs text = record { room = holds-none 0 4; far = []; many = refl; kept = refl; again = λ ws h. refl }
 
 -- ---- the whole answer, by what it means
 
-refused-answer : (n : ℕ) (rs : List HeldRule) (l : ℕ) (text : List ℕ) (r : Refusal) → refused (r .no) (r .line) ≡ readFields n rs l text → FieldsOk n rs l text (record { answer = held.Refused r; values = 0 ∷ 0 ∷ 0 ∷ 0 ∷ [] })
-refused-answer n rs l text r e = record { meant = e; whole = rw (← e) }
+refused-answer : (rs : List HeldRule) (l : ℕ) (text : List ℕ) (r : Refusal) → refused (r .no) (r .line) ≡ readFields rs l text → FieldsOk rs l text (record { answer = held.Refused r; values = 0 ∷ 0 ∷ 0 ∷ 0 ∷ [] })
+refused-answer rs l text r e = record { meant = e; whole = rw (← e) }
 
-raised-one : (u v : ℕ) → raised u (lowered u v) ≡ v
-raised-one zero v = omega arith
-raised-one (suc u) v = raised-again (suc u) v
-
-raised-back : (us vs : List ℕ) → length us ≤ length vs → raisedAll us (loweredAll us vs) ≡ take (length us) vs
-unfolding raisedAll loweredAll
-raised-back [] vs h = refl
-raised-back (u ∷ us) [] h = absurd (omega arith)
-raised-back (u ∷ us) (v ∷ vs) h = ap₂ _∷_ (raised-one u v) (raised-back us vs (omega arith))
-
-got-answer : (n : ℕ) (rs : List HeldRule) (l : ℕ) (text vs : List ℕ) → Holds 0 4 (length (upsOf n rs)) vs → accepted (valuesOf n rs vs) ≡ readFields n rs l text → FieldsOk n rs l text (record { answer = held.Got; values = vs })
-got-answer n rs l text vs h e = record { meant = e; whole = rw (← e) (ap (λ (t : List ℕ). record { answer = held.Got; values = t }) (sym back)) }
+got-answer : (rs : List HeldRule) (l : ℕ) (text vs : List ℕ) → Holds 0 4 (length (valuesOf rs vs)) vs → accepted (valuesOf rs vs) ≡ readFields rs l text → FieldsOk rs l text (record { answer = held.Got; values = vs })
+got-answer rs l text vs h e = record { meant = e; whole = rw (← e) (ap (λ (t : List ℕ). record { answer = held.Got; values = t }) (sym back)) }
   where
-    us : List ℕ
-    us = upsOf n rs
+    n : ℕ
+    n = length (valuesOf rs vs)
 
-    back : filled 4 0 (raisedAll us (loweredAll us vs)) ≡ vs
-    back = rw (raised-back us vs (holds-all h), ← first-take 0 (length us) vs (holds-all h)) (filled-again 0 4 (length us) vs h)
+    back : filled 4 0 (numbersAt rs 0 (valuesOf rs vs)) ≡ vs
+    back = rw (numbers-again 4 rs vs 0 0 (omega (arith, h .long)), ← first-take 0 n vs (holds-all h)) (filled-again 0 4 n vs h)
 
 -- a layout beyond the limits
-pub no-layout : (n : ℕ) (rs : List HeldRule) (l : ℕ) (text : List ℕ) (r : Bool) → r ≡ isLayout n rs → not r ≡ true → FieldsOk n rs l text (record { answer = held.Refused (record { no = 2; line = l }); values = 0 ∷ 0 ∷ 0 ∷ 0 ∷ [] })
+pub no-layout : (rs : List HeldRule) (l : ℕ) (text : List ℕ) (r : Bool) → r ≡ isLayout rs → not r ≡ true → FieldsOk rs l text (record { answer = held.Refused (record { no = 2; line = l }); values = 0 ∷ 0 ∷ 0 ∷ 0 ∷ [] })
 unfolding readFields
-no-layout n rs l text r e h = refused-answer n rs l text (record { no = 2; line = l }) (rw (← e, not-true r h, readFields))
+no-layout rs l text r e h = refused-answer rs l text (record { no = 2; line = l }) (rw (← e, not-true r h, readFields))
 
-module _ (n : ℕ) (rs : List HeldRule) (text vs : List ℕ) (a j : ℕ) (inv : ReadTo n rs text vs a j) (ok : Laid n rs) (all : length rs ≡ 4) (l : ℕ) where
-  means : readFields n rs l text ≡ located l (fields (chain (rulesOf n rs)) text)
+-- ---- the fault of leftover bytes
+
+pub left-over : (m l : ℕ) (vs : List ℕ) (n : ℕ) → n ≡ m → (n ≡ 0 → ⊥) → record { answer = held.Refused (record { no = n; line = l }); values = 0 ∷ 0 ∷ 0 ∷ 0 ∷ [] } ≡ endAnswer m l vs
+left-over zero l vs n e z = absurd (z e)
+left-over (suc m) l vs n e z = rw e
+
+pub none-left : (m l : ℕ) (vs : List ℕ) (n : ℕ) → n ≡ m → n ≡ 0 → record { answer = held.Got; values = vs } ≡ endAnswer m l vs
+none-left m l vs n e z = rw (← e, z)
+
+-- ---- the steps
+
+module _ (rs : List HeldRule) (text vs : List ℕ) (a j i : ℕ) (inv : ReadTo rs text vs a j i) (ok : Laid rs) (l : ℕ) where
+  means : readFields rs l text ≡ located l (fields (formOf rs) text)
   unfolding readFields
   means = rw (ok .fine, readFields)
 
-  module _ (h : j < n) (f : Field) (one : FieldOk text a (getD rs j blankRule) l f) where
-    pub read-more : (v b : ℕ) → f ≡ field.Value v b → ReadTo n rs text (set vs j v) b (j + 1)
-    unfolding fields chain
-    read-more v b e =
-        let g : Got text a (getD rs j blankRule) v b = subst (FieldOk text a (getD rs j blankRule) l) e one in
-        let m = few n rs ok all in
+  module _ (r : HeldRule) (e : r ≡ ruleAt rs j) (size : r .size ≡ 0 → ⊥) (h : i < 4) (f : Field) (one : FieldOk text a r l f) where
+    here : FieldOk text a (ruleAt rs j) l f
+    here = subst (λ (r : HeldRule). FieldOk text a r l f) e one
+
+    there : ruleAt rs j .size ≡ 0 → ⊥
+    there = rw e at size
+
+    abbrev more : ℕ
+    more = 4 - (i + 1)
+
+    abbrev first : Form
+    first = formAt more rs (nextPlace j (ruleAt rs j .other) false)
+
+    abbrev second : Form
+    second = formAt more rs (nextPlace j (ruleAt rs j .other) true)
+
+    -- the field that is read next
+    kept-here : fields (formOf rs) text ≡ prefixed (inv .far) (fields (wayOf (ruleAt rs j) first second) (drop a text))
+    kept-here = let q : 4 - i ≡ suc more = omega arith in inv .kept ∙ rw (q, form-goes-on more rs j there)
+
+    pub read-refused : (x : Refusal) → f ≡ field.Refused x → FieldsOk rs l text (record { answer = held.Refused x; values = 0 ∷ 0 ∷ 0 ∷ 0 ∷ [] })
+    read-refused x q =
+        let g : Faulty text a (ruleAt rs j) l x = subst (FieldOk text a (ruleAt rs j) l) q here in
+        refused-answer rs l text x (rw (means, kept-here, g .read first second, prefixed-faulty, g .at))
+
+    pub read-more : (v b : ℕ) → f ≡ field.Value v b → (t : Bool) → t ≡ isAbsent (r .other) v → (p : ℕ) → p ≡ nextPlace j (r .other) t → ReadTo rs text (set vs i v) b p (i + 1)
+    read-more v b q t u p w =
         let d = inv .room .long in
-        let q = ups-length n rs ok all in
-        record { room = holds-more (inv .room) v (omega arith); kept = rw (add-one, inv .kept, next-rule n rs ok all j h, g .read (λ t. fields (chain (drop (suc j) (rulesOf n rs))) t), prefixed-more, ← next-up n rs ok all j h, lowered-more (upsOf n rs) vs j v (omega arith) (omega arith)) }
+        let m = inv .many in
+        record { room = holds-more (inv .room) v h; far = inv .far ++ (z ∷ []); many = rw length-append (omega arith); kept = kept-on; again = again-on }
+      where
+        z : Value
+        z = valueIn (ruleAt rs j) v
 
-    pub read-refused : (r : Refusal) → f ≡ field.Refused r → FieldsOk n rs l text (record { answer = held.Refused r; values = 0 ∷ 0 ∷ 0 ∷ 0 ∷ [] })
-    unfolding fields chain
-    read-refused r e =
-        let g : Faulty text a (getD rs j blankRule) l r = subst (FieldOk text a (getD rs j blankRule) l) e one in
-        refused-answer n rs l text r (rw (means, inv .kept, next-rule n rs ok all j h, g .read (λ t. fields (chain (drop (suc j) (rulesOf n rs))) t), prefixed-faulty, g .at))
+        g : Got text a (ruleAt rs j) v b
+        g = subst (FieldOk text a (ruleAt rs j) l) q here
 
-  module _ (h : n ≤ j) where
-    no-rule : drop j (rulesOf n rs) ≡ []
-    no-rule = let q = rules-length n rs ok all in drop-of-length-le (rulesOf n rs) {i = j} (omega arith)
+        place : placeAfter rs j v ≡ p
+        place = sym (w ∙ rw (u, e))
 
-    -- by the fault of leftover bytes
-    module _ (f : ℕ) (left : f ≡ need (leb (length text) a) 2 0) where
-      pub bytes-left : (f ≡ 0 → ⊥) → FieldsOk n rs l text (record { answer = held.Refused (record { no = f; line = l }); values = 0 ∷ 0 ∷ 0 ∷ 0 ∷ [] })
-      unfolding fields chain
-      bytes-left z =
-          let g = told-above 2 (length text) a f left z in
-          refused-answer n rs l text (record { no = f; line = l }) (rw (g .0, means, inv .kept, no-rule, drop-cons text a 0 (g .1), prefixed-faulty))
+        kept-on : fields (formOf rs) text ≡ prefixed (inv .far ++ (z ∷ [])) (fields (formAt more rs p) (drop b text))
+        kept-on = kept-here ∙ rw (g .read first second, prefixed-more, way-taken more rs j (ruleAt rs j .other) (isAbsent (ruleAt rs j .other) v), place)
 
-      pub all-read : j ≤ n → f ≡ 0 → FieldsOk n rs l text (record { answer = held.Got; values = vs })
-      unfolding fields chain
-      all-read b z =
-          let q = ups-length n rs ok all in
-          let g = told-within 2 (length text) a f left (λ e. omega arith) z in
-          got-answer n rs l text vs (subst (λ (k : ℕ). Holds 0 4 k vs) (omega arith) (inv .room)) (rw (means, inv .kept, no-rule, drop-of-length-le text g, prefixed-all, take-all j (upsOf n rs) (omega arith)))
+        again-on : (ws : List ℕ) → ((n : ℕ) → n < i + 1 → getD ws n 0 ≡ getD (set vs i v) n 0) → valuesOf rs ws ≡ (inv .far ++ (z ∷ [])) ++ valuesAt more rs ws p (i + 1)
+        again-on ws same =
+            let k : 4 - i ≡ suc more = omega arith in
+            let x : getD ws i 0 ≡ v = same i (omega arith) ∙ getD-set-same vs i v 0 (omega (arith, inv .room .long)) in
+            inv .again ws (λ n c. same n (omega arith) ∙ getD-set-other vs i n v 0 (λ y. absurd (omega arith)))
+            ∙ rw (k, values-go-on more rs j there ws i, x, place, append-assoc, add-one)
+
+  -- no field is left
+  module _ (x : FieldsRead) (e : x ≡ endAnswer (need (leb (length text) a) 2 0) l vs) where
+    ended : formAt (4 - i) rs j ≡ over → valuesAt (4 - i) rs vs j i ≡ [] → FieldsOk rs l text x
+    unfolding fields
+    ended over-here none-here = by (decLe (length text) a)
+      where
+        all : valuesOf rs vs ≡ inv .far
+        all = inv .again vs (λ n c. refl) ∙ rw (none-here, append-nil)
+
+        by : Dec (length text ≤ a) → FieldsOk rs l text x
+        by (yes h) = subst (FieldsOk rs l text) (sym (e ∙ rw (le-leb (length text) a h))) (got-answer rs l text vs (subst (λ (k : ℕ). Holds 0 4 k vs) (sym (ap length all ∙ inv .many)) (inv .room)) (rw (all, means, inv .kept, over-here, drop-of-length-le text h, prefixed-all)))
+        by (no h) = let g : a < length text = omega arith in subst (FieldsOk rs l text) (sym (e ∙ rw (lt-leb (length text) a g))) (refused-answer rs l text (record { no = 2; line = l }) (rw (means, inv .kept, over-here, drop-cons text a 0 g, prefixed-faulty)))
+
+    pub no-rule-left : (r : HeldRule) → r ≡ ruleAt rs j → r .size ≡ 0 → FieldsOk rs l text x
+    no-rule-left r q s = let z : ruleAt rs j .size ≡ 0 = rw q at s in ended (form-ends (4 - i) rs j z) (values-end (4 - i) rs j z vs i)
+
+    pub no-room-left : 4 ≤ i → FieldsOk rs l text x
+    unfolding formAt valuesAt
+    no-room-left h = let q : 4 - i ≡ 0 = omega arith in ended (rw q) (rw q)

@@ -4,6 +4,7 @@ pub mod Mark
 pub mod Laid
 pub mod Range
 pub mod OneField
+pub mod Ways
 pub mod AllFields
 pub mod Limits
 pub mod Find

@@ -1,5 +1,5 @@
 -- The test of a layout, in the form of the needs of its functions.
-use mathlib.Core.Path.{_≡_, _∙_}
+use mathlib.Core.Path.{_≡_, refl, _∙_}
 use mathlib.Core.Bool.{Bool, true, false, _&&_, not}
 use mathlib.Core.List.{List}
 use Prim.Native.Nat.{ℕ, suc, _+_, _≤_, _<_}
@@ -13,7 +13,7 @@ use Rattle.model.specs.Meaning.{pinUp}
 use Rattle.num_text.specs.Held.{cap}
 use Rattle.text_grammar.specs.Words.{same}
 use Rattle.text_line.specs.declared.Rule.{Rule as HeldRule}
-use Rattle.text_line.specs.Layout.{blankRule, isSane, allSane, isLayout}
+use Rattle.text_line.specs.Layout.{isSane, isLayout}
 
 -- ---- one field
 
@@ -28,33 +28,30 @@ module _ (r : HeldRule) where
     pub top-left : (t : Bool) → r .up ≤ 4096 → t ≡ ltb (r .most) cap → t ≡ isSane r
     top-left t h e = rw (le-leb (r .size) 4 n, le-leb (r .up) pinUp h) e
 
--- ---- the fields of a layout
+-- ---- the rules of a layout
 
-module _ (n : ℕ) (rs : List HeldRule) where
-  pub too-many : 4 < n → false ≡ isLayout n rs
-  too-many h = rw (lt-leb n 4 h)
-
-  -- what is left to test from the field i on
+module _ (rs : List HeldRule) where
+  -- what is left to test from the rule i on
   pub record Untested (i : ℕ) : Type 0 where
-    pub left : isLayout n rs ≡ allSane (drop i rs)
+    pub left : isLayout rs ≡ isLayout (drop i rs)
 
-  pub none-tested : n ≤ 4 → Untested 0
-  none-tested h = record { left = rw (le-leb n 4 h) }
+  pub none-tested : Untested 0
+  none-tested = record { left = refl }
 
   module _ (i : ℕ) (u : Untested i) where
-    module _ (h : i < length rs) (t : Bool) (e : t ≡ isSane (getD rs i blankRule)) where
-      here : isLayout n rs ≡ (isSane (getD rs i blankRule) && allSane (drop (suc i) rs))
-      unfolding allSane
-      here = u .left ∙ rw (drop-cons rs i blankRule h)
+    module _ (z : HeldRule) (h : i < length rs) (t : Bool) (e : t ≡ isSane (getD rs i z)) where
+      here : isLayout rs ≡ (isSane (getD rs i z) && isLayout (drop (suc i) rs))
+      unfolding isLayout
+      here = u .left ∙ rw (drop-cons rs i z h)
 
-      pub not-sane : not t ≡ true → false ≡ isLayout n rs
+      pub not-sane : not t ≡ true → false ≡ isLayout rs
       not-sane y = rw (here, ← e, not-true t y)
 
       pub one-sane : not t ≡ false → Untested (i + 1)
       one-sane y = record { left = here ∙ rw (← e, not-false t y, add-one) }
 
-    pub all-sane : length rs ≡ 4 → 4 ≤ i → true ≡ isLayout n rs
-    unfolding allSane
+    pub all-sane : length rs ≡ 6 → 6 ≤ i → true ≡ isLayout rs
+    unfolding isLayout
     all-sane l h = rw (u .left, drop-of-length-le rs {i = i} (omega arith))
 
 -- ---- a spelling

@@ -6,31 +6,44 @@ use Prim.Native.Nat.{ℕ, suc, _+_, _-_, _^_, _≤_, _<_, min}
 use native.Mathlib.Omega.{arith}
 use mir.Syntax.{w64}
 use mir.Val.{Fits}
+use lib.Dec.{leb}
 use lib.IntN.{pos, negsuc}
 use lib.ListN.{length, take, drop, length-drop}
 use lib.Seq.{take-all, drop-drop}
-use borrow.Author.Tests.{not-true, not-false}
+use borrow.Author.Tests.{leb-true, not-true, not-false}
 use Rattle.num_text.specs.declared.Number.{Number}
 use Rattle.num_text.specs.declared.Number.the-variants as held
 use Rattle.num_text.specs.Number.{Numeral, number, noNumber, numeralOf}
 use Rattle.num_text.specs.Held.{cap, heldNumber}
 use Rattle.model.specs.Step.{Step, fault}
-use Rattle.text_grammar.specs.Line.{comma, upTo, strip, numbered, marked, Value}
+use Rattle.text_grammar.specs.Line.{comma, upTo, strip, numbered, marked, andThen, fields, Value, absent, Rule, Form, one, either}
+use Rattle.text_grammar.specs.Choice.{absentHeld, nameFault, isAbsent}
+use Rattle.text_grammar.proofs.Choice.{told-must, told-may, absent-is, value-is}
 use Rattle.text_grammar.proofs.FieldsText.{valued}
+use Rattle.text_grammar.proofs.Lacks.{and-right}
 use Rattle.text_line.specs.declared.Rule.{Rule as HeldRule}
 use Rattle.text_line.specs.declared.Field.{Field}
 use Rattle.text_line.specs.Held.{lowered}
-use Rattle.text_line.specs.Layout.{markOf, rangeOf, ruleOf, Sane}
-use Rattle.text_line.specs.Steps.{Starts, ifInRange, within, Faulty, FieldOk}
+use Rattle.text_line.specs.Layout.{markOf, rangeOf, ruleOf, mustStand, pick, Sane}
+use Rattle.text_line.specs.Steps.{Starts, ifInRange, within, Got, Faulty, FieldOk}
 use Rattle.text_grammar.proofs.Cut.{up-to-take, from-drop, up-to-short}
 use Rattle.text_line.proofs.Range.{ranged, never, no-number-held, positive-held, negative-held, below-held}
 
 -- ---- the answer
 
-module _ (text : List ℕ) (a : ℕ) (r : HeldRule) (l b v : ℕ) (h : b ≤ length text) where
-  answered : (t : Bool) (f : Field) → f ≡ ifInRange t v b l → ((more : List ℕ → Step (List Value)) → marked (strip (markOf r) (drop a text)) (ruleOf r) more (fault 2) ≡ valued (ranged t (lowered (r .up) v)) (more (drop b text))) → FieldOk text a r l f
-  answered true f e p = rw e (record { place = h; read = p })
-  answered false f e p = rw e (record { at = refl; read = p })
+-- what a field and those after it are read as, whether it must stand here or not, where that does not depend on it
+way-read : (b : Bool) (r : Rule) (f g : Form) (s : List ℕ) (x : Step (List Value)) → ((else : Step (List Value)) → marked (strip (r .mark) s) r (λ t. fields f t) else ≡ x) → fields (pick b (one r f) (either r f g)) s ≡ x
+unfolding fields
+way-read true r f g s x p = p (fault 2)
+way-read false r f g s x p = p (andThen absent (fields g s))
+
+in-top : (r : HeldRule) (v : ℕ) → Sane r → within r v ≡ true → isAbsent (r .other) v ≡ false
+in-top r v ok t = value-is (r .other) v (let h = leb-true v (r .most) (and-right (leb (r .least) v) (leb v (r .most)) t) in omega (arith, ok .top))
+
+module _ (text : List ℕ) (a : ℕ) (r : HeldRule) (l b v : ℕ) (h : b ≤ length text) (ok : Sane r) where
+  answered : (t : Bool) → within r v ≡ t → (f : Field) → f ≡ ifInRange t v b l → ((more : List ℕ → Step (List Value)) (else : Step (List Value)) → marked (strip (markOf r) (drop a text)) (ruleOf r) more else ≡ valued (ranged t (lowered (r .up) v)) (more (drop b text))) → FieldOk text a r l f
+  answered true q f e p = rw e (record { place = h; read = λ f g. rw (in-top r v ok q) (way-read (mustStand r) (ruleOf r) f g (drop a text) _ (p (λ t. fields f t))) })
+  answered false q f e p = rw e (record { at = refl; read = λ f g. way-read (mustStand r) (ruleOf r) f g (drop a text) _ (p (λ t. fields f t)) })
 
 -- ---- the steps
 
@@ -42,15 +55,19 @@ abbrev numeralAt : List ℕ → ℕ → ℕ → Numeral
 numeralAt text p n = numeralOf (take (p + n - p) (drop p text))
 
 module _ (text : List ℕ) (a : ℕ) (r : HeldRule) (t : Bool) (st : Starts (r .mark) (r .size) (drop a text) t) where
-  pub no-mark : (l : ℕ) → not t ≡ true → Faulty text a r l (record { no = 2; line = l })
-  no-mark l y = record { at = refl; read = λ more. rw (st .left, not-true t y) }
+  -- the name does not stand here
+  module _ (y : not t ≡ true) (n : ℕ) (e : n ≡ nameFault (r .other)) where
+    pub no-mark : (l : ℕ) → (n ≡ 0 → ⊥) → Faulty text a r l (record { no = n; line = l })
+    unfolding fields
+    no-mark l z = let q = told-must (r .other) n e z in record { at = refl; read = λ f g. rw (q .1, st .left, not-true t y, q .0) }
+
+    pub not-here : n ≡ 0 → a ≤ length text → Got text a r absentHeld a
+    unfolding fields
+    not-here z h = let q = told-may (r .other) n e z in record { place = h; read = λ f g. rw (absent-is (r .other) q, q, st .left, not-true t y) }
 
   module _ (y : not t ≡ false) (h : a ≤ length text) where
     pub name-end : past a r ≤ length text
     name-end = omega (arith, st .fits (not-false t y), length-drop a text)
-
-    pub name-end-fits : length text < 2 ^ 64 → Fits w64 (past a r)
-    name-end-fits f = let e = name-end in omega arith
 
     module _ (n : ℕ) (e : n ≡ length (upTo comma (take (length text - past a r) (drop (past a r) text)))) where
       cut : n ≡ length (upTo comma (drop (past a r) text))
@@ -62,24 +79,28 @@ module _ (text : List ℕ) (a : ℕ) (r : HeldRule) (t : Bool) (st : Starts (r .
       pub field-end-fits : length text < 2 ^ 64 → Fits w64 (past a r + n)
       field-end-fits f = let q = field-end in omega arith
 
-      read-number : (more : List ℕ → Step (List Value)) → marked (strip (markOf r) (drop a text)) (ruleOf r) more (fault 2) ≡ valued (numbered (numeralAt text (past a r) n) (rangeOf r)) (more (drop (past a r + n) text))
-      read-number more =
+      read-number : (more : List ℕ → Step (List Value)) (else : Step (List Value)) → marked (strip (markOf r) (drop a text)) (ruleOf r) more else ≡ valued (numbered (numeralAt text (past a r) n) (rangeOf r)) (more (drop (past a r + n) text))
+      read-number more else =
           let q : past a r + n - past a r ≡ length (upTo comma (drop (past a r) text)) = omega (arith, cut) in
           rw (st .left, not-false t y, drop-drop, q, ← up-to-take comma (drop (past a r) text), from-drop, ← cut, drop-drop)
 
       module _ (x : Number) (q : x ≡ heldNumber (numeralAt text (past a r) n)) (ok : Sane r) (l : ℕ) where
+        -- a number that is no value
+        no-value : (m : ℕ) → ((more : Step (List Value)) → valued (numbered (numeralAt text (past a r) n) (rangeOf r)) more ≡ fault m) → Faulty text a r l (record { no = m; line = l })
+        no-value m p = record { at = refl; read = λ f g. way-read (mustStand r) (ruleOf r) f g (drop a text) _ (λ else. read-number (λ t. fields f t) else ∙ p (fields f (drop (past a r + n) text))) }
+
         pub no-number : x ≡ held.Bad → Faulty text a r l (record { no = 3; line = l })
-        no-number b = record { at = refl; read = λ more. read-number more ∙ no-number-held r (ok .top) (more (drop (past a r + n) text)) (numeralAt text (past a r) n) (cc) }
+        no-number b = no-value 3 (λ more. no-number-held r (ok .top) more (numeralAt text (past a r) n) (cc))
 
         module _ (g : Bool) (m : ℕ) (i : x ≡ held.Value g m) where
           pub too-far-below : g ≡ true → r .up < m → Faulty text a r l (record { no = 4; line = l })
-          too-far-below s d = record { at = refl; read = λ more. read-number more ∙ below-held r (ok .top) (more (drop (past a r + n) text)) (numeralAt text (past a r) n) m (cc) d }
+          too-far-below s d = no-value 4 (λ more. below-held r (ok .top) more (numeralAt text (past a r) n) m (cc) d)
 
           pub negative : (f : Field) → g ≡ true → m ≤ r .up → f ≡ ifInRange (within r (r .up - m)) (r .up - m) (past a r + n) l → FieldOk text a r l f
-          negative f s d w = answered text a r l (past a r + n) (r .up - m) field-end (within r (r .up - m)) f w (λ more. read-number more ∙ negative-held r (ok .top) (more (drop (past a r + n) text)) (numeralAt text (past a r) n) m (cc) (ok .shift) d)
+          negative f s d w = answered text a r l (past a r + n) (r .up - m) field-end ok (within r (r .up - m)) refl f w (λ more else. read-number more else ∙ negative-held r (ok .top) (more (drop (past a r + n) text)) (numeralAt text (past a r) n) m (cc) (ok .shift) d)
 
           pub positive : (f : Field) → g ≡ false → f ≡ ifInRange (within r (r .up + m)) (r .up + m) (past a r + n) l → FieldOk text a r l f
-          positive f s w = answered text a r l (past a r + n) (r .up + m) field-end (within r (r .up + m)) f w (λ more. read-number more ∙ positive-held r (ok .top) (more (drop (past a r + n) text)) (numeralAt text (past a r) n) m (cc))
+          positive f s w = answered text a r l (past a r + n) (r .up + m) field-end ok (within r (r .up + m)) refl f w (λ more else. read-number more else ∙ positive-held r (ok .top) (more (drop (past a r + n) text)) (numeralAt text (past a r) n) m (cc))
 
 -- a magnitude stays in a machine word
 pub magnitude-fits : (s : List ℕ) (x : Number) (g : Bool) (m u : ℕ) → x ≡ heldNumber (numeralOf s) → x ≡ held.Value g m → u ≤ 4096 → Fits w64 (u + m)

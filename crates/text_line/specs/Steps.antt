@@ -1,5 +1,5 @@
 -- What the functions of the field reader and of a reader of lines promise.
-use Prim.Native.Nat.{ℕ, _≤_}
+use Prim.Native.Nat.{ℕ, zero, suc, _≤_}
 use mathlib.Core.List.{List}
 use mathlib.Core.Path.{_≡_}
 use mathlib.Core.Bool.{Bool, true, false, _&&_}
@@ -7,14 +7,16 @@ use lib.Dec.{leb}
 use lib.ListN.{length, take, drop}
 use Rattle.model.specs.declared.Refusal.{Refusal}
 use Rattle.model.specs.Step.{Step, next, fault as faultBy, check}
-use Rattle.text_grammar.specs.Line.{Value, number, strip, andThen, marked}
+use Rattle.text_grammar.specs.Line.{Form, strip, andThen, fields}
+use Rattle.text_grammar.specs.Choice.{isAbsent}
 use Rattle.text_line.specs.declared.Rule.{Rule as HeldRule}
 use Rattle.text_line.specs.declared.Field.{Field}
 use Rattle.text_line.specs.declared.Field.the-variants as field
 use Rattle.text_line.specs.declared.Fault.{Fault}
 use Rattle.text_line.specs.declared.Fault.the-variants as fault
-use Rattle.text_line.specs.Held.{lowered}
-use Rattle.text_line.specs.Layout.{markOf, ruleOf}
+use Rattle.text_line.specs.declared.Fields.the-variants as held
+use Rattle.text_line.specs.declared.FieldsRead.{FieldsRead}
+use Rattle.text_line.specs.Layout.{pick, wayOf, valueIn, refusedFields}
 
 -- ---- a mark
 
@@ -38,21 +40,27 @@ ifInRange false v b l = outOfRange l
 abbrev pub within : HeldRule → ℕ → Bool
 within r v = leb (r .least) v && leb v (r .most)
 
--- the field with the rule r at a has the value v, and b is the place after it
+-- the field with the rule r at a has the value v, or is absent, and b is the place after it
 pub record Got (text : List ℕ) (a : ℕ) (r : HeldRule) (v b : ℕ) : Type 0 where
   pub place : b ≤ length text
-  pub read : (more : List ℕ → Step (List Value)) → marked (strip (markOf r) (drop a text)) (ruleOf r) more (faultBy 2)
-      ≡ andThen (number (lowered (r .up) v)) (more (drop b text))
+  pub read : (f g : Form) → fields (wayOf r f g) (drop a text) ≡ andThen (valueIn r v) (fields (pick (isAbsent (r .other) v) g f) (drop b text))
 
 -- the field with the rule r at a is refused by f
 pub record Faulty (text : List ℕ) (a : ℕ) (r : HeldRule) (l : ℕ) (f : Refusal) : Type 0 where
   pub at : f .line ≡ l
-  pub read : (more : List ℕ → Step (List Value)) → marked (strip (markOf r) (drop a text)) (ruleOf r) more (faultBy 2) ≡ faultBy (f .no)
+  pub read : (p q : Form) → fields (wayOf r p q) (drop a text) ≡ faultBy (f .no)
 
 -- the answer of the reader of one field, by its case
 abbrev pub FieldOk : List ℕ → ℕ → HeldRule → ℕ → Field → Type 0
 FieldOk text a r l (field.Value v b) = Got text a r v b
 FieldOk text a r l (field.Refused f) = Faulty text a r l f
+
+-- ---- all fields
+
+-- the answer once no field is left, by the fault of leftover bytes: the values vs, or the refusal at line l
+abbrev pub endAnswer : ℕ → ℕ → List ℕ → FieldsRead
+endAnswer zero l vs = record { answer = held.Got; values = vs }
+endAnswer (suc n) l vs = refusedFields (suc n) l
 
 -- ---- one line
 

@@ -2,15 +2,18 @@
 use model::Pin;
 use model::Refusal;
 use num_text::Number;
+use text_grammar::ABSENT;
+use text_grammar::RULES;
 ghost use mathlib.Core.Path.{_≡_};
 ghost use mathlib.Core.List.{[], _∷_};
-ghost use Prim.Native.Nat.{_<_, _≤_};
+ghost use Prim.Native.Nat.{_≤_};
+ghost use lib.Dec.{leb};
 ghost use lib.ListN.{length, take, drop};
 ghost use Rattle.text_grammar.specs.Line.{upTo};
-ghost use Rattle.text_grammar.specs.Steps.{lineEnd};
+ghost use Rattle.text_grammar.specs.Steps.{lineEnd, need};
 ghost use Rattle.text_grammar.specs.Words.{same};
-ghost use Rattle.text_line.specs.Layout.{shortRule, noRule, laidOut, Sane, isSane, isLayout, Laid, FieldsOk};
-ghost use Rattle.text_line.specs.Steps.{Starts, ifInRange, within, FieldOk};
+ghost use Rattle.text_line.specs.Layout.{shortRule, withOther, noRule, ruleAt, laidOut, Sane, isSane, isLayout, Laid, FieldsOk};
+ghost use Rattle.text_line.specs.Steps.{Starts, ifInRange, within, FieldOk, endAnswer};
 
 // The spelling of a word: five bytes, and how many of them are the word's; the others are 0.
 pub struct Spelling {
@@ -18,22 +21,23 @@ pub struct Spelling {
     pub size: usize,
 }
 
-// A field: its name between two commas (the first `size` bytes of `mark`), how much higher its value is held, and its range, as held.
+// A field: its name between two commas (the first `size` bytes of `mark`), where the line goes on if that does not stand here (`other` rules further on;
+// 0: it must), how much higher its value is held, and its range, as held.
 pub struct Rule {
     pub mark: [u8; 4],
     pub size: usize,
+    pub other: usize,
     pub up: u64,
     pub least: u64,
     pub most: u64,
 }
 
-// The fields of a line: the first `count` of `rules`.
+// The fields of a line, at most four: each way through its rules ends with a rule without mark.
 pub struct Layout {
-    pub count: usize,
-    pub rules: [Rule; 4],
+    pub rules: [Rule; RULES],
 }
 
-// What one field holds: its value, as held, and the place after it; or the refusal.
+// What one field holds: its value, as held, or ABSENT, and the place after it; or the refusal.
 pub(crate) enum Field {
     Value(u64, usize),
     Refused(Refusal),
@@ -51,7 +55,8 @@ pub enum Fields {
     Refused(Refusal),
 }
 
-// The answer with the values of the fields, x and y of a pin held 4,096 higher; 0 past the last field, and after a refusal.
+// The answer with the values of the fields, x and y of a pin held 4,096 higher; ABSENT for a field that is not there, 0 past the last field, and after a
+// refusal.
 pub struct FieldsRead {
     pub answer: Fields,
     pub values: [u64; 4],
@@ -115,23 +120,50 @@ pub fn short_rule(name: u8, up: u64, least: u64, most: u64) -> Rule
     Rule {
         mark: [44, name, 44, 0],
         size: 3,
+        other: 0,
         up,
         least,
         most,
     }
 }
 
-// The field past the last.
+// The same field, where the line goes on `other` rules further on if its name does not stand here.
+pub fn or_else(rule: Rule, other: usize) -> Rule
+    ensures { λ r. ⌜ r ≡ withOther other rule ⌝ }
+{
+    let mark = rule.mark;
+    Rule {
+        mark,
+        size: rule.size,
+        other,
+        up: rule.up,
+        least: rule.least,
+        most: rule.most,
+    }
+}
+
+// The rule that ends a way.
 pub fn no_rule() -> Rule
     ensures { λ r. ⌜ r ≡ noRule ⌝ }
 {
     Rule {
         mark: [0; 4],
         size: 0,
+        other: 0,
         up: 0,
         least: 0,
         most: 0,
     }
+}
+
+// The rule at place j; one that ends a way past the last.
+pub fn rule_at(rules: [Rule; RULES], j: usize) -> Rule
+    ensures { λ r. ⌜ r ≡ ruleAt rules j ⌝ }
+{
+    if RULES <= j {
+        return no_rule();
+    }
+    rules[j]
 }
 
 // The layout of a line with one field, and of a line with none.
@@ -140,8 +172,7 @@ pub fn one_field(rule: Rule) -> Layout
 {
     let none = no_rule();
     Layout {
-        count: 1,
-        rules: [rule, none, none, none],
+        rules: [rule, none, none, none, none, none],
     }
 }
 
@@ -150,8 +181,7 @@ pub fn no_fields() -> Layout
 {
     let none = no_rule();
     Layout {
-        count: 0,
-        rules: [none, none, none, none],
+        rules: [none, none, none, none, none, none],
     }
 }
 
@@ -168,15 +198,12 @@ fn is_sane(rule: Rule) -> bool
     rule.most < num_text::MOST
 }
 
-// Whether a layout, the first `count` of the rules, is within the limits of reading and writing.
-pub fn is_layout(count: usize, rules: [Rule; 4]) -> bool
-    ensures { λ r. ⌜ r ≡ isLayout count rules ⌝ }
+// Whether a layout is within the limits of reading and writing.
+pub fn is_layout(rules: [Rule; RULES]) -> bool
+    ensures { λ r. ⌜ r ≡ isLayout rules ⌝ }
 {
-    if 4 < count {
-        return false;
-    }
     let mut i: usize = 0;
-    while i < 4 {
+    while i < RULES {
         if !is_sane(rules[i]) {
             return false;
         }
@@ -213,7 +240,7 @@ fn in_range(v: u64, b: usize, rule: Rule, line: usize) -> Field
     Field::Value(v, b)
 }
 
-// The field that begins in the text at a, with the comma before its name.
+// The field that begins in the text at a, with the comma before its name; where its name does not stand here and the line may go on without it, ABSENT.
 pub(crate) fn read_field(text: &[u8], a: usize, rule: Rule, line: usize) -> Field
     requires { ⌜ (a ≤ length (now text)) × Sane rule ⌝ }
     ensures { λ r. ⌜ FieldOk (now (text .entry)) a rule line r ⌝ }
@@ -221,7 +248,11 @@ pub(crate) fn read_field(text: &[u8], a: usize, rule: Rule, line: usize) -> Fiel
     let size = rule.size;
     let mark = rule.mark;
     if !starts_at(text, a, mark, size) {
-        return Field::Refused(Refusal { no: 2, line });
+        let no = text_grammar::name_fault(rule.other);
+        if no != 0 {
+            return Field::Refused(Refusal { no, line });
+        }
+        return Field::Value(ABSENT, a);
     }
     let p = a + size;
     let b = p + bytes_before(&text[p..], 44);
@@ -238,31 +269,11 @@ pub(crate) fn read_field(text: &[u8], a: usize, rule: Rule, line: usize) -> Fiel
     in_range(up + magnitude, b, rule, line)
 }
 
-// The first `count` of the fields, read from the bytes after a line's word.
-fn read_laid(text: &[u8], count: usize, rules: [Rule; 4], line: usize) -> FieldsRead
-    requires { ⌜ Laid count rules ⌝ }
-    ensures { λ r. ⌜ FieldsOk count rules line (now (text .entry)) r ⌝ }
+// The answer for a line of n bytes after its word, whose fields have these values and end at a.
+fn end_fields(n: usize, a: usize, values: [u64; 4], line: usize) -> FieldsRead
+    ensures { λ r. ⌜ r ≡ endAnswer (need (leb n a) 2 0) line values ⌝ }
 {
-    let mut values = [0u64; 4];
-    let mut a: usize = 0;
-    let mut j: usize = 0;
-    while j < count {
-        let rule = rules[j];
-        match read_field(text, a, rule, line) {
-            Field::Value(v, b) => {
-                values[j] = v;
-                a = b;
-                j += 1;
-            }
-            Field::Refused(f) => {
-                return FieldsRead {
-                    answer: Fields::Refused(f),
-                    values: [0; 4],
-                };
-            }
-        }
-    }
-    let no = text_grammar::rest_fault(text.len(), a);
+    let no = text_grammar::rest_fault(n, a);
     if no != 0 {
         return FieldsRead {
             answer: Fields::Refused(Refusal { no, line }),
@@ -275,17 +286,49 @@ fn read_laid(text: &[u8], count: usize, rules: [Rule; 4], line: usize) -> Fields
     }
 }
 
+// The fields by their rules, read from the bytes after a line's word.
+fn read_laid(text: &[u8], rules: [Rule; RULES], line: usize) -> FieldsRead
+    requires { ⌜ Laid rules ⌝ }
+    ensures { λ r. ⌜ FieldsOk rules line (now (text .entry)) r ⌝ }
+{
+    let mut values = [0u64; 4];
+    let mut a: usize = 0;
+    let mut j: usize = 0;
+    let mut i: usize = 0;
+    while i < 4 {
+        let rule = rule_at(rules, j);
+        if rule.size == 0 {
+            return end_fields(text.len(), a, values, line);
+        }
+        match read_field(text, a, rule, line) {
+            Field::Value(v, b) => {
+                let absent = text_grammar::is_absent(rule.other, v);
+                j = text_grammar::next_place(j, rule.other, absent);
+                values[i] = v;
+                a = b;
+                i += 1;
+            }
+            Field::Refused(f) => {
+                return FieldsRead {
+                    answer: Fields::Refused(f),
+                    values: [0; 4],
+                };
+            }
+        }
+    }
+    end_fields(text.len(), a, values, line)
+}
+
 // The fields of a line with that layout, read from the bytes after its word; a layout beyond the limits is refused by 2.
 pub fn read_fields(text: &[u8], layout: Layout, line: usize) -> FieldsRead
-    ensures { λ r. ⌜ FieldsOk (layout .count) (layout .rules) line (now (text .entry)) r ⌝ }
+    ensures { λ r. ⌜ FieldsOk (layout .rules) line (now (text .entry)) r ⌝ }
 {
     let rules = layout.rules;
-    let count = layout.count;
-    if !is_layout(count, rules) {
+    if !is_layout(rules) {
         return FieldsRead {
             answer: Fields::Refused(Refusal { no: 2, line }),
             values: [0; 4],
         };
     }
-    read_laid(text, count, rules, line)
+    read_laid(text, rules, line)
 }

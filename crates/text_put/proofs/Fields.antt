@@ -1,20 +1,22 @@
 -- The fields of a line written one after the other, in the form of the needs.
-use mathlib.Core.Path.{_≡_, refl, ap}
+use mathlib.Core.Path.{_≡_, refl, sym, ap, _∙_}
+use mathlib.Core.Bool.{Bool, true, false, true≢false}
 use mathlib.Core.List.{List, [], _∷_, _++_, append-assoc, append-nil}
-use Prim.Native.Nat.{ℕ, zero, suc, _+_, _≤_, _<_, _^_}
+use Prim.Native.Nat.{ℕ, zero, suc, _+_, _-_, _≤_, _<_, _^_}
 use native.Mathlib.Numerals.{add-one}
 use native.Mathlib.Omega.{arith}
 use borrow.Author.Tests.{le-ltb}
 use lib.IntN.{pos, subℕ}
 use lib.ListN.{length, getD, take}
-use lib.Seq.{take-all}
 use Rattle.num_text.specs.Number.{numberText}
 use Rattle.num_text.specs.Held.{Wrote}
 use Rattle.num_text.proofs.Wrote.{wrote-none, wrote-then}
-use Rattle.text_grammar.specs.Line.{fieldsText}
+use Rattle.text_grammar.specs.Line.{Value, number, absent, Form, one, either, over, fieldsText}
+use Rattle.text_grammar.specs.Choice.{isAbsent, nextPlace}
 use Rattle.text_line.specs.declared.Rule.{Rule as HeldRule}
-use Rattle.text_line.specs.Held.{lowered, loweredAll}
-use Rattle.text_line.specs.Layout.{markOf, chain, blankRule, formOf, valuesOf}
+use Rattle.text_line.specs.Held.{lowered}
+use Rattle.text_line.specs.Layout.{markOf, ruleOf, ruleAt, mustStand, pick, formAt, placeAfter, valuesAt, formOf, valuesOf}
+use Rattle.text_line.proofs.Ways.{form-ends, form-goes-on, values-go-on, way-taken}
 
 -- ---- one field
 
@@ -23,37 +25,78 @@ lowered-sub zero v = rw (le-ltb v 0 (omega arith)) (ap pos (omega arith))
 lowered-sub (suc u) v = refl
 
 -- the field with the rule r and the held value v
-abbrev pub fieldText : HeldRule → ℕ → List ℕ
-fieldText r v = markOf r ++ numberText (lowered (r .up) v)
+abbrev heldText : HeldRule → ℕ → List ℕ
+heldText r v = markOf r ++ numberText (lowered (r .up) v)
 
-pub field-written : (mark b m a : List ℕ) (size at k n u v : ℕ) → length b < 2 ^ 64 → Wrote b m (take size mark) at k → Wrote m a (numberText (subℕ v u)) k n → Wrote b a (take size mark ++ numberText (lowered u v)) at n
-field-written mark b m a size at k n u v h p q = rw (lowered-sub u v) (wrote-then b m a _ _ at k n h p q)
+module _ (t : Bool) (mark b : List ℕ) (size at u v : ℕ) where
+  pub field-absent : at < 2 ^ 64 → t ≡ true → Wrote b b (pick t [] (take size mark ++ numberText (lowered u v))) at at
+  field-absent h e = rw e (wrote-none b at (omega arith))
+
+  pub field-written : (m a : List ℕ) (k n : ℕ) → length b < 2 ^ 64 → t ≡ false → Wrote b m (take size mark) at k → Wrote m a (numberText (subℕ v u)) k n → Wrote b a (pick t [] (take size mark ++ numberText (lowered u v))) at n
+  field-written m a k n h e p q = rw (e, lowered-sub u v) (wrote-then b m a _ _ at k n h p q)
 
 -- ---- one more field
 
--- the first j fields with the rules rs and the held values vs
-abbrev pub fieldsTo : ℕ → List HeldRule → List ℕ → List ℕ
-fieldsTo j rs vs = fieldsText (formOf j rs) (valuesOf j rs vs)
+-- the text of a field and of those after it, by whether it must stand here and whether it is absent
+way-text : (must gone : Bool) (r : HeldRule) (v : ℕ) (f g : Form) (us : List Value) → (must ≡ true → gone ≡ false) → fieldsText (pick must (one (ruleOf r) f) (either (ruleOf r) f g)) (pick gone absent (number (lowered (r .up) v)) ∷ us) ≡ pick gone [] (heldText r v) ++ fieldsText (pick gone g f) us
+unfolding fieldsText
+way-text true true r v f g us h = absurd (true≢false (h refl))
+way-text true false r v f g us h = sym (append-assoc (markOf r) (numberText (lowered (r .up) v)) (fieldsText f us))
+way-text false true r v f g us h = refl
+way-text false false r v f g us h = sym (append-assoc (markOf r) (numberText (lowered (r .up) v)) (fieldsText f us))
 
-fields-snoc : (j : ℕ) (rs : List HeldRule) (vs : List ℕ) → j < length rs → j < length vs → fieldsTo (suc j) rs vs ≡ fieldsTo j rs vs ++ fieldText (getD rs j blankRule) (getD vs j 0)
-unfolding fieldsText loweredAll chain
-fields-snoc j [] vs h l = absurd (omega arith)
-fields-snoc j (r ∷ rs) [] h l = absurd (omega arith)
-fields-snoc zero (r ∷ rs) (v ∷ vs) h l = rw append-nil
-fields-snoc (suc j) (r ∷ rs) (v ∷ vs) h l = rw (fields-snoc j rs vs (omega arith) (omega arith)) (simp append-assoc)
+must-be-there : (r : HeldRule) (v : ℕ) → mustStand r ≡ true → isAbsent (r .other) v ≡ false
+must-be-there r v e = rw e
 
-pub no-field : (rs : List HeldRule) (vs b : List ℕ) (at : ℕ) → at < 2 ^ 64 → Wrote b b (fieldsTo 0 rs vs) at at
-unfolding fieldsText chain
-no-field rs vs b at h = wrote-none b at (omega arith)
+module _ (rs : List HeldRule) (vs b : List ℕ) (at : ℕ) where
+  -- the first i fields are written up to the place k, and the rule of the next is at place j
+  pub record PutTo (m : List ℕ) (k j i : ℕ) : Type 0 where
+    pub far : List ℕ
+    pub wrote : Wrote b m far at k
+    pub kept : fieldsText (formOf rs) (valuesOf rs vs) ≡ far ++ fieldsText (formAt (4 - i) rs j) (valuesAt (4 - i) rs vs j i)
 
-module _ (j : ℕ) (rs : List HeldRule) (vs b a : List ℕ) (at : ℕ) (all : length rs ≡ 4) where
-  pub field-more : (m : List ℕ) (k r : ℕ) → length b < 2 ^ 64 → length vs ≡ 4 → j < 4 → Wrote b m (fieldsTo j rs vs) at k → Wrote m a (fieldText (getD rs j blankRule) (getD vs j 0)) k r → Wrote b a (fieldsTo (j + 1) rs vs) at r
-  field-more m k r f l h p q = rw (add-one, fields-snoc j rs vs (omega arith) (omega arith)) (wrote-then b m a _ _ at k r f p q)
+  pub no-field : at < 2 ^ 64 → PutTo b at 0 0
+  no-field h = record { far = []; wrote = wrote-none b at (omega arith); kept = refl }
 
-  module _ (n r : ℕ) (few : j ≤ n) (p : Wrote b a (fieldsTo j rs vs) at r) where
-    pub fields-counted : n ≤ j → Wrote b a (fieldsText (formOf n rs) (valuesOf n rs vs)) at r
-    fields-counted h = let e : n ≡ j = omega arith in rw e p
+  module _ (m : List ℕ) (k j i : ℕ) (inv : PutTo m k j i) where
+    module _ (r : HeldRule) (e : r ≡ ruleAt rs j) where
+      pub field-more : (a : List ℕ) (n : ℕ) (t : Bool) (p : ℕ) → length b < 2 ^ 64 → i < 4 → (r .size ≡ 0 → ⊥) → t ≡ isAbsent (r .other) (getD vs i 0) → Wrote m a (pick t [] (heldText r (getD vs i 0))) k n → p ≡ nextPlace j (r .other) t → PutTo a n p (i + 1)
+      field-more a n t p f h size u w q = record { far = inv .far ++ text; wrote = wrote-then b m a _ _ at k n f (inv .wrote) (rw (u, e) at w); kept = kept-on }
+        where
+          x : HeldRule
+          x = ruleAt rs j
 
-    -- past the four rules there is no more
-    pub fields-all : 4 ≤ j → Wrote b a (fieldsText (formOf n rs) (valuesOf n rs vs)) at r
-    fields-all h = rw (take-all n rs (omega arith), ← take-all j rs (omega arith)) p
+          v : ℕ
+          v = getD vs i 0
+
+          more : ℕ
+          more = 4 - (i + 1)
+
+          gone : Bool
+          gone = isAbsent (ruleAt rs j .other) (getD vs i 0)
+
+          text : List ℕ
+          text = pick gone [] (heldText x v)
+
+          place : placeAfter rs j v ≡ p
+          place = sym (q ∙ rw (u, e))
+
+          there : ruleAt rs j .size ≡ 0 → ⊥
+          there = rw e at size
+
+          kept-on : fieldsText (formOf rs) (valuesOf rs vs) ≡ (inv .far ++ text) ++ fieldsText (formAt more rs p) (valuesAt more rs vs p (i + 1))
+          kept-on =
+              let c : 4 - i ≡ suc more = omega arith in
+              inv .kept ∙ rw (c, form-goes-on more rs j there, values-go-on more rs j there vs i, way-text (mustStand x) gone x v (formAt more rs (nextPlace j (x .other) false)) (formAt more rs (nextPlace j (x .other) true)) (valuesAt more rs vs (placeAfter rs j v) (suc i)) (must-be-there x v), way-taken more rs j (x .other) gone, place, append-assoc, add-one)
+
+    -- no field is left
+    ended : formAt (4 - i) rs j ≡ over → Wrote b m (fieldsText (formOf rs) (valuesOf rs vs)) at k
+    unfolding fieldsText
+    ended f = rw (inv .kept, f, append-nil) (inv .wrote)
+
+    pub no-rule-left : (r : HeldRule) → r ≡ ruleAt rs j → r .size ≡ 0 → Wrote b m (fieldsText (formOf rs) (valuesOf rs vs)) at k
+    no-rule-left r e s = let z : ruleAt rs j .size ≡ 0 = rw e at s in ended (form-ends (4 - i) rs j z)
+
+    pub no-room-left : 4 ≤ i → Wrote b m (fieldsText (formOf rs) (valuesOf rs vs)) at k
+    unfolding formAt
+    no-room-left h = let q : 4 - i ≡ 0 = omega arith in ended (rw q)

@@ -9,4 +9,4 @@ use Rattle.text_line.specs.Layout.{formOf, valuesOf}
 
 -- the word, the fields of the layout with the values that vs hold, and LF
 unfoldable pub lineText : Spelling → Layout → List ℕ → List ℕ
-lineText p l vs = textOf p ++ (fieldsText (formOf (l .count) (l .rules)) (valuesOf (l .count) (l .rules) vs) ++ (lineFeed ∷ []))
+lineText p l vs = textOf p ++ (fieldsText (formOf (l .rules)) (valuesOf (l .rules) vs) ++ (lineFeed ∷ []))

@@ -1,15 +1,16 @@
 // Writing the lines of a text into a lent buffer.
+use text_grammar::RULES;
 use text_line::Layout;
 use text_line::Rule;
 use text_line::Spelling;
 ghost use mathlib.Core.Path.{_≡_};
-ghost use mathlib.Core.List.{_++_};
+ghost use mathlib.Core.List.{[], _++_};
 ghost use Rattle.num_text.specs.Number.{numberText};
 ghost use Rattle.num_text.specs.Held.{Wrote};
 ghost use Rattle.text_grammar.specs.Line.{fieldsText};
 ghost use lib.ListN.{take};
 ghost use Rattle.text_line.specs.Held.{lowered};
-ghost use Rattle.text_line.specs.Layout.{formOf, valuesOf};
+ghost use Rattle.text_line.specs.Layout.{pick, formOf, valuesOf};
 ghost use Rattle.text_put.specs.LineText.{lineText};
 ghost use Rattle.text_put.specs.Shown.{shownOf};
 
@@ -41,28 +42,42 @@ fn put_word(out: &mut [u8], at: usize, bytes: [u8; 5], size: usize) -> usize
     put_first(out, at, &bytes, size)
 }
 
-// The same for a field: the first `size` bytes of its mark, then its value v, held `up` higher.
-fn put_field(out: &mut [u8], at: usize, mark: [u8; 4], size: usize, up: u64, v: u64) -> usize
-    ensures { λ r. ⌜ Wrote (now (out .entry)) (now (out .exit)) (take size mark ++ numberText (lowered up v)) at r ⌝ }
+// The same for a field: the first `size` bytes of its mark, then its value v, held `up` higher; nothing for one that is absent.
+fn put_field(
+    out: &mut [u8],
+    at: usize,
+    mark: [u8; 4],
+    size: usize,
+    up: u64,
+    v: u64,
+    absent: bool,
+) -> usize
+    ensures { λ r. ⌜ Wrote (now (out .entry)) (now (out .exit)) (pick absent [] (take size mark ++ numberText (lowered up v))) at r ⌝ }
 {
+    if absent {
+        return at;
+    }
     let a = put_first(out, at, &mark, size);
     num_text::put_number(out, a, v, up)
 }
 
-// The same for the first `count` fields with the values v, as held.
-fn put_fields(out: &mut [u8], at: usize, count: usize, rules: [Rule; 4], v: [u64; 4]) -> usize
-    ensures { λ r. ⌜ Wrote (now (out .entry)) (now (out .exit)) (fieldsText (formOf count rules) (valuesOf count rules v)) at r ⌝ }
+// The same for the fields by their rules, with the values v, as held.
+fn put_fields(out: &mut [u8], at: usize, rules: [Rule; RULES], v: [u64; 4]) -> usize
+    ensures { λ r. ⌜ Wrote (now (out .entry)) (now (out .exit)) (fieldsText (formOf rules) (valuesOf rules v)) at r ⌝ }
 {
     let mut a = at;
     let mut j: usize = 0;
-    while j < 4 {
-        if count <= j {
+    let mut i: usize = 0;
+    while i < 4 {
+        let rule = text_line::rule_at(rules, j);
+        if rule.size == 0 {
             return a;
         }
-        let rule = rules[j];
         let mark = rule.mark;
-        a = put_field(out, a, mark, rule.size, rule.up, v[j]);
-        j += 1;
+        let absent = text_grammar::is_absent(rule.other, v[i]);
+        a = put_field(out, a, mark, rule.size, rule.up, v[i], absent);
+        j = text_grammar::next_place(j, rule.other, absent);
+        i += 1;
     }
     a
 }
@@ -74,6 +89,6 @@ pub fn put_line(out: &mut [u8], at: usize, word: Spelling, layout: Layout, v: [u
     let bytes = word.bytes;
     let rules = layout.rules;
     let a = put_word(out, at, bytes, word.size);
-    let b = put_fields(out, a, layout.count, rules, v);
+    let b = put_fields(out, a, rules, v);
     num_text::put_bytes(out, b, b"\n")
 }

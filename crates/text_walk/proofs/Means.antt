@@ -90,9 +90,9 @@ module _ {W S : Type 0} (k : Kind W S) (z : W) where
     word-means zero q = fields-mean (fields (d .form w) rest) refl (record { clear = sym q })
     word-means (suc m) q = refl
 
-  read-is : (y : Layout) (w : W) (l : ℕ) (rest : List ℕ) → y ≡ layoutFor (d .form w) → Laying (d .form w) → readFields (y .count) (y .rules) l rest ≡ located l (fields (d .form w) rest)
+  read-is : (y : Layout) (w : W) (l : ℕ) (rest : List ℕ) → y ≡ layoutFor (d .form w) → Laying (d .form w) → readFields (y .rules) l rest ≡ located l (fields (d .form w) rest)
   unfolding readFields
-  read-is y w l rest e g = ap (λ (y : Layout). readFields (y .count) (y .rules) l rest) e ∙ rw (g .fine, g .means, readFields)
+  read-is y w l rest e g = ap (λ (y : Layout). readFields (y .rules) l rest) e ∙ rw (g .fine, g .means, readFields)
 
   module _ (s : S) (ps : List Spelling) (ys : List Layout) (n : ℕ) (fs : Tests) (t : TableOf ps ys n) (f : FaultsOf s fs) (l : ℕ) (b : List ℕ) where
     abbrev i : ℕ
@@ -146,7 +146,7 @@ module _ {W S : Type 0} (k : Kind W S) (z : W) where
         vs = valuesIn (d .form w) (r .values)
 
         abbrev us : List Value
-        us = valuesOf (getD ys (r .word) blankLayout .count) (getD ys (r .word) blankLayout .rules) (r .values)
+        us = valuesOf (getD ys (r .word) blankLayout .rules) (r .values)
 
         clear : WordMeans s (r .word) us (stepLine k s x)
         clear = rw q at meant
@@ -155,7 +155,7 @@ module _ {W S : Type 0} (k : Kind W S) (z : W) where
         laid-out = t .laid (r .word) (clear .inside) ∙ ap (λ (w : W). layoutFor (d .form w)) (sym e)
 
         its-values : us ≡ vs
-        its-values = ap (λ (y : Layout). valuesOf (y .count) (y .rules) (r .values)) laid-out
+        its-values = ap (λ (y : Layout). valuesOf (y .rules) (r .values)) laid-out
 
         pub walked-entered : Entered k s w
         walked-entered = subst (λ (w : W). Entered k s w) (sym e) (clear .entered)

@@ -31,22 +31,22 @@ no-fields : (l : ℕ) (x : Step (List Value)) (m j : ℕ) → refused m j ≡ lo
 no-fields l (next vs) m j e = cc
 no-fields l (fault n) m j e = cc
 
-own-line : (n : ℕ) (rs : List Rule) (l : ℕ) (s : List ℕ) (m j : ℕ) → refused m j ≡ readFields n rs l s → j ≡ l
+own-line : (rs : List Rule) (l : ℕ) (s : List ℕ) (m j : ℕ) → refused m j ≡ readFields rs l s → j ≡ l
 unfolding readFields
-own-line n rs l s m j e = by (isLayout n rs) refl
+own-line rs l s m j e = by (isLayout rs) refl
   where
-    by : (b : Bool) → isLayout n rs ≡ b → j ≡ l
-    by true q = no-fields l (fields (formOf n rs) s) m j (e ∙ rw (q, readFields))
+    by : (b : Bool) → isLayout rs ≡ b → j ≡ l
+    by true q = no-fields l (fields (formOf rs) s) m j (e ∙ rw (q, readFields))
     by false q = let c : refused m j ≡ refused 2 l = e ∙ rw (q, readFields) in cc
 
-module _ (ys : List Layout) (i l : ℕ) (rest : List ℕ) (r : FieldsRead) (ok : FieldsOk (getD ys i blankLayout .count) (getD ys i blankLayout .rules) l rest r) where
+module _ (ys : List Layout) (i l : ℕ) (rest : List ℕ) (r : FieldsRead) (ok : FieldsOk (getD ys i blankLayout .rules) l rest r) where
   pub fields-walked : r .answer ≡ held.Got → WalkOk ys l (walkFields (getD ys i blankLayout) i l rest) (record { fault = fault.Clear; word = i; values = r .values })
   fields-walked q = record { meant = ap (byFields i) (rw q at (ok .meant)); at = refl }
 
   pub fields-stop : (f : Refusal) → r .answer ≡ held.Refused f → (x : LineWalked) → x ≡ stoppedAt f → WalkOk ys l (walkFields (getD ys i blankLayout) i l rest) x
   fields-stop f q x e =
-      let p : refused (f .no) (f .line) ≡ readFields (getD ys i blankLayout .count) (getD ys i blankLayout .rules) l rest = rw q at (ok .meant) in
-      rw e (record { meant = ap (byFields i) p; at = own-line _ _ l rest (f .no) (f .line) p })
+      let p : refused (f .no) (f .line) ≡ readFields (getD ys i blankLayout .rules) l rest = rw q at (ok .meant) in
+      rw e (record { meant = ap (byFields i) p; at = own-line _ l rest (f .no) (f .line) p })
 
 -- ---- the word
 

@@ -28,7 +28,7 @@ pub data Walk : Type 0 where
 
 -- the layout past the end of a list
 abbrev pub blankLayout : Layout
-blankLayout = record { count = 0; rules = [] }
+blankLayout = record { rules = [] }
 
 -- the number of the first spelling that the bytes s are, or how many there are
 unfoldable pub findIn : List Spelling → List ℕ → ℕ
@@ -42,7 +42,7 @@ byFields i (refused n l) = stop n
 
 -- word i with the layout y, by the bytes after it in line l
 abbrev pub walkFields : Layout → ℕ → ℕ → List ℕ → Walk
-walkFields y i l s = byFields i (readFields (y .count) (y .rules) l s)
+walkFields y i l s = byFields i (readFields (y .rules) l s)
 
 -- the first of the tests before the fields that a line with word i fails, or 0
 abbrev pub faultAt : Tests → ℕ → ℕ
@@ -78,7 +78,7 @@ stoppedAt f = record { fault = fault.Refused f; word = 0; values = 0 ∷ 0 ∷ 0
 
 -- what each case of the answer means
 abbrev pub walkOf : List Layout → Fault → ℕ → List ℕ → Walk
-walkOf ys fault.Clear i vs = word i (valuesOf (getD ys i blankLayout .count) (getD ys i blankLayout .rules) vs)
+walkOf ys fault.Clear i vs = word i (valuesOf (getD ys i blankLayout .rules) vs)
 walkOf ys (fault.Refused f) i vs = stop (f .no)
 
 -- r is the answer for line l, which is walked so

@@ -1,17 +1,14 @@
 use borrow.Author.Needs.{needs}
 use Prim.Native.Nat.{_≤_, _-_}
-use Rattle.text_line.proofs.Limits.{too-many, Untested, none-tested, not-sane, one-sane, all-sane}
+use Rattle.text_line.proofs.Limits.{Untested, none-tested, not-sane, one-sane, all-sane}
 use Rattle.text_line.proofs.is_layout.Statement.{statement}
 use Rattle.text_line.proofs.is_layout.Tie as tie
 
 abbrev Inv-loop : tie.InvT-loop
-Inv-loop count rules i₀ i = (i ≤ 4) × Untested count rules i
+Inv-loop rules i₀ i = (i ≤ 6) × Untested rules i
 
 abbrev μ-loop : tie.MeasureT-loop
-μ-loop count rules i₀ i = 4 - i
-
-returns : tie.Need-returns Inv-loop μ-loop
-returns c = search too-many
+μ-loop rules i₀ i = 6 - i
 
 loop-holds : tie.Need-loop-holds Inv-loop μ-loop
 loop-holds c = (search needs, search none-tested)
@@ -25,8 +22,8 @@ array-copy-out-is-sane c = search needs
 is-sane-requires : tie.Need-is-sane-requires Inv-loop μ-loop
 is-sane-requires c κs = search needs
 
-returns-2 : tie.Need-returns-2 Inv-loop μ-loop
-returns-2 c = search (needs, not-sane)
+returns : tie.Need-returns Inv-loop μ-loop
+returns c = search (needs, not-sane)
 
 add-i : tie.Need-add-i Inv-loop μ-loop
 add-i c = search needs
@@ -37,8 +34,8 @@ loop-less c = search needs
 loop-again : tie.Need-loop-again Inv-loop μ-loop
 loop-again c = (search needs, search (needs, one-sane))
 
-returns-3 : tie.Need-returns-3 Inv-loop μ-loop
-returns-3 c = search (needs, all-sane)
+returns-2 : tie.Need-returns-2 Inv-loop μ-loop
+returns-2 c = search (needs, all-sane)
 
 pub is-layout-spec : {M : Type 1} → statement M
 is-layout-spec =
@@ -46,13 +43,12 @@ is-layout-spec =
     (tie.spec
     Inv-loop
     μ-loop
-    returns
     loop-holds
     mul-is-sane
     array-copy-out-is-sane
     is-sane-requires
-    returns-2
+    returns
     add-i
     loop-less
     loop-again
-    returns-3)
+    returns-2)

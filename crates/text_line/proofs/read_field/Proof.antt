@@ -1,5 +1,5 @@
 -- A field: its name, its number, its range.
-use Rattle.text_line.proofs.OneField.{no-mark, name-end, name-end-fits, field-end, field-end-fits, no-number, too-far-below, negative, positive, magnitude-fits}
+use Rattle.text_line.proofs.OneField.{no-mark, not-here, name-end, field-end, field-end-fits, no-number, too-far-below, negative, positive, magnitude-fits}
 use borrow.Author.Needs.{needs}
 use Rattle.text_line.proofs.read_field.Statement.{statement}
 use Rattle.text_line.proofs.read_field.Tie as tie
@@ -7,11 +7,17 @@ use Rattle.text_line.proofs.read_field.Tie as tie
 starts-at-requires : tie.Need-starts-at-requires
 starts-at-requires c κs = search needs
 
+name-fault-requires : tie.Need-name-fault-requires
+name-fault-requires c κs = search needs
+
 returns : tie.Need-returns
 returns c = search no-mark
 
+returns-2 : tie.Need-returns-2
+returns-2 c = search not-here
+
 add-p : tie.Need-add-p
-add-p c = search (needs, name-end-fits)
+add-p c = search needs
 
 sub-bytes-before : tie.Need-sub-bytes-before
 sub-bytes-before c = search name-end
@@ -46,17 +52,17 @@ enum-known-negative c = search needs
 enum-told : tie.Need-enum-told
 enum-told c = search needs
 
-returns-2 : tie.Need-returns-2
-returns-2 c = search no-number
-
 returns-3 : tie.Need-returns-3
-returns-3 c = search too-far-below
+returns-3 c = search no-number
+
+returns-4 : tie.Need-returns-4
+returns-4 c = search too-far-below
 
 in-range-requires : tie.Need-in-range-requires
 in-range-requires c κs = search needs
 
-returns-4 : tie.Need-returns-4
-returns-4 c = search negative
+returns-5 : tie.Need-returns-5
+returns-5 c = search negative
 
 add-in-range : tie.Need-add-in-range
 add-in-range c = search (needs, magnitude-fits)
@@ -64,15 +70,17 @@ add-in-range c = search (needs, magnitude-fits)
 in-range-requires-2 : tie.Need-in-range-requires-2
 in-range-requires-2 c κs = search needs
 
-returns-5 : tie.Need-returns-5
-returns-5 c = search positive
+returns-6 : tie.Need-returns-6
+returns-6 c = search positive
 
 pub read-field-spec : {M : Type 1} → statement M
 read-field-spec =
     tie.close
     (tie.spec
     starts-at-requires
+    name-fault-requires
     returns
+    returns-2
     add-p
     sub-bytes-before
     part-bytes-before-start
@@ -85,10 +93,10 @@ read-field-spec =
     read-number-requires
     enum-known-negative
     enum-told
-    returns-2
     returns-3
-    in-range-requires
     returns-4
+    in-range-requires
+    returns-5
     add-in-range
     in-range-requires-2
-    returns-5)
+    returns-6)

@@ -1,7 +1,10 @@
-use Rattle.text_put.proofs.Fields.{field-written}
+use Rattle.text_put.proofs.Fields.{field-absent, field-written}
 use borrow.Author.Needs.{needs}
 use Rattle.text_put.proofs.put_field.Statement.{statement}
 use Rattle.text_put.proofs.put_field.Tie as tie
+
+returns : tie.Need-returns
+returns c = search (needs, field-absent)
 
 slice-aggregate-put-first : tie.Need-slice-aggregate-put-first
 slice-aggregate-put-first c = search needs
@@ -15,10 +18,16 @@ put-number-requires c κs = search needs
 same-length : tie.Need-same-length
 same-length c = search needs
 
-returns : tie.Need-returns
-returns c = search (needs, field-written)
+returns-2 : tie.Need-returns-2
+returns-2 c = search (needs, field-written)
 
 pub put-field-spec : {M : Type 1} → statement M
 put-field-spec =
     tie.close
-    (tie.spec slice-aggregate-put-first put-first-requires put-number-requires same-length returns)
+    (tie.spec
+    returns
+    slice-aggregate-put-first
+    put-first-requires
+    put-number-requires
+    same-length
+    returns-2)
