@@ -1,13 +1,13 @@
-use Rattle.measure.proofs.Answers.{summable, its-measure}
+use Rattle.measure_held.proofs.Answers.{its-measure}
 use borrow.Author.Needs.{needs}
-use Rattle.measure.proofs.measured.Statement.{statement}
-use Rattle.measure.proofs.measured.Tie as tie
+use Rattle.measure_held.proofs.measured.Statement.{statement}
+use Rattle.measure_held.proofs.measured.Tie as tie
 
 is-legal-requires : tie.Need-is-legal-requires
 is-legal-requires c κs = search needs
 
 length-of-requires : tie.Need-length-of-requires
-length-of-requires c κs = search summable
+length-of-requires c κs = search needs
 
 returns : tie.Need-returns
 returns c = search its-measure

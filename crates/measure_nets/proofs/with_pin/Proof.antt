@@ -1,7 +1,7 @@
-use Rattle.measure.proofs.Around.{pin-added}
+use Rattle.measure_nets.proofs.Around.{pin-added}
 use borrow.Author.Needs.{needs}
-use Rattle.measure.proofs.with_pin.Statement.{statement}
-use Rattle.measure.proofs.with_pin.Tie as tie
+use Rattle.measure_nets.proofs.with_pin.Statement.{statement}
+use Rattle.measure_nets.proofs.with_pin.Tie as tie
 
 lesser-requires : tie.Need-lesser-requires
 lesser-requires c κs = search needs

@@ -1,14 +1,20 @@
 use Prim.Native.Nat.{_-_, _≤_}
-use Rattle.measure.proofs.Around.{Around, pin-placed, first-around, next-around, all-around, left-first, low-first, half-fits}
+use Rattle.measure_nets.proofs.Around.{Around, none-around, first-around, next-around, all-around, left-first, low-first, half-fits}
 use borrow.Author.Needs.{needs}
-use Rattle.measure.proofs.half_perimeter.Statement.{statement}
-use Rattle.measure.proofs.half_perimeter.Tie as tie
+use Rattle.measure_nets.proofs.half_perimeter.Statement.{statement}
+use Rattle.measure_nets.proofs.half_perimeter.Tie as tie
 
 abbrev Inv-loop : tie.InvT-loop
-Inv-loop spots from to pins e₀ i₀ e i = (i ≤ to) × Around spots pins from to i e
+Inv-loop spots from count pins to e₀ i₀ e i = (i ≤ to) × Around spots pins from to i e
 
 abbrev μ-loop : tie.MeasureT-loop
-μ-loop spots from to pins e₀ i₀ e i = to - i
+μ-loop spots from count pins to e₀ i₀ e i = to - i
+
+end-of-requires : tie.Need-end-of-requires Inv-loop μ-loop
+end-of-requires c κs = search needs
+
+returns : tie.Need-returns Inv-loop μ-loop
+returns c = search (needs, none-around)
 
 mul-place-of : tie.Need-mul-place-of Inv-loop μ-loop
 mul-place-of c = search needs
@@ -17,7 +23,7 @@ array-copy-out-place-of : tie.Need-array-copy-out-place-of Inv-loop μ-loop
 array-copy-out-place-of c = search needs
 
 place-of-requires : tie.Need-place-of-requires Inv-loop μ-loop
-place-of-requires c κs = search pin-placed
+place-of-requires c κs = search needs
 
 add-i : tie.Need-add-i Inv-loop μ-loop
 add-i c = search needs
@@ -32,7 +38,7 @@ array-copy-out-place-of-2 : tie.Need-array-copy-out-place-of-2 Inv-loop μ-loop
 array-copy-out-place-of-2 c = search needs
 
 place-of-requires-2 : tie.Need-place-of-requires-2 Inv-loop μ-loop
-place-of-requires-2 c κs = search pin-placed
+place-of-requires-2 c κs = search needs
 
 with-pin-requires : tie.Need-with-pin-requires Inv-loop μ-loop
 with-pin-requires c κs = search needs
@@ -55,8 +61,8 @@ sub-result-2 c = search low-first
 add-result : tie.Need-add-result Inv-loop μ-loop
 add-result c = search half-fits
 
-returns : tie.Need-returns Inv-loop μ-loop
-returns c = search (needs, all-around)
+returns-2 : tie.Need-returns-2 Inv-loop μ-loop
+returns-2 c = search (needs, all-around)
 
 pub half-perimeter-spec : {M : Type 1} → statement M
 half-perimeter-spec =
@@ -64,6 +70,8 @@ half-perimeter-spec =
     (tie.spec
     Inv-loop
     μ-loop
+    end-of-requires
+    returns
     mul-place-of
     array-copy-out-place-of
     place-of-requires
@@ -79,4 +87,4 @@ half-perimeter-spec =
     sub-result
     sub-result-2
     add-result
-    returns)
+    returns-2)
