@@ -8,7 +8,6 @@ use axis_graph::Graph;
 use axis_graph::NODE_ROOM;
 use axis_graph::SLOT_ROOM;
 use num_limits::lesser;
-ghost use mathlib.Core.Path.{_≡_};
 ghost use Prim.Native.Nat.{_<_};
 ghost use Rattle.axis_graph.specs.Limits.{nodeRoom};
 ghost use Rattle.axis_graph.specs.Graph.{GraphWithin, Leads, Net};

@@ -6,7 +6,6 @@ use axis_bounds::AxisPin;
 use axis_graph::NODE_ROOM;
 use num_limits::greater;
 use num_limits::lesser;
-ghost use mathlib.Core.Path.{_≡_};
 ghost use Prim.Native.Nat.{_+_, _≤_};
 ghost use Rattle.axis_bounds.specs.Held.{pinsBefore};
 ghost use Rattle.axis_solve.specs.Start.{PinsIn, NetsIn, Around, Resting, Started};

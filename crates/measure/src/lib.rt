@@ -1,4 +1,5 @@
-// Measuring a placement: whether positions are legal for a chip, and their wirelength (document 01, "Legal, and how long"). The chip and the positions are tested first.
+// Measuring a placement: whether positions are legal for a chip, and their wirelength (document 01, "Legal, and how long").
+// The chip and the positions are tested first.
 use measure_held::MeasureAnswer;
 use model::Chip;
 use model::Mac;

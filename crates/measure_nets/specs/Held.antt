@@ -9,14 +9,15 @@ use Rattle.num_laws.specs.Spread.{spread}
 use Rattle.placement.specs.Length.{origin}
 use Rattle.measure_nets.specs.declared.Extent.{Extent}
 
--- a number, 2,147,483,648 at most
+-- a number, up to a limit
 abbrev pub limited : ℕ → ℕ
 limited n = min n 2147483648
 
--- where a pin lies, 4,096 higher
+-- the x of a pin, 4,096 higher
 unfoldable pub heldX : List Spot → HeldPin → ℕ
 heldX ps p = limited (origin ps (p .m) .x) + limited (p .xup)
 
+-- its y
 unfoldable pub heldY : List Spot → HeldPin → ℕ
 heldY ps p = limited (origin ps (p .m) .y) + limited (p .yup)
 

@@ -1,4 +1,5 @@
-// How long a net is at positions, for any net, pins and positions (document 01, "Legal, and how long"). Numbers count up to a limit that those of a tested chip do not reach.
+// How long a net is, for any net, pins and positions (document 01, "Legal, and how long").
+// Numbers count up to a limit that those of a tested chip do not reach.
 use model::Mac;
 use model::Net;
 use model::Pin;
