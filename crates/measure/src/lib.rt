@@ -7,7 +7,8 @@ use model::Spot;
 use model::Tested;
 ghost use mathlib.Core.Path.{_≡_};
 ghost use Rattle.model.specs.Meaning.{firstOf, blankSpot, chipOf};
-ghost use Rattle.measure_held.specs.Answer.{measuredAs, lengthIn};
+ghost use Rattle.measure_held.specs.Answer.{measuredAs};
+ghost use Rattle.measure_held.specs.Held.{lengthIn};
 ghost use Rattle.measure.specs.Measuring.{measurePositions};
 
 // Measures the first count positions; a count above 8 stands for a list that is too long.

@@ -13,8 +13,8 @@ use Rattle.placement.specs.Legal.{boxes}
 use Rattle.legal.specs.Turn.{legalAfter}
 use Rattle.measure_held.specs.declared.MeasureAnswer.{MeasureAnswer}
 use Rattle.measure_held.specs.declared.MeasureAnswer.the-variants as answer
-use Rattle.measure_held.specs.Answer.{measured, measuredAs, lengthIn}
-use Rattle.measure_held.specs.Held.{legalHeld, lengthHeld}
+use Rattle.measure_held.specs.Answer.{measured, measuredAs}
+use Rattle.measure_held.specs.Held.{legalHeld, lengthHeld, lengthIn}
 
 pub boxes-legal : (c : Chip) (s : List Spot) (bs : List Box) (a : Bool) → bs ≡ boxes (c .macs) s → a ≡ legalAfter 0 (c .die) (map boxOf (take (c .k) (c .fixes))) [] (take (c .n) bs) → a ≡ legalHeld c s
 boxes-legal c s bs a f g = rw (g, f)

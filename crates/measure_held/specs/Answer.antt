@@ -13,8 +13,3 @@ pub data Measure : Type 0 where
 abbrev pub measuredAs : MeasureAnswer → Measure
 measuredAs (answer.Measured l wl) = measured l wl
 measuredAs (answer.Refused f) = refused (f .no) (f .line)
-
--- the wirelength in an answer; 0 where it is a refusal
-abbrev pub lengthIn : Measure → ℕ
-lengthIn (refused number line) = 0
-lengthIn (measured legality l) = l

@@ -15,6 +15,7 @@ use Rattle.geometry.specs.Box.{boxOf}
 use Rattle.placement.specs.Legal.{boxes}
 use Rattle.legal.specs.Turn.{legalAfter}
 use Rattle.measure_nets.specs.Held.{netHeld}
+use Rattle.measure_held.specs.Answer.{Measure, refused, measured}
 
 -- each macro at its position lies in the die, and is apart from the fixes and from the macros before it
 abbrev pub legalHeld : HeldChip → List Spot → Bool
@@ -28,3 +29,8 @@ lengthTo ps ts hs (suc j) = min (lengthTo ps ts hs j) 4294967296 + min (netHeld 
 -- the lengths of a chip's nets
 abbrev pub lengthHeld : HeldChip → List Spot → ℕ
 lengthHeld c ps = lengthTo ps (c .nets) (c .pins) (min (c .t) mostNets)
+
+-- the wirelength in an answer; 0 where it is a refusal
+abbrev pub lengthIn : Measure → ℕ
+lengthIn (refused number line) = 0
+lengthIn (measured legality l) = l

@@ -6,8 +6,8 @@ use model::Refusal;
 use model::Spot;
 use num_limits::sum;
 ghost use mathlib.Core.Path.{_≡_};
-ghost use Rattle.measure_held.specs.Answer.{measured as measuredAt, measuredAs, lengthIn};
-ghost use Rattle.measure_held.specs.Held.{legalHeld, lengthHeld};
+ghost use Rattle.measure_held.specs.Answer.{measured as measuredAt, measuredAs};
+ghost use Rattle.measure_held.specs.Held.{legalHeld, lengthHeld, lengthIn};
 
 // What measuring answers: legal or not and the wirelength, or the refusal.
 pub enum MeasureAnswer {
