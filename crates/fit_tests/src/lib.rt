@@ -46,7 +46,7 @@ fn test_passed(c: Chip, letters: &[u8], room: usize) -> Entry
 {
     let m = slots_each(c);
     let count = fit_pairs::letter_count(c.n, c.k);
-    let no = fit_letters::fit_fault(letters, count, m + m, room);
+    let no = fit_faults::fit_fault(letters, count, m + m, room);
     if no != 0 {
         return Entry::Refused(Refusal { no, line: 0 });
     }

@@ -1,7 +1,7 @@
-use Rattle.fit_letters.proofs.Faults.{wrong-count, wrong-letter, short-list, all-pass}
+use Rattle.fit_faults.proofs.Faults.{wrong-count, wrong-letter, short-list, all-pass}
 use borrow.Author.Needs.{needs}
-use Rattle.fit_letters.proofs.fit_fault.Statement.{statement}
-use Rattle.fit_letters.proofs.fit_fault.Tie as tie
+use Rattle.fit_faults.proofs.fit_fault.Statement.{statement}
+use Rattle.fit_faults.proofs.fit_fault.Tie as tie
 
 returns : tie.Need-returns
 returns c = search wrong-count

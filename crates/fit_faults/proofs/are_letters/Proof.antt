@@ -3,9 +3,9 @@ use Rattle.fit_slots.specs.Fit.{areLetters}
 use lib.ListN.{length, drop}
 use mathlib.Core.Path.{_≡_}
 use Prim.Native.Nat.{_-_, _≤_}
-use Rattle.fit_letters.proofs.Letters.{letters-fail, letters-more, letters-all}
-use Rattle.fit_letters.proofs.are_letters.Statement.{statement}
-use Rattle.fit_letters.proofs.are_letters.Tie as tie
+use Rattle.fit_faults.proofs.Letters.{letters-fail, letters-more, letters-all}
+use Rattle.fit_faults.proofs.are_letters.Statement.{statement}
+use Rattle.fit_faults.proofs.are_letters.Tie as tie
 
 abbrev Inv-loop : tie.InvT-loop
 Inv-loop letters i₀ i = (i ≤ length letters) × (areLetters letters ≡ areLetters (drop i letters))

@@ -1,6 +1,6 @@
-use Rattle.fit_letters.proofs.Letters.{letter-l, letter-r, letter-b, letter-a, letter-dot}
-use Rattle.fit_letters.proofs.is_letter.Statement.{statement}
-use Rattle.fit_letters.proofs.is_letter.Tie as tie
+use Rattle.fit_faults.proofs.Letters.{letter-l, letter-r, letter-b, letter-a, letter-dot}
+use Rattle.fit_faults.proofs.is_letter.Statement.{statement}
+use Rattle.fit_faults.proofs.is_letter.Tie as tie
 
 returns : tie.Need-returns
 returns c = search letter-l
