@@ -7,8 +7,8 @@ use crate::push::push;
 use axis_graph::Graph;
 use axis_graph::NODE_ROOM;
 use axis_graph::SLOT_ROOM;
-ghost use mathlib.Core.Path.{_≡_};
-ghost use Prim.Native.Nat.{_<_, min};
+use num_limits::lesser;
+ghost use Prim.Native.Nat.{_<_};
 ghost use Rattle.axis_graph.specs.Limits.{nodeRoom};
 ghost use Rattle.axis_graph.specs.Graph.{GraphWithin, Leads, Net};
 ghost use Rattle.axis_solve.specs.Growth.{Growing};
@@ -45,12 +45,6 @@ fn reach(g: Graph, f: [u64; SLOT_ROOM], w: Growth, goal: usize) -> Growth
         }
     }
     v
-}
-
-pub(crate) fn lesser(a: u64, b: u64) -> u64
-    ensures { λ r. ⌜ r ≡ min a b ⌝ }
-{
-    if a < b { a } else { b }
 }
 
 // One growth from lo until hi joins, and one push of at most r.

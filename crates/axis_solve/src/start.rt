@@ -1,12 +1,12 @@
 // The values that the whole graph starts from.
-use crate::augment::lesser;
 use crate::growth::FARTHEST;
 use axis_bounds::Axis;
 use axis_bounds::AxisNet;
 use axis_bounds::AxisPin;
 use axis_graph::NODE_ROOM;
-ghost use mathlib.Core.Path.{_≡_};
-ghost use Prim.Native.Nat.{_+_, _≤_, max};
+use num_limits::greater;
+use num_limits::lesser;
+ghost use Prim.Native.Nat.{_+_, _≤_};
 ghost use Rattle.axis_bounds.specs.Held.{pinsBefore};
 ghost use Rattle.axis_solve.specs.Start.{PinsIn, NetsIn, Around, Resting, Started};
 
@@ -17,12 +17,6 @@ const TOPMOST: u64 = 274576;
 struct Ends {
     lo: u64,
     hi: u64,
-}
-
-fn greater(a: u64, b: u64) -> u64
-    ensures { λ r. ⌜ r ≡ max a b ⌝ }
-{
-    if a < b { b } else { a }
 }
 
 // The least and the greatest place of c pins.

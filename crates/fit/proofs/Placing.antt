@@ -31,8 +31,9 @@ use Rattle.fit_slots.proofs.Fineness.{die-most}
 use Rattle.fit_slots.proofs.Lengths.{lengths-split}
 use Rattle.fit_slots.proofs.Fitting.{both-fit}
 use Rattle.measure_tests.specs.Positions.{inRange}
-use Rattle.measure.specs.Measuring.{measured, measurePassed, measurePositions}
-use Rattle.measure.specs.Held.{lengthIn}
+use Rattle.measure_held.specs.Answer.{measured}
+use Rattle.measure_held.specs.Held.{lengthIn}
+use Rattle.measure.specs.Measuring.{measurePassed, measurePositions}
 use Rattle.measure.proofs.Answers.{measured-same}
 use Rattle.fit_axes.specs.Axes.{SolvedBy}
 use Rattle.model.specs.Corners.{spotsOf}

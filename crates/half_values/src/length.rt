@@ -1,6 +1,5 @@
 // The length of all nets at given values.
 ghost use mathlib.Core.Path.{_≡_};
-ghost use Prim.Native.Nat.{min, max};
 ghost use Rattle.axis_bounds.specs.Axis.{netsLength};
 ghost use Rattle.half_arrays.specs.Arrays.{entryCount, netsFrom};
 ghost use Rattle.half_arrays.specs.State.{limited};
@@ -14,29 +13,13 @@ use half_arrays::most;
 use half_arrays::net;
 use half_arrays::node;
 use half_arrays::weight;
+use num_limits::greater;
+use num_limits::lesser;
 
 // The greatest and the least place of each net; 0 and 131072 of a net with no entry.
 struct Ends {
     pub top: [u64; Axis::NETS],
     pub bottom: [u64; Axis::NETS],
-}
-
-fn larger(a: u64, b: u64) -> u64
-    ensures { λ r. ⌜ r ≡ max a b ⌝ }
-{
-    if a < b {
-        return b;
-    }
-    a
-}
-
-fn smaller(a: u64, b: u64) -> u64
-    ensures { λ r. ⌜ r ≡ min a b ⌝ }
-{
-    if b < a {
-        return b;
-    }
-    a
 }
 
 fn ends_of(tab: &[u32; TAB], x: &[u64; 9]) -> Ends
@@ -53,8 +36,8 @@ fn ends_of(tab: &[u32; TAB], x: &[u64; 9]) -> Ends
         let p = most(tab, e);
         let q = least(tab, e);
         let v = x[k];
-        top[j] = larger(top[j], v + larger(p, q));
-        bottom[j] = smaller(bottom[j], v + smaller(p, q));
+        top[j] = greater(top[j], v + greater(p, q));
+        bottom[j] = lesser(bottom[j], v + lesser(p, q));
         e += 1;
     }
     Ends { top, bottom }
@@ -69,7 +52,7 @@ fn length_at(tab: &[u32; TAB], x: &[u64; 9]) -> u64
     let mut j: usize = 0;
     while j < Axis::NETS {
         let w = weight(tab, j);
-        let s = n.top[j] - smaller(n.top[j], n.bottom[j]);
+        let s = n.top[j] - lesser(n.top[j], n.bottom[j]);
         l += w * s;
         j += 1;
     }

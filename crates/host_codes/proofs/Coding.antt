@@ -14,9 +14,9 @@ use Rattle.chip_read.specs.Answer.{meant}
 use Rattle.record_read.specs.declared.RecordAnswer.{RecordAnswer}
 use Rattle.record_read.specs.declared.RecordAnswer.the-variants as rec
 use Rattle.record_read.specs.Answer.{meant as meantRec}
-use Rattle.measure.specs.declared.MeasureAnswer.{MeasureAnswer}
-use Rattle.measure.specs.declared.MeasureAnswer.the-variants as measured
-use Rattle.measure.specs.Measuring.{measured as measuredAt, measuredAs}
+use Rattle.measure_held.specs.declared.MeasureAnswer.{MeasureAnswer}
+use Rattle.measure_held.specs.declared.MeasureAnswer.the-variants as measured
+use Rattle.measure_held.specs.Answer.{measured as measuredAt, measuredAs}
 use Rattle.host_codes.specs.declared.Code.{Code}
 use Rattle.host_codes.specs.Code.{Outcome, granted, denied, refused, code, ofReading, ofAnswer, ofMeasure}
 

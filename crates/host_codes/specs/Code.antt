@@ -3,7 +3,7 @@ use Prim.Native.Nat.{ℕ}
 use mathlib.Core.Bool.{true, false}
 use Rattle.text_grammar.specs.Reading.{Reading, accepted, refused as notRead}
 use Rattle.text_grammar.specs.Writing.{Answer, wrote, notWritten}
-use Rattle.measure.specs.Measuring.{Measure, measured, refused as notMeasured}
+use Rattle.measure_held.specs.Answer.{Measure, measured, refused as notMeasured}
 use Rattle.fit_slots.specs.Fit.{Fit, refusedBy, noFit, placed}
 use Rattle.host_codes.specs.declared.Code.{Code}
 

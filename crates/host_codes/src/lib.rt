@@ -1,7 +1,7 @@
 // The one encoding of answers: a number, and a value beside it.
 use chip_read::ChipAnswer;
 use chip_read::ChipRead;
-use measure::MeasureAnswer;
+use measure_held::MeasureAnswer;
 use model::Refusal;
 use model::WriteAnswer;
 use record_read::RecordAnswer;
@@ -10,7 +10,7 @@ ghost use mathlib.Core.Path.{_≡_};
 ghost use Rattle.text_grammar.specs.Writing.{answerOf};
 ghost use Rattle.chip_read.specs.Answer.{meantChip};
 ghost use Rattle.record_read.specs.Answer.{meantRecord};
-ghost use Rattle.measure.specs.Measuring.{measured, measuredAs};
+ghost use Rattle.measure_held.specs.Answer.{measured, measuredAs};
 ghost use Rattle.host_codes.specs.Code.{code, refused, ofReading, ofAnswer, ofMeasure};
 
 // What an exported function answers.

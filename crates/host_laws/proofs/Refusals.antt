@@ -9,7 +9,8 @@ use Rattle.refusals.specs.Tests.{Test, test, firstFailed}
 use Rattle.text_grammar.specs.Reading.{Reading, accepted, refused}
 use Rattle.chip_text.specs.Text.{readChip}
 use Rattle.placement.specs.Least.{fitOf}
-use Rattle.measure.specs.Measuring.{refused as notMeasured, measurePassed}
+use Rattle.measure_held.specs.Answer.{refused as notMeasured}
+use Rattle.measure.specs.Measuring.{measurePassed}
 use Rattle.fit_slots.specs.Fit.{refusedBy, lettersOf, slotCount, fitTests}
 use Rattle.text_grammar.proofs.Numbers.{Numbered}
 use Rattle.chip_text.proofs.Numbers.{chip-number}

@@ -16,7 +16,8 @@ use Rattle.refusals.proofs.FirstFailed.{first-passes, number-refused, number-no
 use Rattle.text_grammar.specs.Reading.{Reading, accepted, refused}
 use Rattle.chip_text.specs.Text.{readChip}
 use Rattle.chip_text.specs.Passed.{Passed}
-use Rattle.measure.specs.Measuring.{Measure, refused as notMeasured, afterReading, measurePassed, measurePositions}
+use Rattle.measure_held.specs.Answer.{Measure, refused as notMeasured}
+use Rattle.measure.specs.Measuring.{afterReading, measurePassed, measurePositions}
 use Rattle.host_codes.specs.declared.Code.{Code}
 use Rattle.host_codes.specs.Code.{code, refused as refusedCode, ofMeasure}
 use Rattle.host_measure.specs.MeasureText.{cornersOf, measureRead, measureText}

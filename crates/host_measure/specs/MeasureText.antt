@@ -8,7 +8,8 @@ use Rattle.model.specs.Meaning.{Chip}
 use Rattle.refusals.specs.Tests.{test, firstFailed, unlessFailed}
 use Rattle.text_grammar.specs.Reading.{Reading, accepted, refused}
 use Rattle.chip_text.specs.Text.{readChip}
-use Rattle.measure.specs.Measuring.{Measure, refused as notMeasured, measurePassed}
+use Rattle.measure_held.specs.Answer.{Measure, refused as notMeasured}
+use Rattle.measure.specs.Measuring.{measurePassed}
 
 -- the corners of a list of numbers; a last x without its y is none
 unfoldable pub cornersOf : List ℕ → List Spot

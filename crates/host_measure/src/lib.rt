@@ -4,7 +4,7 @@ use host_codes::Code;
 use host_codes::measure_code;
 use host_codes::refusal_code;
 use host_lists::count_fault;
-use measure::MeasureAnswer;
+use measure_held::MeasureAnswer;
 use model::Chip;
 use model::Mac;
 use model::Refusal;
@@ -15,7 +15,7 @@ ghost use lib.ListN.{length, take};
 ghost use Rattle.model.specs.Meaning.{chipOf};
 ghost use Rattle.text_grammar.specs.Reading.{accepted};
 ghost use Rattle.chip_text.specs.Passed.{Passed};
-ghost use Rattle.measure.specs.Measuring.{measuredAs};
+ghost use Rattle.measure_held.specs.Answer.{measuredAs};
 ghost use Rattle.host_codes.specs.Code.{code, ofMeasure};
 ghost use Rattle.host_measure.specs.MeasureText.{cornersOf, measureRead, measureText};
 

@@ -7,7 +7,7 @@ use Rattle.model.specs.declared.WriteAnswer.{WriteAnswer}
 use Rattle.model.specs.Meaning.{Chip}
 use Rattle.text_grammar.specs.Reading.{Reading}
 use Rattle.text_grammar.specs.Writing.{answerOf, Written}
-use Rattle.measure.specs.Measuring.{Measure}
+use Rattle.measure_held.specs.Answer.{Measure}
 use Rattle.host_codes.specs.declared.Code.{Code}
 use Rattle.host_codes.specs.Code.{code, ofReading, ofAnswer, ofMeasure, ofFit}
 use Rattle.host_fit.specs.FitText.{fitRead, SlotsFilled, placesAfter, FitDone}

@@ -1,7 +1,6 @@
 -- What measuring answers, in the form of the needs: by what the tests tell, and of positions that they accept.
 use mathlib.Core.Path.{_≡_, refl, sym, ap, _∙_}
-use mathlib.Core.Bool.{Bool}
-use mathlib.Core.List.{List, [], map}
+use mathlib.Core.List.{List}
 use Prim.Native.Nat.{ℕ, zero, suc}
 use lib.ListN.{length, take}
 use Rattle.model.specs.declared.Chip.{Chip as HeldChip}
@@ -13,45 +12,31 @@ use Rattle.model.specs.Meaning.{Chip, chipOf, firstOf, blankSpot}
 use Rattle.refusals.specs.Tests.{firstFailed, unlessFailed}
 use Rattle.text_grammar.specs.Reading.{Reading, accepted, refused as notRead}
 use Rattle.chip_text.specs.Text.{readChip, chipText}
+use Rattle.chip_text.specs.Passed.{Passed}
 use Rattle.chip_text.proofs.Passing.{Whole}
-use Rattle.placement.specs.Legal.{boxes, legal}
+use Rattle.placement.specs.Legal.{legal}
 use Rattle.placement.specs.Length.{wirelength}
+use Rattle.placement.specs.Corners.{CornersWithin}
 use Rattle.placement.specs.Integers.{legalZ, wirelengthZ, integers}
 use Rattle.placement.proofs.Integers.{legal-same, length-same}
 use Rattle.placement.proofs.LengthBound.{wirelength-bound}
-use Rattle.geometry.specs.declared.Box.{Box}
-use Rattle.geometry.specs.Box.{boxOf}
-use Rattle.legal.specs.Turn.{legalAfter}
 use Rattle.measure_tests.specs.Positions.{measureTests}
 use Rattle.measure_tests.specs.Tested.{testedBy}
 use Rattle.measure_tests.proofs.Testing.{chip-is-passed, the-spots, are-near}
-use Rattle.measure.specs.declared.MeasureAnswer.{MeasureAnswer}
-use Rattle.measure.specs.declared.MeasureAnswer.the-variants as answer
-use Rattle.measure.specs.Measuring.{Measure, refused, measured, measuredAs, afterReading, measurePassed, measurePositions}
-use Rattle.measure.specs.Held.{lengthIn, lengthTo, Summable, Measurable}
+use Rattle.measure_held.specs.declared.MeasureAnswer.{MeasureAnswer}
+use Rattle.measure_held.specs.Answer.{Measure, refused, measured, measuredAs}
+use Rattle.measure_held.specs.Held.{legalHeld, lengthHeld, lengthIn}
+use Rattle.measure.specs.Measuring.{afterReading, measurePassed, measurePositions}
 use Rattle.measure.proofs.IsLegal.{legal-told}
-use Rattle.measure.proofs.HeldNet.{pins-placed, length-whole}
+use Rattle.measure.proofs.HeldNet.{length-whole}
 
 -- ---- positions that the tests accept
 
-module _ (c : HeldChip) (s : List Spot) (v : Measurable c s) where
-  pub boxes-legal : length s ≡ 8 → (bs : List Box) (a : Bool) → bs ≡ boxes (c .macs) s → a ≡ legalAfter 0 (c .die) (map boxOf (take (c .k) (c .fixes))) [] (take (c .n) bs) → a ≡ legal (chipOf c) (take (c .n) s)
-  boxes-legal l bs a f g = rw (g, f) (legal-told c (v .passed .fine) s (v .whole .fixes) (v .whole .macs) l)
-
-  whole : lengthTo s (c .nets) (c .pins) (c .t) ≡ wirelength (chipOf c) (take (c .n) s)
-  whole = length-whole c (v .passed .fine) s (v .near) (v .whole .nets) (v .whole .pins)
-
-  pub summable : Summable s (c .nets) (c .pins) (c .t)
-  summable = record {
-    nets = v .passed .fine .netCount;
-    pins = v .passed .fine .pins;
-    some = λ j g. v .passed .fine .net j g .some;
-    placed = pins-placed c (v .passed .fine) s (v .near);
-    small = rw whole (wirelength-bound (chipOf c) (take (c .n) s) (v .passed .valid) (v .near));
-  }
-
-  pub its-measure : (a : Bool) (wl : ℕ) → a ≡ legal (chipOf c) (take (c .n) s) → wl ≡ lengthTo s (c .nets) (c .pins) (c .t) → measured a wl ≡ measured (legal (chipOf c) (take (c .n) s)) (wirelength (chipOf c) (take (c .n) s))
-  its-measure a wl g k = rw (g, k, whole)
+its-measure : (c : HeldChip) (s : List Spot) → Passed c → Whole c → CornersWithin (take (c .n) s) → length s ≡ 8 → measured (legalHeld c s) (lengthHeld c s) ≡ measured (legal (chipOf c) (take (c .n) s)) (wirelength (chipOf c) (take (c .n) s))
+its-measure c s p w near l = rw (
+  legal-told c (p .fine) s (w .fixes) (w .macs) l,
+  length-whole c (p .fine) s near (w .nets) (w .pins) (wirelength-bound (chipOf c) (take (c .n) s) (p .valid) near),
+)
 
 -- ---- the answer
 
@@ -83,21 +68,14 @@ module _ (c : HeldChip) (s : List Spot) (count : ℕ) (t : Tested) (q : t ≡ te
   pub is-refused : (f : Refusal) → t ≡ tested.Refused f → refused (f .no) (f .line) ≡ measurePositions (chipOf c) (firstOf blankSpot count s)
   is-refused f z = answered (tested.Refused f) z
 
-  module _ (w : Whole c) (l : length s ≡ 8) (z : t ≡ tested.Passed) where
-    pub measurable : Measurable c s
-    measurable = record { passed = chip-is-passed c w s l count t q z; whole = w; near = are-near c w s l count t q z }
-
-    pub is-measured : (m : Measure) → m ≡ measured (legal (chipOf c) (take (c .n) s)) (wirelength (chipOf c) (take (c .n) s)) → m ≡ measurePositions (chipOf c) (firstOf blankSpot count s)
-    is-measured m e =
-        e ∙ ap (λ (ps : List Spot). measured (legal (chipOf c) ps) (wirelength (chipOf c) ps)) (sym (the-spots c w s l count t q z))
-        ∙ measured-same (chipOf c) (firstOf blankSpot count s)
-        ∙ answered tested.Passed z
+  pub is-measured : Whole c → length s ≡ 8 → t ≡ tested.Passed → (m : Measure) → m ≡ measured (legalHeld c s) (lengthHeld c s) → m ≡ measurePositions (chipOf c) (firstOf blankSpot count s)
+  is-measured w l z m e =
+      e ∙ its-measure c s (chip-is-passed c w s l count t q z) w (are-near c w s l count t q z) l
+      ∙ ap (λ (ps : List Spot). measured (legal (chipOf c) ps) (wirelength (chipOf c) ps)) (sym (the-spots c w s l count t q z))
+      ∙ measured-same (chipOf c) (firstOf blankSpot count s)
+      ∙ answered tested.Passed z
 
 -- ---- the length in an answer
 
-module _ (m : Measure) (a : MeasureAnswer) (e : measuredAs a ≡ m) where
-  pub length-measured : (legality : Bool) (l : ℕ) → a ≡ answer.Measured legality l → l ≡ lengthIn m
-  length-measured legality l q = rw (← e, q)
-
-  pub length-refused : (f : Refusal) → a ≡ answer.Refused f → 0 ≡ lengthIn m
-  length-refused f q = rw (← e, q)
+pub length-told : (m : Measure) (a : MeasureAnswer) → measuredAs a ≡ m → (l : ℕ) → l ≡ lengthIn (measuredAs a) → l ≡ lengthIn m
+length-told m a e l q = rw (q, e)

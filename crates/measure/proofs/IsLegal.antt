@@ -1,6 +1,6 @@
--- The boxes of a chip that is held as a value, tested in turn, tell whether its positions are legal.
+-- The macros of a tested chip, tested in turn, tell whether its positions are legal.
 use mathlib.Core.Path.{_≡_, sym, _∙_}
-use mathlib.Core.List.{List, [], map}
+use mathlib.Core.List.{List}
 use native.Mathlib.Omega.{arith}
 use lib.ListN.{length, take}
 use lib.Seq.{length-take-le}
@@ -13,9 +13,8 @@ use Rattle.chip_text.specs.Valid.{HeldValid}
 use Rattle.chip_text.proofs.HeldMeaning.{macs-held}
 use Rattle.placement.specs.Legal.{boxes, within, legal}
 use Rattle.placement.proofs.Boxes.{take-boxes}
-use Rattle.geometry.specs.Box.{boxOf}
-use Rattle.legal.specs.Turn.{legalAfter}
 use Rattle.legal.proofs.TurnLegal.{turn-legal}
+use Rattle.measure_held.specs.Held.{legalHeld}
 
 module _ (c : HeldChip) (fine : HeldValid c) (s : List Spot) (l : length (c .fixes) ≡ 8) (m : length (c .macs) ≡ 8) (n : length s ≡ 8) where
   its-boxes : boxes (chipOf c .macs) (take (c .n) s) ≡ take (c .n) (boxes (c .macs) s)
@@ -26,9 +25,9 @@ module _ (c : HeldChip) (fine : HeldValid c) (s : List Spot) (l : length (c .fix
   unfolding chipOf
   its-fixes = let few = fine .fixCount in first-take blankFix (c .k) (c .fixes) (omega arith)
 
-  pub as-many : length (take (c .n) s) ≡ length (chipOf c .macs)
+  as-many : length (take (c .n) s) ≡ length (chipOf c .macs)
   as-many = let few = fine .macCount in length-take-le (c .n) s (omega arith) ∙ sym (macs-held c fine m)
 
-  pub legal-told : legalAfter 0 (c .die) (map boxOf (take (c .k) (c .fixes))) [] (take (c .n) (boxes (c .macs) s)) ≡ legal (chipOf c) (take (c .n) s)
+  pub legal-told : legalHeld c s ≡ legal (chipOf c) (take (c .n) s)
   unfolding chipOf within legal
   legal-told = rw (← its-fixes, ← its-boxes, eq-eqb _ _ as-many) (turn-legal (chipOf c) (boxes (chipOf c .macs) (take (c .n) s)))

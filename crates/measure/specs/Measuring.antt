@@ -1,8 +1,6 @@
 -- Measuring a placement (document 01, "Legal, and how long"): the host hands over the positions as a list, one x,y for each macro, each 0..1,024;
 -- the answer is legal or not, and the wirelength, which exists for illegal positions too.
-use Prim.Native.Nat.{ℕ}
 use mathlib.Core.List.{List}
-use mathlib.Core.Bool.{Bool}
 use Rattle.model.specs.declared.Spot.{Spot}
 use Rattle.model.specs.Meaning.{Chip}
 use Rattle.refusals.specs.Tests.{firstFailed, unlessFailed}
@@ -10,18 +8,7 @@ use Rattle.text_grammar.specs.Reading.{Reading, accepted, refused as notRead}
 use Rattle.chip_text.specs.Text.{readChip, chipText}
 use Rattle.placement.specs.Integers.{legalZ, wirelengthZ, integers}
 use Rattle.measure_tests.specs.Positions.{measureTests}
-use Rattle.measure.specs.declared.MeasureAnswer.{MeasureAnswer}
-use Rattle.measure.specs.declared.MeasureAnswer.the-variants as answer
-
--- a refusal's number and line, or legal or not and the wirelength
-pub data Measure : Type 0 where
-  refused : ℕ → ℕ → Measure
-  measured : Bool → ℕ → Measure
-
--- document 01's number and values for each case of the program's answer
-abbrev pub measuredAs : MeasureAnswer → Measure
-measuredAs (answer.Measured l wl) = measured l wl
-measuredAs (answer.Refused f) = refused (f .no) (f .line)
+use Rattle.measure_held.specs.Answer.{Measure, refused, measured}
 
 -- a chip held as a value is tested first as its text would be
 abbrev pub afterReading : Reading Chip → Measure → Measure

@@ -15,7 +15,8 @@ use Rattle.text_grammar.specs.Reading.{Reading, accepted, refused as notRead}
 use Rattle.chip_text.specs.Text.{readChip, chipText}
 use Rattle.chip_text.proofs.Accepted.{accepted-valid}
 use Rattle.chip_text.proofs.TextRead.{text-read}
-use Rattle.measure.specs.Measuring.{Measure, refused, afterReading, measurePassed, measurePositions}
+use Rattle.measure_held.specs.Answer.{Measure, refused}
+use Rattle.measure.specs.Measuring.{afterReading, measurePassed, measurePositions}
 
 -- the k positions from i on
 abbrev reads : List Spot → ℕ → ℕ → List Spot

@@ -1,5 +1,5 @@
 // Measuring over a lent list of positions: thin functions above the core on arrays.
-use measure::MeasureAnswer;
+use measure_held::MeasureAnswer;
 use model::Chip;
 use model::Mac;
 use model::Spot;
@@ -8,7 +8,8 @@ ghost use mathlib.Core.List.{[], _∷_};
 ghost use lib.ListN.{getD, take};
 ghost use Prim.Native.Nat.{_≤_};
 ghost use Rattle.model.specs.Meaning.{firstOf, blankSpot, chipOf};
-ghost use Rattle.measure.specs.Measuring.{measuredAs, measurePositions};
+ghost use Rattle.measure_held.specs.Answer.{measuredAs};
+ghost use Rattle.measure.specs.Measuring.{measurePositions};
 
 // Position i of the list, or 0,0 past its end.
 fn spot_or(s: &[Spot], i: usize) -> Spot

@@ -18,7 +18,8 @@ use Rattle.record_text.specs.Text.{readRecord, recordText, writeRecord}
 use Rattle.placement.specs.Integers.{legalZ, wirelengthZ, integers}
 use Rattle.placement.specs.Least.{Best, nothing, found, fitOf, chipRecord}
 use Rattle.measure_tests.specs.Positions.{measureTests}
-use Rattle.measure.specs.Measuring.{Measure, measured, refused as notMeasured, afterReading, measurePassed, measurePositions}
+use Rattle.measure_held.specs.Answer.{Measure, measured, refused as notMeasured}
+use Rattle.measure.specs.Measuring.{afterReading, measurePassed, measurePositions}
 use Rattle.fit_slots.specs.Fit.{refusedBy, lettersOf, slotCount, bestFit, fitTests, fitChip, fitLetters}
 use Rattle.search.specs.Place.{searchChip, placeRead, placeText}
 use Rattle.place_print.specs.Printed.{printed, printText}

@@ -8,11 +8,13 @@ use geometry::apart;
 use model::Fix;
 use model::Mac;
 use model::Spot;
+use num_limits::greater;
+use num_limits::lesser;
 use search_boxes::mac_box;
 use search_boxes::second_box;
 use search_kept::CELLS;
 ghost use mathlib.Core.Path.{_≡_};
-ghost use Prim.Native.Nat.{_≤_, _<_, min, max};
+ghost use Prim.Native.Nat.{_≤_, _<_};
 ghost use lib.Dec.{ltb};
 ghost use mathlib.Core.Bool.{not};
 ghost use Rattle.geometry.specs.Box.{apart as areApart};
@@ -23,24 +25,6 @@ const FAR: u64 = 2048;
 
 // A weight counts up to this: 32 nets of 1,000.
 const HEAVY: u64 = 32000;
-
-pub(crate) fn lesser(a: u64, b: u64) -> u64
-    ensures { λ r. ⌜ r ≡ min a b ⌝ }
-{
-    if a < b {
-        return a;
-    }
-    b
-}
-
-fn greater(a: u64, b: u64) -> u64
-    ensures { λ r. ⌜ r ≡ max a b ⌝ }
-{
-    if a < b {
-        return b;
-    }
-    a
-}
 
 // The product of the two least of four distances.
 fn two_least(left: u64, right: u64, down: u64, up: u64) -> u64

@@ -1,8 +1,9 @@
-// Numbers of the search: the lesser and the greater of two, lengths and bounds that are limited, the opposite of a slot, the span of some places; macros, nets and pins with the same numbers.
+// Numbers of the search: bounds that are limited, the opposite of a slot, the span of some places; macros, nets and pins with the same numbers.
 use axis_bounds::Slot;
 use model::Mac;
 use model::Net;
 use model::Pin;
+use num_limits::lesser;
 ghost use mathlib.Core.Path.{_≡_};
 ghost use mathlib.Core.Bool.{_&&_};
 ghost use lib.Dec.{eqb};
@@ -10,31 +11,10 @@ ghost use Prim.Native.Nat.{_+_, _-_, min, max};
 ghost use Rattle.axis_bounds.specs.Listed.{slot};
 ghost use Rattle.search_numbers.specs.Spans.{joinedTo};
 
-// Lengths count up to this in a sum; no placement is so long.
-const LONGEST: u64 = 4294967296;
-
 // The most that a side of a bound counts for, and of a slot whose opposite is asked.
 const SIDE_MOST: u64 = 1000000;
 
 const SLOT_MOST: u64 = 2097152;
-
-fn lesser(a: u64, b: u64) -> u64
-    ensures { λ r. ⌜ r ≡ min a b ⌝ }
-{
-    if a < b {
-        return a;
-    }
-    b
-}
-
-fn higher(a: u64, b: u64) -> u64
-    ensures { λ r. ⌜ r ≡ max a b ⌝ }
-{
-    if a < b {
-        return b;
-    }
-    a
-}
 
 // The greater of a bound that stands and one more.
 pub fn greater(old: u32, more: u32) -> u32
@@ -65,13 +45,6 @@ pub fn opposite(s: Slot) -> Slot
     }
 }
 
-// The sum of two lengths.
-pub fn sum(a: u64, b: u64) -> u64
-    ensures { λ r. ⌜ r ≡ min a 4294967296 + min b 4294967296 ⌝ }
-{
-    lesser(a, LONGEST) + lesser(b, LONGEST)
-}
-
 // The greatest and the least place of some pins, if there are any.
 pub struct Span {
     pub some: bool,
@@ -87,7 +60,7 @@ pub fn joined(s: Span, up: u64) -> Span
     if some {
         return Span {
             some,
-            most: higher(s.most, up),
+            most: num_limits::greater(s.most, up),
             least: lesser(s.least, up),
         };
     }

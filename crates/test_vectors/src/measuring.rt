@@ -2,7 +2,7 @@
 use crate::fields::number_at;
 use crate::fields::spots_at;
 use crate::report::print_numbers;
-use measure::MeasureAnswer;
+use measure_held::MeasureAnswer;
 use model::Chip;
 
 fn print_measured(answer: MeasureAnswer) {

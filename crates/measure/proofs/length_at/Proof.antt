@@ -1,4 +1,4 @@
-use Rattle.measure.proofs.Answers.{length-measured, length-refused}
+use Rattle.measure.proofs.Answers.{length-told}
 use borrow.Author.Needs.{needs}
 use Rattle.measure.proofs.length_at.Statement.{statement}
 use Rattle.measure.proofs.length_at.Tie as tie
@@ -6,18 +6,11 @@ use Rattle.measure.proofs.length_at.Tie as tie
 measure-array-requires : tie.Need-measure-array-requires
 measure-array-requires c κs = search needs
 
-enum-known-answer : tie.Need-enum-known-answer
-enum-known-answer c = search needs
-
-enum-told : tie.Need-enum-told
-enum-told c = search needs
+length-in-requires : tie.Need-length-in-requires
+length-in-requires c κs = search needs
 
 returns : tie.Need-returns
-returns c = search length-measured
-
-returns-2 : tie.Need-returns-2
-returns-2 c = search length-refused
+returns c = search length-told
 
 pub length-at-spec : {M : Type 1} → statement M
-length-at-spec =
-    tie.close (tie.spec measure-array-requires enum-known-answer enum-told returns returns-2)
+length-at-spec = tie.close (tie.spec measure-array-requires length-in-requires returns)

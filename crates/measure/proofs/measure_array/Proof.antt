@@ -1,5 +1,5 @@
 use Rattle.chip_text.proofs.Passing.{whole}
-use Rattle.measure.proofs.Answers.{is-refused, measurable, is-measured}
+use Rattle.measure.proofs.Answers.{is-refused, is-measured}
 use borrow.Author.Needs.{needs}
 use Rattle.measure.proofs.measure_array.Statement.{statement}
 use Rattle.measure.proofs.measure_array.Tie as tie
@@ -14,7 +14,7 @@ enum-told : tie.Need-enum-told
 enum-told c = search needs
 
 measured-requires : tie.Need-measured-requires
-measured-requires c κs = search (needs, measurable, whole)
+measured-requires c κs = search needs
 
 returns : tie.Need-returns
 returns c = search is-refused

@@ -46,10 +46,11 @@ use Rattle.model.proofs.Chip as C
 use Rattle.model.proofs.Chip.Laws as C′
 use Rattle.model.proofs.Spot as T
 use Rattle.model.proofs.Spot.Laws as T′
-use Rattle.measure.specs.declared.MeasureAnswer.{MeasureAnswer}
-use Rattle.measure.specs.Measuring.{measuredAs, measurePositions}
-use Rattle.measure.proofs.MeasureAnswer as S
-use Rattle.measure.proofs.MeasureAnswer.Laws as S′
+use Rattle.measure_held.specs.declared.MeasureAnswer.{MeasureAnswer}
+use Rattle.measure_held.specs.Answer.{measuredAs}
+use Rattle.measure.specs.Measuring.{measurePositions}
+use Rattle.measure_held.proofs.MeasureAnswer as S
+use Rattle.measure_held.proofs.MeasureAnswer.Laws as S′
 use Rattle.measure_list.proofs.Lists.{eight-measured}
 use Rattle.measure_list.proofs.spot_or as spot-or
 use Rattle.measure_list.proofs.spot_or.Symbol as spot-or-def

@@ -3,8 +3,8 @@ use borrow.Author.Needs.{needs}
 use Rattle.search_numbers.proofs.joined.Statement.{statement}
 use Rattle.search_numbers.proofs.joined.Tie as tie
 
-higher-requires : tie.Need-higher-requires
-higher-requires c κs = search needs
+greater-requires : tie.Need-greater-requires
+greater-requires c κs = search needs
 
 lesser-requires : tie.Need-lesser-requires
 lesser-requires c κs = search needs
@@ -16,4 +16,4 @@ returns-2 : tie.Need-returns-2
 returns-2 c = search joined-first
 
 pub joined-spec : {M : Type 1} → statement M
-joined-spec = tie.close (tie.spec higher-requires lesser-requires returns returns-2)
+joined-spec = tie.close (tie.spec greater-requires lesser-requires returns returns-2)

@@ -36,20 +36,20 @@ mul-v c = search (needs, node-fits)
 element-copy-out-v : tie.Need-element-copy-out-v Inv-loop μ-loop
 element-copy-out-v c = search (needs, node-below)
 
-mul-larger : tie.Need-mul-larger Inv-loop μ-loop
-mul-larger c = search (needs, net-fits)
+mul-greater : tie.Need-mul-greater Inv-loop μ-loop
+mul-greater c = search (needs, net-fits)
 
-array-read-larger : tie.Need-array-read-larger Inv-loop μ-loop
-array-read-larger c = search (needs, net-below)
+array-read-greater : tie.Need-array-read-greater Inv-loop μ-loop
+array-read-greater c = search (needs, net-below)
 
-larger-requires : tie.Need-larger-requires Inv-loop μ-loop
-larger-requires c κs = search needs
+greater-requires : tie.Need-greater-requires Inv-loop μ-loop
+greater-requires c κs = search needs
 
-add-larger : tie.Need-add-larger Inv-loop μ-loop
-add-larger c = search highest-adds
+add-greater : tie.Need-add-greater Inv-loop μ-loop
+add-greater c = search highest-adds
 
-larger-requires-2 : tie.Need-larger-requires-2 Inv-loop μ-loop
-larger-requires-2 c κs = search needs
+greater-requires-2 : tie.Need-greater-requires-2 Inv-loop μ-loop
+greater-requires-2 c κs = search needs
 
 mul-top : tie.Need-mul-top Inv-loop μ-loop
 mul-top c = search (needs, net-fits)
@@ -57,20 +57,20 @@ mul-top c = search (needs, net-fits)
 array-write-top : tie.Need-array-write-top Inv-loop μ-loop
 array-write-top c = search (needs, net-below)
 
-mul-smaller : tie.Need-mul-smaller Inv-loop μ-loop
-mul-smaller c = search (needs, net-fits)
+mul-lesser : tie.Need-mul-lesser Inv-loop μ-loop
+mul-lesser c = search (needs, net-fits)
 
-array-read-smaller : tie.Need-array-read-smaller Inv-loop μ-loop
-array-read-smaller c = search (needs, net-below)
+array-read-lesser : tie.Need-array-read-lesser Inv-loop μ-loop
+array-read-lesser c = search (needs, net-below)
 
-smaller-requires : tie.Need-smaller-requires Inv-loop μ-loop
-smaller-requires c κs = search needs
+lesser-requires : tie.Need-lesser-requires Inv-loop μ-loop
+lesser-requires c κs = search needs
 
-add-smaller : tie.Need-add-smaller Inv-loop μ-loop
-add-smaller c = search lowest-adds
+add-lesser : tie.Need-add-lesser Inv-loop μ-loop
+add-lesser c = search lowest-adds
 
-smaller-requires-2 : tie.Need-smaller-requires-2 Inv-loop μ-loop
-smaller-requires-2 c κs = search needs
+lesser-requires-2 : tie.Need-lesser-requires-2 Inv-loop μ-loop
+lesser-requires-2 c κs = search needs
 
 mul-bottom : tie.Need-mul-bottom Inv-loop μ-loop
 mul-bottom c = search (needs, net-fits)
@@ -104,18 +104,18 @@ ends-of-spec =
     least-requires
     mul-v
     element-copy-out-v
-    mul-larger
-    array-read-larger
-    larger-requires
-    add-larger
-    larger-requires-2
+    mul-greater
+    array-read-greater
+    greater-requires
+    add-greater
+    greater-requires-2
     mul-top
     array-write-top
-    mul-smaller
-    array-read-smaller
-    smaller-requires
-    add-smaller
-    smaller-requires-2
+    mul-lesser
+    array-read-lesser
+    lesser-requires
+    add-lesser
+    lesser-requires-2
     mul-bottom
     array-write-bottom
     add-e

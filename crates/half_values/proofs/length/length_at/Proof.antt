@@ -28,20 +28,20 @@ mul-s c = search needs
 element-copy-out-s : tie.Need-element-copy-out-s Inv-loop μ-loop
 element-copy-out-s c = search needs
 
-mul-smaller : tie.Need-mul-smaller Inv-loop μ-loop
-mul-smaller c = search needs
+mul-lesser : tie.Need-mul-lesser Inv-loop μ-loop
+mul-lesser c = search needs
 
-element-copy-out-smaller : tie.Need-element-copy-out-smaller Inv-loop μ-loop
-element-copy-out-smaller c = search needs
+element-copy-out-lesser : tie.Need-element-copy-out-lesser Inv-loop μ-loop
+element-copy-out-lesser c = search needs
 
-mul-smaller-2 : tie.Need-mul-smaller-2 Inv-loop μ-loop
-mul-smaller-2 c = search needs
+mul-lesser-2 : tie.Need-mul-lesser-2 Inv-loop μ-loop
+mul-lesser-2 c = search needs
 
-element-copy-out-smaller-2 : tie.Need-element-copy-out-smaller-2 Inv-loop μ-loop
-element-copy-out-smaller-2 c = search needs
+element-copy-out-lesser-2 : tie.Need-element-copy-out-lesser-2 Inv-loop μ-loop
+element-copy-out-lesser-2 c = search needs
 
-smaller-requires : tie.Need-smaller-requires Inv-loop μ-loop
-smaller-requires c κs = search needs
+lesser-requires : tie.Need-lesser-requires Inv-loop μ-loop
+lesser-requires c κs = search needs
 
 sub-s : tie.Need-sub-s Inv-loop μ-loop
 sub-s c = search needs
@@ -75,11 +75,11 @@ length-at-spec =
     weight-requires
     mul-s
     element-copy-out-s
-    mul-smaller
-    element-copy-out-smaller
-    mul-smaller-2
-    element-copy-out-smaller-2
-    smaller-requires
+    mul-lesser
+    element-copy-out-lesser
+    mul-lesser-2
+    element-copy-out-lesser-2
+    lesser-requires
     sub-s
     mul-l
     add-l

@@ -1,0 +1,53 @@
+// The faults of a letter string and of a lent list of slots (document 01, "Refusal table"): whether bytes are letters, and the first test that fails.
+ghost use mathlib.Core.Path.{_≡_};
+ghost use Rattle.refusals.specs.Tests.{firstFailed};
+ghost use Rattle.fit_slots.specs.Fit.{isLetter, areLetters};
+ghost use Rattle.fit_faults.specs.Tests.{testsBy};
+
+// Whether a byte is L, R, B, A or the dot.
+fn is_letter(b: u8) -> bool
+    ensures { λ r. ⌜ r ≡ isLetter b ⌝ }
+{
+    if b == 76 {
+        return true;
+    }
+    if b == 82 {
+        return true;
+    }
+    if b == 66 {
+        return true;
+    }
+    if b == 65 {
+        return true;
+    }
+    b == 46
+}
+
+fn are_letters(letters: &[u8]) -> bool
+    ensures { λ r. ⌜ r ≡ areLetters (now (letters .entry)) ⌝ }
+{
+    let mut i: usize = 0;
+    while i < letters.len() {
+        if !is_letter(letters[i]) {
+            return false;
+        }
+        i += 1;
+    }
+    true
+}
+
+// The number of the first test that the letters of `count` pairs and a list of `room` slots, where `slots` are needed, fail, or 0.
+pub fn fit_fault(letters: &[u8], count: usize, slots: usize, room: usize) -> usize
+    ensures { λ r. ⌜ r ≡ firstFailed (testsBy count slots (now (letters .entry)) room) ⌝ }
+{
+    if letters.len() != count {
+        return 11;
+    }
+    if !are_letters(letters) {
+        return 12;
+    }
+    if room < slots {
+        return 15;
+    }
+    0
+}

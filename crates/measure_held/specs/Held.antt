@@ -1,0 +1,36 @@
+-- What is measured of a chip held as a value, without a test: numbers count up to a limit. That those of a tested chip do not reach it, and that this
+-- is then legality and wirelength, is measure/proofs/IsLegal.antt `legal-told` and HeldNet.antt `length-whole`.
+use Prim.Native.Nat.{ℕ, zero, suc, _+_, min}
+use mathlib.Core.Bool.{Bool}
+use mathlib.Core.List.{List, [], map}
+use lib.ListN.{getD, take}
+use Rattle.model.specs.declared.Spot.{Spot}
+use Rattle.model.specs.declared.Chip.{Chip as HeldChip}
+use Rattle.model.specs.declared.Net.{Net as HeldNet}
+use Rattle.model.specs.declared.Pin.{Pin as HeldPin}
+use Rattle.model.specs.Meaning.{blankNet}
+use Rattle.model.specs.Limits.{mostNets}
+use Rattle.chip_text.specs.Valid.{pinsBefore}
+use Rattle.geometry.specs.Box.{boxOf}
+use Rattle.placement.specs.Legal.{boxes}
+use Rattle.legal.specs.Turn.{legalAfter}
+use Rattle.measure_nets.specs.Held.{netHeld}
+use Rattle.measure_held.specs.Answer.{Measure, refused, measured}
+
+-- each macro at its position lies in the die, and is apart from the fixes and from the macros before it
+abbrev pub legalHeld : HeldChip → List Spot → Bool
+legalHeld c ps = legalAfter 0 (c .die) (map boxOf (take (c .k) (c .fixes))) [] (take (c .n) (boxes (c .macs) ps))
+
+-- the lengths of the first j nets
+unfoldable pub lengthTo : List Spot → List HeldNet → List HeldPin → ℕ → ℕ
+lengthTo ps ts hs zero = 0
+lengthTo ps ts hs (suc j) = min (lengthTo ps ts hs j) 4294967296 + min (netHeld ps hs (getD ts j blankNet) (pinsBefore j ts)) 4294967296
+
+-- the lengths of a chip's nets
+abbrev pub lengthHeld : HeldChip → List Spot → ℕ
+lengthHeld c ps = lengthTo ps (c .nets) (c .pins) (min (c .t) mostNets)
+
+-- the wirelength in an answer; 0 where it is a refusal
+abbrev pub lengthIn : Measure → ℕ
+lengthIn (refused number line) = 0
+lengthIn (measured legality l) = l

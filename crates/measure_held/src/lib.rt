@@ -1,0 +1,67 @@
+// A chip held as a value and positions, measured without a test (document 01, "Legal, and how long").
+use model::Chip;
+use model::Mac;
+use model::Net;
+use model::Refusal;
+use model::Spot;
+use num_limits::sum;
+ghost use mathlib.Core.Path.{_≡_};
+ghost use Rattle.measure_held.specs.Answer.{measured as measuredAt, measuredAs};
+ghost use Rattle.measure_held.specs.Held.{legalHeld, lengthHeld, lengthIn};
+
+// What measuring answers: legal or not and the wirelength, or the refusal.
+pub enum MeasureAnswer {
+    Measured(bool, u64),
+    Refused(Refusal),
+}
+
+// Whether each macro at its position lies in the die, and is apart from the fixes and from the macros before it.
+fn is_legal(c: Chip, spots: [Spot; Mac::COUNT]) -> bool
+    ensures { λ r. ⌜ r ≡ legalHeld c spots ⌝ }
+{
+    let die = c.die;
+    let fixes = c.fixes;
+    let macs = c.macs;
+    let bs = legal::boxes_at(macs, spots);
+    legal::legal_boxes(die, fixes, c.k, bs, c.n)
+}
+
+// The sum of the lengths of the chip's nets.
+fn length_of(c: Chip, spots: [Spot; Mac::COUNT]) -> u64
+    ensures { λ r. ⌜ r ≡ lengthHeld c spots ⌝ }
+{
+    let nets = c.nets;
+    let pins = c.pins;
+    let mut total: u64 = 0;
+    let mut from: usize = 0;
+    let mut j: usize = 0;
+    while j < Net::COUNT {
+        if c.t <= j {
+            return total;
+        }
+        let net = nets[j];
+        total = sum(total, measure_nets::net_length(spots, pins, net, from));
+        from = measure_nets::end_of(from, net.pins);
+        j += 1;
+    }
+    total
+}
+
+// The measure of the first positions, one for each macro.
+pub fn measured(c: Chip, spots: [Spot; Mac::COUNT]) -> MeasureAnswer
+    ensures { λ r. ⌜ measuredAs r ≡ measuredAt (legalHeld c spots) (lengthHeld c spots) ⌝ }
+{
+    let legal = is_legal(c, spots);
+    let length = length_of(c, spots);
+    MeasureAnswer::Measured(legal, length)
+}
+
+// The wirelength in an answer; 0 where it is a refusal.
+pub fn length_in(answer: MeasureAnswer) -> u64
+    ensures { λ r. ⌜ r ≡ lengthIn (measuredAs answer) ⌝ }
+{
+    match answer {
+        MeasureAnswer::Measured(_, length) => length,
+        MeasureAnswer::Refused(_) => 0,
+    }
+}

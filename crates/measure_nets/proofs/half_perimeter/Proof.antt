@@ -1,0 +1,90 @@
+use Prim.Native.Nat.{_-_, _≤_}
+use Rattle.measure_nets.proofs.Around.{Around, none-around, first-around, next-around, all-around, left-first, low-first, half-fits}
+use borrow.Author.Needs.{needs}
+use Rattle.measure_nets.proofs.half_perimeter.Statement.{statement}
+use Rattle.measure_nets.proofs.half_perimeter.Tie as tie
+
+abbrev Inv-loop : tie.InvT-loop
+Inv-loop spots from count pins to e₀ i₀ e i = (i ≤ to) × Around spots pins from to i e
+
+abbrev μ-loop : tie.MeasureT-loop
+μ-loop spots from count pins to e₀ i₀ e i = to - i
+
+end-of-requires : tie.Need-end-of-requires Inv-loop μ-loop
+end-of-requires c κs = search needs
+
+returns : tie.Need-returns Inv-loop μ-loop
+returns c = search (needs, none-around)
+
+mul-place-of : tie.Need-mul-place-of Inv-loop μ-loop
+mul-place-of c = search needs
+
+array-copy-out-place-of : tie.Need-array-copy-out-place-of Inv-loop μ-loop
+array-copy-out-place-of c = search needs
+
+place-of-requires : tie.Need-place-of-requires Inv-loop μ-loop
+place-of-requires c κs = search needs
+
+add-i : tie.Need-add-i Inv-loop μ-loop
+add-i c = search needs
+
+loop-holds : tie.Need-loop-holds Inv-loop μ-loop
+loop-holds c = (search needs, search (needs, first-around))
+
+mul-place-of-2 : tie.Need-mul-place-of-2 Inv-loop μ-loop
+mul-place-of-2 c = search needs
+
+array-copy-out-place-of-2 : tie.Need-array-copy-out-place-of-2 Inv-loop μ-loop
+array-copy-out-place-of-2 c = search needs
+
+place-of-requires-2 : tie.Need-place-of-requires-2 Inv-loop μ-loop
+place-of-requires-2 c κs = search needs
+
+with-pin-requires : tie.Need-with-pin-requires Inv-loop μ-loop
+with-pin-requires c κs = search needs
+
+add-i-2 : tie.Need-add-i-2 Inv-loop μ-loop
+add-i-2 c = search needs
+
+loop-less : tie.Need-loop-less Inv-loop μ-loop
+loop-less c = search needs
+
+loop-again : tie.Need-loop-again Inv-loop μ-loop
+loop-again c = (search needs, search (needs, next-around))
+
+sub-result : tie.Need-sub-result Inv-loop μ-loop
+sub-result c = search left-first
+
+sub-result-2 : tie.Need-sub-result-2 Inv-loop μ-loop
+sub-result-2 c = search low-first
+
+add-result : tie.Need-add-result Inv-loop μ-loop
+add-result c = search half-fits
+
+returns-2 : tie.Need-returns-2 Inv-loop μ-loop
+returns-2 c = search (needs, all-around)
+
+pub half-perimeter-spec : {M : Type 1} → statement M
+half-perimeter-spec =
+    tie.close
+    (tie.spec
+    Inv-loop
+    μ-loop
+    end-of-requires
+    returns
+    mul-place-of
+    array-copy-out-place-of
+    place-of-requires
+    add-i
+    loop-holds
+    mul-place-of-2
+    array-copy-out-place-of-2
+    place-of-requires-2
+    with-pin-requires
+    add-i-2
+    loop-less
+    loop-again
+    sub-result
+    sub-result-2
+    add-result
+    returns-2)
