@@ -98,7 +98,7 @@ fn sides(least: u64, most: u64) -> Layout
     let h = text_line::short_rule(b'h', 0, least, most);
     let none = text_line::no_rule();
     Layout {
-        rules: [w, h, none, none, none, none],
+        rules: [w, h, none, none],
     }
 }
 
@@ -110,9 +110,8 @@ fn fix_fields() -> Layout
     let y = text_line::short_rule(b'y', 0, 0, Fix::CORNER_MOST);
     let w = text_line::short_rule(b'w', 0, Fix::SIDE_LEAST, Fix::SIDE_MOST);
     let h = text_line::short_rule(b'h', 0, Fix::SIDE_LEAST, Fix::SIDE_MOST);
-    let none = text_line::no_rule();
     Layout {
-        rules: [x, y, w, h, none, none],
+        rules: [x, y, w, h],
     }
 }
 
@@ -125,7 +124,7 @@ fn pin_fields() -> Layout
     let y = text_line::short_rule(b'y', Pin::UP, Pin::LEAST_UP, Pin::MOST_UP);
     let none = text_line::no_rule();
     Layout {
-        rules: [m, x, y, none, none, none],
+        rules: [m, x, y, none],
     }
 }
 

@@ -84,7 +84,7 @@ fn at_fields() -> Layout
     let y = text_line::short_rule(b'y', 0, 0, Spot::MOST);
     let none = text_line::no_rule();
     Layout {
-        rules: [m, x, y, none, none, none],
+        rules: [m, x, y, none],
     }
 }
 

@@ -39,7 +39,7 @@ fn net_fields() -> Layout
     let y = text_line::short_rule(b'y', 0, 1, 1000);
     let none = text_line::no_rule();
     Layout {
-        rules: [w, none, x, y, none, none],
+        rules: [w, none, x, y],
     }
 }
 
@@ -51,9 +51,8 @@ fn at_fields() -> Layout
     let x = text_line::short_rule(b'x', 0, 0, 1024);
     let y = text_line::short_rule(b'y', 0, 0, 1024);
     let t = text_line::or_else(text_line::short_rule(b't', 1, 0, 2), 2);
-    let none = text_line::no_rule();
     Layout {
-        rules: [n, x, y, t, none, none],
+        rules: [n, x, y, t],
     }
 }
 

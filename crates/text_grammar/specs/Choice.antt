@@ -7,7 +7,7 @@ use Rattle.text_grammar.specs.Steps.{need}
 
 -- how many places there are; past them is no rule
 abbrev pub ruleRoom : ℕ
-ruleRoom = 6
+ruleRoom = 4
 
 -- how a field that is not there is held: a number above every one that a field can hold
 abbrev pub absentHeld : ℕ

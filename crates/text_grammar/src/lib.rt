@@ -8,8 +8,8 @@ ghost use Rattle.text_grammar.specs.Choice.{nameFault, isAbsent, nextPla
 // How many words a kind of text has at most.
 pub const WORDS: usize = 8;
 
-// How many rules a line's layout has.
-pub const RULES: usize = 6;
+// How many rules a line's layout has room for.
+pub const RULES: usize = 4;
 
 // How a field that is not there is held: above every number that a field can hold.
 pub const ABSENT: u64 = 18446744073709551615;

@@ -9,11 +9,12 @@ use lib.ListN.{length, getD, List·getD-eq-default}
 use borrow.Author.Tests.{leb-true, ltb-true, not-false}
 use Rattle.model.specs.Meaning.{pinUp}
 use Rattle.num_text.specs.Held.{cap}
+use Rattle.text_grammar.specs.Choice.{ruleRoom}
 use Rattle.text_line.specs.declared.Rule.{Rule as HeldRule}
 use Rattle.text_line.specs.Layout.{noRule, ruleAt, Sane, isSane, isLayout, Laid}
 
 -- past the last rule is none
-pub past-rules : (rs : List HeldRule) (j : ℕ) (r : HeldRule) → length rs ≡ 6 → 6 ≤ j → r ≡ noRule → r ≡ ruleAt rs j
+pub past-rules : (rs : List HeldRule) (j : ℕ) (r : HeldRule) → length rs ≡ ruleRoom → ruleRoom ≤ j → r ≡ noRule → r ≡ ruleAt rs j
 past-rules rs j r l h e = e ∙ sym (List·getD-eq-default rs noRule {n = j} (omega arith))
 
 -- a place within the array is a rule of it

@@ -12,6 +12,7 @@ use borrow.Author.Tests.{le-leb, lt-leb, not-true, not-false}
 use Rattle.model.specs.Meaning.{pinUp}
 use Rattle.num_text.specs.Held.{cap}
 use Rattle.text_grammar.specs.Words.{same}
+use Rattle.text_grammar.specs.Choice.{ruleRoom}
 use Rattle.text_line.specs.declared.Rule.{Rule as HeldRule}
 use Rattle.text_line.specs.Layout.{isSane, isLayout}
 
@@ -50,7 +51,7 @@ module _ (rs : List HeldRule) where
       pub one-sane : not t ≡ false → Untested (i + 1)
       one-sane y = record { left = here ∙ rw (← e, not-false t y, add-one) }
 
-    pub all-sane : length rs ≡ 6 → 6 ≤ i → true ≡ isLayout rs
+    pub all-sane : length rs ≡ ruleRoom → ruleRoom ≤ i → true ≡ isLayout rs
     unfolding isLayout
     all-sane l h = rw (u .left, drop-of-length-le rs {i = i} (omega arith))
 

@@ -1,5 +1,5 @@
 -- The fields of a line as the program holds them: the rules of a form whose fields are numbers, in the order of the form, each way ended by a rule
--- without mark. A rule says by `other` where the line goes on if its mark does not stand here (text_grammar/specs/Choice.antt).
+-- without mark; past the last rule are only such. A rule says by `other` where the line goes on if its mark does not stand here (text_grammar/specs/Choice.antt).
 use Prim.Native.Nat.{ℕ, zero, suc, _≤_, _<_}
 use mathlib.Core.List.{List, [], _∷_, _++_}
 use mathlib.Core.Path.{_≡_}
@@ -110,9 +110,9 @@ shortRule name u lo hi = record { mark = 44 ∷ name ∷ 44 ∷ 0 ∷ []; size =
 abbrev pub withOther : ℕ → HeldRule → HeldRule
 withOther other r = record { mark = r .mark; size = r .size; other = other; up = r .up; least = r .least; most = r .most }
 
--- the rules rs, then such as end a way
+-- the rules rs as far as there is room, then such as end a way
 abbrev pub laidOut : List HeldRule → Layout
-laidOut rs = record { rules = filled ruleRoom noRule rs }
+laidOut rs = record { rules = take ruleRoom (filled ruleRoom noRule rs) }
 
 -- how much higher the numbers of a range are held, so that none is below 0
 abbrev pub upOf : Range → ℕ

@@ -32,7 +32,7 @@ pub struct Rule {
     pub most: u64,
 }
 
-// The fields of a line, at most four: each way through its rules ends with a rule without mark.
+// The fields of a line, at most four: each way through its rules ends with a rule without mark, or past the last.
 pub struct Layout {
     pub rules: [Rule; RULES],
 }
@@ -172,7 +172,7 @@ pub fn one_field(rule: Rule) -> Layout
 {
     let none = no_rule();
     Layout {
-        rules: [rule, none, none, none, none, none],
+        rules: [rule, none, none, none],
     }
 }
 
@@ -181,7 +181,7 @@ pub fn no_fields() -> Layout
 {
     let none = no_rule();
     Layout {
-        rules: [none, none, none, none, none, none],
+        rules: [none, none, none, none],
     }
 }
 

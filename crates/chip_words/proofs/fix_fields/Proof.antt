@@ -15,9 +15,6 @@ short-rule-requires-3 c κs = search needs
 short-rule-requires-4 : tie.Need-short-rule-requires-4
 short-rule-requires-4 c κs = search needs
 
-no-rule-requires : tie.Need-no-rule-requires
-no-rule-requires c κs = search needs
-
 returns : tie.Need-returns
 returns c = search fields-four
 
@@ -29,5 +26,4 @@ fix-fields-spec =
     short-rule-requires-2
     short-rule-requires-3
     short-rule-requires-4
-    no-rule-requires
     returns)

@@ -1,14 +1,15 @@
 use borrow.Author.Needs.{needs}
 use Prim.Native.Nat.{_≤_, _-_}
+use Rattle.text_grammar.specs.Choice.{ruleRoom}
 use Rattle.text_line.proofs.Limits.{Untested, none-tested, not-sane, one-sane, all-sane}
 use Rattle.text_line.proofs.is_layout.Statement.{statement}
 use Rattle.text_line.proofs.is_layout.Tie as tie
 
 abbrev Inv-loop : tie.InvT-loop
-Inv-loop rules i₀ i = (i ≤ 6) × Untested rules i
+Inv-loop rules i₀ i = (i ≤ ruleRoom) × Untested rules i
 
 abbrev μ-loop : tie.MeasureT-loop
-μ-loop rules i₀ i = 6 - i
+μ-loop rules i₀ i = ruleRoom - i
 
 loop-holds : tie.Need-loop-holds Inv-loop μ-loop
 loop-holds c = (search needs, search none-tested)

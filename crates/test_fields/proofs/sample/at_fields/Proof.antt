@@ -18,9 +18,6 @@ short-rule-requires-4 c κs = search needs
 or-else-requires : tie.Need-or-else-requires
 or-else-requires c κs = search needs
 
-no-rule-requires : tie.Need-no-rule-requires
-no-rule-requires c κs = search needs
-
 returns : tie.Need-returns
 returns c = search at-laid
 
@@ -33,5 +30,4 @@ at-fields-spec =
     short-rule-requires-3
     short-rule-requires-4
     or-else-requires
-    no-rule-requires
     returns)
