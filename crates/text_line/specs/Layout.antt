@@ -1,5 +1,6 @@
 -- The fields of a line as the program holds them: the rules of a form whose fields are numbers, in the order of the form, each way ended by a rule
--- without mark; past the last rule are only such. A rule says by `other` where the line goes on if its mark does not stand here (text_grammar/specs/Choice.antt).
+-- without mark; past the last rule are only such. A rule says by `other` where the line goes on if its mark does not stand here
+-- (text_grammar/specs/Choice.antt).
 use Prim.Native.Nat.{ℕ, zero, suc, _≤_, _<_}
 use mathlib.Core.List.{List, [], _∷_, _++_}
 use mathlib.Core.Path.{_≡_}
