@@ -8,8 +8,7 @@ use lib.ListN.{length}
 use borrow.Author.Tests.{eq-eqb, ne-eqb, le-leb, lt-leb, not-true, not-false}
 use Rattle.refusals.specs.Tests.{test, firstFailed}
 use Rattle.refusals.proofs.FirstFailed.{none-failed, fails-here, fails-later}
-use Rattle.fit_slots.specs.Fit.{areLetters}
-use Rattle.fit_faults.specs.Tests.{testsBy}
+use Rattle.fit_slots.specs.Fit.{areLetters, testsBy}
 
 module _ (s : List ℕ) (count slots room : ℕ) where
   pub wrong-count : (length s ≡ count → ⊥) → 11 ≡ firstFailed (testsBy count slots s room)

@@ -1,8 +1,7 @@
 // The faults of a letter string and of a lent list of slots (document 01, "Refusal table"): whether bytes are letters, and the first test that fails.
 ghost use mathlib.Core.Path.{_≡_};
 ghost use Rattle.refusals.specs.Tests.{firstFailed};
-ghost use Rattle.fit_slots.specs.Fit.{isLetter, areLetters};
-ghost use Rattle.fit_faults.specs.Tests.{testsBy};
+ghost use Rattle.fit_slots.specs.Fit.{isLetter, areLetters, testsBy};
 
 // Whether a byte is L, R, B, A or the dot.
 fn is_letter(b: u8) -> bool

@@ -56,13 +56,17 @@ abbrev pub bestFit : ℕ → Best → Fit
 bestFit slots nothing = noFit
 bestFit slots (found l ps) = placed l slots ps
 
--- 11 where there is not one letter for each pair, 12 where a byte is no letter, 15 where the lent list is shorter than the slots
-abbrev pub fitTests : Chip → List ℕ → ℕ → List Test
-fitTests c s room =
-    test 11 (eqb (length s) (letterCount c))
+-- 11 where there is not one letter for each of the pairs, 12 where a byte is no letter, 15 where the lent list is shorter than the slots
+abbrev pub testsBy : ℕ → ℕ → List ℕ → ℕ → List Test
+testsBy pairCount slots s room =
+    test 11 (eqb (length s) pairCount)
     ∷ test 12 (areLetters s)
-    ∷ test 15 (leb (slotCount c) room)
+    ∷ test 15 (leb slots room)
     ∷ []
+
+-- those of a chip
+abbrev pub fitTests : Chip → List ℕ → ℕ → List Test
+fitTests c s room = testsBy (letterCount c) (slotCount c) s room
 
 -- the fit of a chip that was read: its refusal, those of the tests, or the placement
 abbrev pub fitChip : Reading Chip → List ℕ → ℕ → Fit

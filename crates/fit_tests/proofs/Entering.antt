@@ -19,10 +19,9 @@ use Rattle.chip_text.specs.Text.{readChip, chipText}
 use Rattle.chip_text.specs.Valid.{pinsBefore}
 use Rattle.chip_text.specs.Passed.{Passed}
 use Rattle.chip_text.proofs.Passing.{Whole}
-use Rattle.fit_slots.specs.Fit.{refusedBy, slotCount, fitTests, fitChip, fitLetters}
+use Rattle.fit_slots.specs.Fit.{refusedBy, slotCount, fitTests, fitChip, fitLetters, testsBy}
 use Rattle.fit_pairs.specs.Count.{letterTotal}
 use Rattle.fit_pairs.proofs.Counts.{chip-letters, chip-few}
-use Rattle.fit_faults.specs.Tests.{testsBy}
 use Rattle.fit_tests.specs.Entry.{SlotsEach, fitting, Ready}
 
 -- ---- the number of slots

@@ -29,7 +29,6 @@ use Rattle.fit.specs.declared.FitOutcome.the-variants as outcome
 use Rattle.fit.specs.declared.FitAnswer.{FitAnswer}
 use Rattle.fit.specs.Answer.{outcomeOf, positionsOf, answerFor}
 use Rattle.fit.proofs.Outcomes.{take-filled, is-placed, is-none, is-refused}
-use Rattle.host_lists.proofs.Numbers.{length-keys}
 use Rattle.host_codes.specs.declared.Code.{Code}
 use Rattle.host_codes.specs.Code.{code, refused as refusedCode, ofFit}
 use Rattle.host_fit.specs.FitText.{ofOutcome, over, fitRead, placesAfter, FitDone}
