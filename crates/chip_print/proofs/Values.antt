@@ -18,7 +18,7 @@ use Rattle.chip_print.specs.Items.{itemAt}
 
 -- the item of the word w with the numbers vs, as held
 abbrev heldItem : ChipWord → List ℕ → Item
-heldItem w vs = record { word = w; values = valuesIn (form w) vs }
+heldItem w vs = record { word = w; values = valuesIn (form w) [] vs }
 
 module _ (c : HeldChip) (w : ChipWord) (i : ℕ) where
   pub die-values : w ≡ word.Die → heldItem w (c .die .w ∷ c .die .h ∷ 0 ∷ 0 ∷ []) ≡ itemAt c w i

@@ -5,6 +5,7 @@ use model::Fix;
 use model::Mac;
 use model::Net;
 use model::Pin;
+ghost use mathlib.Core.List.{[]};
 ghost use mathlib.Core.Path.{_≡_};
 ghost use Prim.Native.Nat.{_+_, _≤_, min};
 ghost use lib.ListN.{getD};
@@ -70,7 +71,7 @@ fn pin_at(pins: [Pin; Pin::COUNT], i: usize) -> Pin
 
 // The values, as held, of item i of a kind.
 fn values_at(c: Chip, w: ChipWord, i: usize) -> [u64; 4]
-    ensures { λ r. ⌜ record { word = w; values = valuesIn (form w) r } ≡ itemAt c w i ⌝ }
+    ensures { λ r. ⌜ record { word = w; values = valuesIn (form w) [] r } ≡ itemAt c w i ⌝ }
 {
     match w {
         ChipWord::Die => {

@@ -1,7 +1,7 @@
 -- What the reader holds while it reads, and what that means.
 use Prim.Native.Nat.{ℕ, _≤_}
 use mathlib.Core.Path.{_≡_}
-use mathlib.Core.List.{List}
+use mathlib.Core.List.{List, []}
 use mathlib.Core.Bool.{true, _||_}
 use Rattle.model.specs.declared.Refusal.{Refusal}
 use Rattle.model.specs.declared.Chip.{Chip as HeldChip}
@@ -33,7 +33,7 @@ partOf s = record { last = lastOf (s .last); chip = chipOf (s .chip) }
 
 -- the values of a line with the word w, as the program holds them
 abbrev pub chipValues : ChipWord → List ℕ → List Value
-chipValues w v = valuesIn (form w) v
+chipValues w v = valuesIn (form w) [] v
 
 -- the counts stay within the arrays, whose entries past them are blank, the pins are those that the nets take, and a net stands before a pin
 pub record Sound (s : State) : Type 0 where

@@ -1,11 +1,12 @@
 -- The words of chips by their cases, and that their layouts are their forms.
 use mathlib.Core.Path.{_≡_, refl, _∙_}
 use mathlib.Core.Bool.{true}
-use mathlib.Core.List.{[], _∷_}
+use mathlib.Core.List.{List, [], _∷_}
+use Prim.Native.Nat.{ℕ}
 use Rattle.text_line.specs.declared.Rule.{Rule}
 use Rattle.text_line.specs.declared.Layout.{Layout}
 use Rattle.text_line.specs.Held.{spelled}
-use Rattle.text_line.specs.Layout.{formAt, isLayout, formOf, shortRule, laidOut, layoutFor}
+use Rattle.text_line.specs.Layout.{formAt, isLayout, formOf, shortRule, laidOut, layoutFor, valuesAt, valuesIn}
 use Rattle.text_line.proofs.Layouts.{Laying}
 use Rattle.chip_text.specs.declared.ChipWord.{ChipWord}
 use Rattle.chip_text.specs.declared.ChipWord.the-variants as word
@@ -45,3 +46,13 @@ layout-of word.End = refl
 
 pub laying : (w : ChipWord) → Laying (form w)
 laying w = record { means = form-of w; fine = layout-of w }
+
+-- no field is a string: what the numbers mean does not depend on the text that they were read from
+pub no-strings : (w : ChipWord) (s vs : List ℕ) → valuesIn (form w) s vs ≡ valuesIn (form w) [] vs
+unfolding valuesAt
+no-strings word.Die s vs = refl
+no-strings word.Fix s vs = refl
+no-strings word.Mac s vs = refl
+no-strings word.Net s vs = refl
+no-strings word.Pin s vs = refl
+no-strings word.End s vs = refl

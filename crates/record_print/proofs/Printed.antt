@@ -24,7 +24,7 @@ use Rattle.record_text.specs.Text.{Item, leastItem, noneItem, doneItem, atItem,
 
 -- the line of the word w with the numbers vs, as held
 abbrev lineOf : RecordWord → List ℕ → List ℕ
-lineOf w vs = itemText recordWords (record { word = w; values = valuesIn (form w) vs })
+lineOf w vs = itemText recordWords (record { word = w; values = valuesIn (form w) [] vs })
 
 -- the line of macro i + 1 of an array of spots
 abbrev pub spotItem : List Spot → ℕ → Item

@@ -4,6 +4,7 @@ use model::Outcome;
 use model::Record;
 use model::Spot;
 use record_text::RecordWord;
+ghost use mathlib.Core.List.{[]};
 ghost use mathlib.Core.Path.{_≡_};
 ghost use lib.ListN.{getD};
 ghost use Rattle.num_text.specs.Held.{Wrote};
@@ -15,7 +16,7 @@ ghost use Rattle.record_text.specs.Text.{atItems, body, recordText};
 
 // Writes the line with that word and the values v, as held, from `at` on, as far as the buffer goes, and answers the place after it.
 fn put_item(out: &mut [u8], at: usize, w: RecordWord, v: [u64; 4]) -> usize
-    ensures { λ k. ⌜ Wrote (now (out .entry)) (now (out .exit)) (itemText recordWords (record { word = w; values = valuesIn (form w) v })) at k ⌝ }
+    ensures { λ k. ⌜ Wrote (now (out .entry)) (now (out .exit)) (itemText recordWords (record { word = w; values = valuesIn (form w) [] v })) at k ⌝ }
 {
     let word = record_words::spelling_of(w);
     let layout = record_words::layout_of(w);

@@ -1,7 +1,7 @@
 -- What the reader holds while it reads, and what that means.
 use Prim.Native.Nat.{ℕ}
 use mathlib.Core.Path.{_≡_}
-use mathlib.Core.List.{List}
+use mathlib.Core.List.{List, []}
 use mathlib.Core.Bool.{Bool, true, false, _||_}
 use Rattle.model.specs.declared.Refusal.{Refusal}
 use Rattle.model.specs.declared.Spot.{Spot}
@@ -38,7 +38,7 @@ partOf s = record { last = lastOf (s .last); result = resultOf (s .found) (s .wl
 
 -- the values of a line with the word w, as the program holds them
 abbrev pub recordValues : RecordWord → List ℕ → List Value
-recordValues w v = valuesIn (form w) v
+recordValues w v = valuesIn (form w) [] v
 
 -- the count stays within the array, whose entries past it are blank, and is 0 before a `least` line, which stands before an `at` line
 pub record Sound (s : State) : Type 0 where

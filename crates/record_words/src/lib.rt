@@ -100,6 +100,8 @@ pub fn layout_of(w: RecordWord) -> Layout
             up: 0,
             least: 0,
             most: Record::LENGTH_MOST,
+            set: [0; 4],
+            letters: 0,
         }),
         RecordWord::None => text_line::no_fields(),
         RecordWord::At => at_fields(),

@@ -1,7 +1,7 @@
 -- A choice in a line, in the form of the needs of the functions that follow it; and that no number of a field stands for an absent one.
 use mathlib.Core.Path.{_≡_, refl, _∙_}
 use mathlib.Core.Bool.{Bool, true, false, not, and-false}
-use Prim.Native.Nat.{ℕ, _+_, _-_, _≤_, _<_}
+use Prim.Native.Nat.{ℕ, _+_, _-_, _^_, _≤_, _<_}
 use native.Mathlib.Omega.{arith}
 use lib.Dec.{eqb}
 use borrow.Author.Tests.{eq-eqb, ne-eqb, not-true, not-false}
@@ -44,9 +44,12 @@ module _ (other n : ℕ) (e : n ≡ nameFault other) where
       by true q = let c : n ≡ 2 = e ∙ rw q in absurd (omega arith)
       by false q = q
 
--- a number below the cap of the number reader is a value
+-- a place in a text is a value, and so is a number below the cap of the number reader
+pub place-is : (other v : ℕ) → v < 2 ^ 63 → isAbsent other v ≡ false
+place-is other v h = rw (ne-eqb v absentHeld (λ e. omega arith), and-false)
+
 pub value-is : (other v : ℕ) → v < cap → isAbsent other v ≡ false
-value-is other v h = rw (ne-eqb v absentHeld (λ e. omega arith), and-false)
+value-is other v h = place-is other v (omega arith)
 
 -- the next place
 module _ (j other : ℕ) (absent : Bool) where

@@ -3,12 +3,14 @@
 use mathlib.Core.Path.{_≡_, refl, sym, ap, subst, _∙_}
 use mathlib.Core.Bool.{Bool, true, false}
 use mathlib.Core.List.{List, [], _∷_, _++_, append-nil}
-use Prim.Native.Nat.{ℕ, suc, _≤_, _<_}
+use Prim.Native.Nat.{ℕ, suc, _+_, _-_, _^_, _≤_, _<_}
 use native.Mathlib.Decide.{ℕ-discrete}
 use native.Mathlib.Omega.{arith}
 use lib.Dec.{eqb}
-use lib.ListN.{length, take, drop, length-append}
-use lib.Seq.{take-length, take-append-seam, drop-append-seam}
+use mir.Syntax.{w64}
+use mir.Val.{Fits}
+use lib.ListN.{length, take, drop, length-append, length-drop}
+use lib.Seq.{take-length, take-all, take-append-seam, drop-append-seam}
 use borrow.Author.Tests.{eq-eqb, ne-eqb, eqb-true}
 use Rattle.num_text.specs.Number.{allOf}
 use Rattle.text_grammar.specs.Line.{Line, lineFeed, cut, lines, upTo, from}
@@ -45,6 +47,20 @@ module _ (d : ℕ) where
 
   pub up-to-short : (s : List ℕ) → length (upTo d s) ≤ length s
   up-to-short s = omega (arith, simp length-append at (ap length (up-to-from s)))
+
+  -- from place p on, up to the next d: what a count n of the bytes before it says
+  module _ (s : List ℕ) (p n : ℕ) (h : p ≤ length s) (e : n ≡ length (upTo d (take (length s - p) (drop p s)))) where
+    pub part-long : n ≡ length (upTo d (drop p s))
+    part-long = e ∙ rw (take-all (length s - p) (drop p s) (rw length-drop (omega arith)))
+
+    pub part-end : p + n ≤ length s
+    part-end = let q = part-long in omega (arith, up-to-short (drop p s), length-drop p s)
+
+    pub part-end-fits : length s < 2 ^ 64 → Fits w64 (p + n)
+    part-end-fits f = let q = part-end in omega arith
+
+    pub part-bytes : take (p + n - p) (drop p s) ≡ upTo d (drop p s)
+    part-bytes = let q : p + n - p ≡ length (upTo d (drop p s)) = omega (arith, part-long) in rw q (sym (up-to-take (drop p s)))
 
   pub up-to-all : (s : List ℕ) → length (upTo d s) ≡ length s → upTo d s ≡ s
   up-to-all s e = up-to-take s ∙ rw e (take-length s)

@@ -1,6 +1,8 @@
 // The order of refusals of document 01 for any kind of text: what a text means, and the tests that every reader makes.
 ghost use mathlib.Core.Path.{_≡_};
 ghost use lib.Dec.{leb};
+ghost use lib.ListN.{take};
+ghost use Rattle.text_grammar.specs.Line.{isOf, isString};
 ghost use Rattle.text_grammar.specs.Steps.{need, entryBy};
 ghost use Rattle.text_grammar.specs.Follow.{followedBy, followedByNone};
 ghost use Rattle.text_grammar.specs.Choice.{nameFault, isAbsent, nextPlace};
@@ -122,4 +124,35 @@ pub fn next_place(j: usize, other: usize, absent: bool) -> usize
         return RULES;
     }
     j + other
+}
+
+// Whether b is one of the first `letters` bytes of a set.
+fn is_of(set: [u8; 4], letters: usize, b: u8) -> bool
+    ensures { λ r. ⌜ r ≡ isOf (take letters set) b ⌝ }
+{
+    let mut i: usize = 0;
+    while i < 4 {
+        if letters <= i {
+            return false;
+        }
+        if b == set[i] {
+            return true;
+        }
+        i += 1;
+    }
+    false
+}
+
+// Whether s has only bytes of that set, and a length from least to most.
+pub fn is_string(s: &[u8], set: [u8; 4], letters: usize, least: u64, most: u64) -> bool
+    ensures { λ r. ⌜ r ≡ isString (take letters set) least most (now (s .entry)) ⌝ }
+{
+    let mut i: usize = 0;
+    while i < s.len() {
+        if !is_of(set, letters, s[i]) {
+            return false;
+        }
+        i += 1;
+    }
+    model::within(s.len() as u64, least, most)
 }

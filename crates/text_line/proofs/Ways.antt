@@ -20,11 +20,11 @@ module _ (k : ℕ) (rs : List HeldRule) (j : ℕ) where
         by zero = refl
         by (suc k) = rw (eq-eqb (ruleAt rs j .size) 0 h)
 
-    pub values-end : (vs : List ℕ) (i : ℕ) → valuesAt k rs vs j i ≡ []
+    pub values-end : (s vs : List ℕ) (i : ℕ) → valuesAt k rs s vs j i ≡ []
     unfolding valuesAt
-    values-end vs i = by k
+    values-end s vs i = by k
       where
-        by : (k : ℕ) → valuesAt k rs vs j i ≡ []
+        by : (k : ℕ) → valuesAt k rs s vs j i ≡ []
         by zero = refl
         by (suc k) = rw (eq-eqb (ruleAt rs j .size) 0 h)
 
@@ -33,9 +33,9 @@ module _ (k : ℕ) (rs : List HeldRule) (j : ℕ) where
     unfolding formAt
     form-goes-on = rw (ne-eqb (ruleAt rs j .size) 0 h)
 
-    pub values-go-on : (vs : List ℕ) (i : ℕ) → valuesAt (suc k) rs vs j i ≡ valueIn (ruleAt rs j) (getD vs i 0) ∷ valuesAt k rs vs (placeAfter rs j (getD vs i 0)) (suc i)
+    pub values-go-on : (s vs : List ℕ) (i : ℕ) → valuesAt (suc k) rs s vs j i ≡ valueIn s (ruleAt rs j) (getD vs i 0) ∷ valuesAt k rs s vs (placeAfter rs j (getD vs i 0)) (suc i)
     unfolding valuesAt
-    values-go-on vs i = rw (ne-eqb (ruleAt rs j .size) 0 h)
+    values-go-on s vs i = rw (ne-eqb (ruleAt rs j .size) 0 h)
 
   -- the way that is taken
   pub way-taken : (o : ℕ) (b : Bool) → pick b (formAt k rs (nextPlace j o true)) (formAt k rs (nextPlace j o false)) ≡ formAt k rs (nextPlace j o b)

@@ -1,5 +1,5 @@
 -- What the functions of the field reader and of a reader of lines promise.
-use Prim.Native.Nat.{ℕ, zero, suc, _≤_}
+use Prim.Native.Nat.{ℕ, zero, suc, _+_, _≤_}
 use mathlib.Core.List.{List}
 use mathlib.Core.Path.{_≡_}
 use mathlib.Core.Bool.{Bool, true, false, _&&_}
@@ -16,7 +16,7 @@ use Rattle.text_line.specs.declared.Fault.{Fault}
 use Rattle.text_line.specs.declared.Fault.the-variants as fault
 use Rattle.text_line.specs.declared.Fields.the-variants as held
 use Rattle.text_line.specs.declared.FieldsRead.{FieldsRead}
-use Rattle.text_line.specs.Layout.{pick, wayOf, valueIn, refusedFields}
+use Rattle.text_line.specs.Layout.{pick, wayOf, valueIn, numberFor, endOf, refusedFields}
 
 -- ---- a mark
 
@@ -40,10 +40,12 @@ ifInRange false v b l = outOfRange l
 abbrev pub within : HeldRule → ℕ → Bool
 within r v = leb (r .least) v && leb v (r .most)
 
--- the field with the rule r at a has the value v, or is absent, and b is the place after it
+-- the field with the rule r at a has the value v, or is absent, and b is the place after it; v is how that value is held
 pub record Got (text : List ℕ) (a : ℕ) (r : HeldRule) (v b : ℕ) : Type 0 where
   pub place : b ≤ length text
-  pub read : (f g : Form) → fields (wayOf r f g) (drop a text) ≡ andThen (valueIn r v) (fields (pick (isAbsent (r .other) v) g f) (drop b text))
+  pub read : (f g : Form) → fields (wayOf r f g) (drop a text) ≡ andThen (valueIn text r v) (fields (pick (isAbsent (r .other) v) g f) (drop b text))
+  pub held : numberFor r (a + r .size) (valueIn text r v) ≡ v
+  pub ends : endOf text r a (valueIn text r v) ≡ b
 
 -- the field with the rule r at a is refused by f
 pub record Faulty (text : List ℕ) (a : ℕ) (r : HeldRule) (l : ℕ) (f : Refusal) : Type 0 where

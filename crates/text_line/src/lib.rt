@@ -12,7 +12,7 @@ ghost use lib.ListN.{length, take, drop};
 ghost use Rattle.text_grammar.specs.Line.{upTo};
 ghost use Rattle.text_grammar.specs.Steps.{lineEnd, need};
 ghost use Rattle.text_grammar.specs.Words.{same};
-ghost use Rattle.text_line.specs.Layout.{shortRule, withOther, noRule, ruleAt, laidOut, Sane, isSane, isLayout, Laid, FieldsOk};
+ghost use Rattle.text_line.specs.Layout.{shortRule, withLetters, withOther, noRule, ruleAt, laidOut, Sane, isSane, isLayout, Laid, FieldsOk};
 ghost use Rattle.text_line.specs.Steps.{Starts, ifInRange, within, FieldOk, endAnswer};
 
 // The spelling of a word: five bytes, and how many of them are the word's; the others are 0.
@@ -22,7 +22,8 @@ pub struct Spelling {
 }
 
 // A field: its name between two commas (the first `size` bytes of `mark`), where the line goes on if that does not stand here (`other` rules further on;
-// 0: it must), how much higher its value is held, and its range, as held.
+// 0: it must), how much higher its value is held, and its range, as held. Where `letters` is not 0, the field is a string of the first `letters` bytes of
+// `set`, from `least` to `most` bytes long.
 pub struct Rule {
     pub mark: [u8; 4],
     pub size: usize,
@@ -30,6 +31,8 @@ pub struct Rule {
     pub up: u64,
     pub least: u64,
     pub most: u64,
+    pub set: [u8; 4],
+    pub letters: usize,
 }
 
 // The fields of a line, at most four: each way through its rules ends with a rule without mark, or past the last.
@@ -55,8 +58,8 @@ pub enum Fields {
     Refused(Refusal),
 }
 
-// The answer with the values of the fields, x and y of a pin held 4,096 higher; ABSENT for a field that is not there, 0 past the last field, and after a
-// refusal.
+// The answer with the values of the fields, x and y of a pin held 4,096 higher, a string by the place where it begins in the bytes that were read (it goes
+// up to the next comma); ABSENT for a field that is not there, 0 past the last field, and after a refusal.
 pub struct FieldsRead {
     pub answer: Fields,
     pub values: [u64; 4],
@@ -124,6 +127,25 @@ pub fn short_rule(name: u8, up: u64, least: u64, most: u64) -> Rule
         up,
         least,
         most,
+        set: [0; 4],
+        letters: 0,
+    }
+}
+
+// The same field with a string of the first `letters` bytes of a set, from `least` to `most` bytes long.
+pub fn of_letters(rule: Rule, set: [u8; 4], letters: usize) -> Rule
+    ensures { λ r. ⌜ r ≡ withLetters set letters rule ⌝ }
+{
+    let mark = rule.mark;
+    Rule {
+        mark,
+        size: rule.size,
+        other: rule.other,
+        up: rule.up,
+        least: rule.least,
+        most: rule.most,
+        set,
+        letters,
     }
 }
 
@@ -132,6 +154,7 @@ pub fn or_else(rule: Rule, other: usize) -> Rule
     ensures { λ r. ⌜ r ≡ withOther other rule ⌝ }
 {
     let mark = rule.mark;
+    let set = rule.set;
     Rule {
         mark,
         size: rule.size,
@@ -139,6 +162,8 @@ pub fn or_else(rule: Rule, other: usize) -> Rule
         up: rule.up,
         least: rule.least,
         most: rule.most,
+        set,
+        letters: rule.letters,
     }
 }
 
@@ -153,6 +178,8 @@ pub fn no_rule() -> Rule
         up: 0,
         least: 0,
         most: 0,
+        set: [0; 4],
+        letters: 0,
     }
 }
 
@@ -256,6 +283,13 @@ pub(crate) fn read_field(text: &[u8], a: usize, rule: Rule, line: usize) -> Fiel
     }
     let p = a + size;
     let b = p + bytes_before(&text[p..], 44);
+    if rule.letters != 0 {
+        let set = rule.set;
+        if !text_grammar::is_string(&text[p..b], set, rule.letters, rule.least, rule.most) {
+            return Field::Refused(Refusal { no: 3, line });
+        }
+        return Field::Value(p as u64, b);
+    }
     let Number::Value(negative, magnitude) = num_text::read_number(&text[p..b]) else {
         return Field::Refused(Refusal { no: 3, line });
     };

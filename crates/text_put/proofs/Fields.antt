@@ -5,17 +5,19 @@ use mathlib.Core.List.{List, [], _∷_, _++_, append-assoc, append-nil}
 use Prim.Native.Nat.{ℕ, zero, suc, _+_, _-_, _≤_, _<_, _^_}
 use native.Mathlib.Numerals.{add-one}
 use native.Mathlib.Omega.{arith}
-use borrow.Author.Tests.{le-ltb}
-use lib.IntN.{pos, subℕ}
-use lib.ListN.{length, getD, take}
+use borrow.Author.Tests.{eq-eqb, ne-eqb, le-ltb}
+use lib.IntN.{ℤ, pos, subℕ}
+use lib.ListN.{length, getD, take, drop, drop-of-length-le}
 use Rattle.num_text.specs.Number.{numberText}
 use Rattle.num_text.specs.Held.{Wrote}
 use Rattle.num_text.proofs.Wrote.{wrote-none, wrote-then}
-use Rattle.text_grammar.specs.Line.{Value, number, absent, Form, one, either, over, fieldsText}
+use Rattle.text_grammar.specs.Line.{comma, upTo, Value, number, string, absent, valueText, Rule, Form, one, either, over, fieldsText}
 use Rattle.text_grammar.specs.Choice.{isAbsent, nextPlace}
 use Rattle.text_line.specs.declared.Rule.{Rule as HeldRule}
 use Rattle.text_line.specs.Held.{lowered}
-use Rattle.text_line.specs.Layout.{markOf, ruleOf, ruleAt, mustStand, pick, formAt, placeAfter, valuesAt, formOf, valuesOf}
+use Rattle.text_line.specs.Layout.{markOf, isNumber, ruleOf, ruleAt, mustStand, pick, formAt, placeAfter, valuesAt, formOf, valuesOf}
+use Rattle.text_grammar.proofs.Cut.{part-bytes}
+use Rattle.text_put.specs.LineText.{heldText}
 use Rattle.text_line.proofs.Ways.{form-ends, form-goes-on, values-go-on, way-taken}
 
 -- ---- one field
@@ -24,43 +26,53 @@ lowered-sub : (u v : ℕ) → lowered u v ≡ subℕ v u
 lowered-sub zero v = rw (le-ltb v 0 (omega arith)) (ap pos (omega arith))
 lowered-sub (suc u) v = refl
 
--- the field with the rule r and the held value v
-abbrev heldText : HeldRule → ℕ → List ℕ
-heldText r v = markOf r ++ numberText (lowered (r .up) v)
-
-module _ (t : Bool) (mark b : List ℕ) (size at u v : ℕ) where
-  pub field-absent : at < 2 ^ 64 → t ≡ true → Wrote b b (pick t [] (take size mark ++ numberText (lowered u v))) at at
+module _ (t : Bool) (r : HeldRule) (s b : List ℕ) (at v : ℕ) where
+  pub field-absent : at < 2 ^ 64 → t ≡ true → Wrote b b (pick t [] (heldText s r v)) at at
   field-absent h e = rw e (wrote-none b at (omega arith))
 
-  pub field-written : (m a : List ℕ) (k n : ℕ) → length b < 2 ^ 64 → t ≡ false → Wrote b m (take size mark) at k → Wrote m a (numberText (subℕ v u)) k n → Wrote b a (pick t [] (take size mark ++ numberText (lowered u v))) at n
-  field-written m a k n h e p q = rw (e, lowered-sub u v) (wrote-then b m a _ _ at k n h p q)
+  module _ (m a : List ℕ) (k n : ℕ) (h : length b < 2 ^ 64) (e : t ≡ false) (p : Wrote b m (markOf r) at k) where
+    pub number-written : r .letters ≡ 0 → Wrote m a (numberText (subℕ v (r .up))) k n → Wrote b a (pick t [] (heldText s r v)) at n
+    number-written z q = rw (e, eq-eqb (r .letters) 0 z, lowered-sub (r .up) v) (wrote-then b m a _ _ at k n h p q)
+
+    pub string-written : (r .letters ≡ 0 → ⊥) → Wrote m a (upTo comma (drop v s)) k n → Wrote b a (pick t [] (heldText s r v)) at n
+    string-written z q = rw (e, ne-eqb (r .letters) 0 z) (wrote-then b m a _ _ at k n h p q)
+
+-- the bytes of a string
+module _ (s : List ℕ) (v : ℕ) where
+  pub no-string : (b : List ℕ) (at : ℕ) → at < 2 ^ 64 → length s < v → Wrote b b (upTo comma (drop v s)) at at
+  unfolding upTo
+  no-string b at h g = rw (drop-of-length-le s {i = v} (omega arith)) (wrote-none b at (omega arith))
+
+  pub string-bytes : (n : ℕ) → v ≤ length s → n ≡ length (upTo comma (take (length s - v) (drop v s))) → (b a : List ℕ) (at r : ℕ) → Wrote b a (take (v + n - v) (drop v s)) at r → Wrote b a (upTo comma (drop v s)) at r
+  string-bytes n g e b a at r w = rw (← part-bytes comma s v n g e) w
 
 -- ---- one more field
 
--- the text of a field and of those after it, by whether it must stand here and whether it is absent
-way-text : (must gone : Bool) (r : HeldRule) (v : ℕ) (f g : Form) (us : List Value) → (must ≡ true → gone ≡ false) → fieldsText (pick must (one (ruleOf r) f) (either (ruleOf r) f g)) (pick gone absent (number (lowered (r .up) v)) ∷ us) ≡ pick gone [] (heldText r v) ++ fieldsText (pick gone g f) us
+-- the text of a field that is here and of those after it, and of one that is absent, by whether it must stand here
+way-text : (must gone plain : Bool) (r : Rule) (z : ℤ) (t : List ℕ) (f g : Form) (us : List Value) → (must ≡ true → gone ≡ false) → fieldsText (pick must (one r f) (either r f g)) (pick gone absent (pick plain (number z) (string t)) ∷ us) ≡ pick gone [] (r .mark ++ valueText (pick plain (number z) (string t))) ++ fieldsText (pick gone g f) us
 unfolding fieldsText
-way-text true true r v f g us h = absurd (true≢false (h refl))
-way-text true false r v f g us h = sym (append-assoc (markOf r) (numberText (lowered (r .up) v)) (fieldsText f us))
-way-text false true r v f g us h = refl
-way-text false false r v f g us h = sym (append-assoc (markOf r) (numberText (lowered (r .up) v)) (fieldsText f us))
+way-text true true plain r z t f g us h = absurd (true≢false (h refl))
+way-text true false plain r z t f g us h = sym (append-assoc (r .mark) (valueText (pick plain (number z) (string t))) (fieldsText f us))
+way-text false true plain r z t f g us h = refl
+way-text false false true r z t f g us h = sym (append-assoc (r .mark) (numberText z) (fieldsText f us))
+way-text false false false r z t f g us h = sym (append-assoc (r .mark) t (fieldsText f us))
 
 must-be-there : (r : HeldRule) (v : ℕ) → mustStand r ≡ true → isAbsent (r .other) v ≡ false
 must-be-there r v e = rw e
 
-module _ (rs : List HeldRule) (vs b : List ℕ) (at : ℕ) where
+module _ (rs : List HeldRule) (s vs b : List ℕ) (at : ℕ) where
   -- the first i fields are written up to the place k, and the rule of the next is at place j
   pub record PutTo (m : List ℕ) (k j i : ℕ) : Type 0 where
     pub far : List ℕ
     pub wrote : Wrote b m far at k
-    pub kept : fieldsText (formOf rs) (valuesOf rs vs) ≡ far ++ fieldsText (formAt (4 - i) rs j) (valuesAt (4 - i) rs vs j i)
+    pub kept : fieldsText (formOf rs) (valuesOf rs s vs) ≡ far ++ fieldsText (formAt (4 - i) rs j) (valuesAt (4 - i) rs s vs j i)
 
   pub no-field : at < 2 ^ 64 → PutTo b at 0 0
   no-field h = record { far = []; wrote = wrote-none b at (omega arith); kept = refl }
 
   module _ (m : List ℕ) (k j i : ℕ) (inv : PutTo m k j i) where
     module _ (r : HeldRule) (e : r ≡ ruleAt rs j) where
-      pub field-more : (a : List ℕ) (n : ℕ) (t : Bool) (p : ℕ) → length b < 2 ^ 64 → i < 4 → (r .size ≡ 0 → ⊥) → t ≡ isAbsent (r .other) (getD vs i 0) → Wrote m a (pick t [] (heldText r (getD vs i 0))) k n → p ≡ nextPlace j (r .other) t → PutTo a n p (i + 1)
+      pub field-more : (a : List ℕ) (n : ℕ) (t : Bool) (p : ℕ) → length b < 2 ^ 64 → i < 4 → (r .size ≡ 0 → ⊥) → t ≡ isAbsent (r .other) (getD vs i 0) → Wrote m a (pick t [] (heldText s r (getD vs i 0))) k n → p ≡ nextPlace j (r .other) t → PutTo a n p (i + 1)
       field-more a n t p f h size u w q = record { far = inv .far ++ text; wrote = wrote-then b m a _ _ at k n f (inv .wrote) (rw (u, e) at w); kept = kept-on }
         where
           x : HeldRule
@@ -76,7 +88,7 @@ module _ (rs : List HeldRule) (vs b : List ℕ) (at : ℕ) where
           gone = isAbsent (ruleAt rs j .other) (getD vs i 0)
 
           text : List ℕ
-          text = pick gone [] (heldText x v)
+          text = pick gone [] (heldText s x v)
 
           place : placeAfter rs j v ≡ p
           place = sym (q ∙ rw (u, e))
@@ -84,19 +96,19 @@ module _ (rs : List HeldRule) (vs b : List ℕ) (at : ℕ) where
           there : ruleAt rs j .size ≡ 0 → ⊥
           there = rw e at size
 
-          kept-on : fieldsText (formOf rs) (valuesOf rs vs) ≡ (inv .far ++ text) ++ fieldsText (formAt more rs p) (valuesAt more rs vs p (i + 1))
+          kept-on : fieldsText (formOf rs) (valuesOf rs s vs) ≡ (inv .far ++ text) ++ fieldsText (formAt more rs p) (valuesAt more rs s vs p (i + 1))
           kept-on =
               let c : 4 - i ≡ suc more = omega arith in
-              inv .kept ∙ rw (c, form-goes-on more rs j there, values-go-on more rs j there vs i, way-text (mustStand x) gone x v (formAt more rs (nextPlace j (x .other) false)) (formAt more rs (nextPlace j (x .other) true)) (valuesAt more rs vs (placeAfter rs j v) (suc i)) (must-be-there x v), way-taken more rs j (x .other) gone, place, append-assoc, add-one)
+              inv .kept ∙ rw (c, form-goes-on more rs j there, values-go-on more rs j there s vs i, way-text (mustStand x) gone (isNumber x) (ruleOf x) (lowered (x .up) v) (upTo comma (drop v s)) (formAt more rs (nextPlace j (x .other) false)) (formAt more rs (nextPlace j (x .other) true)) (valuesAt more rs s vs (placeAfter rs j v) (suc i)) (must-be-there x v), way-taken more rs j (x .other) gone, place, append-assoc, add-one)
 
     -- no field is left
-    ended : formAt (4 - i) rs j ≡ over → Wrote b m (fieldsText (formOf rs) (valuesOf rs vs)) at k
+    ended : formAt (4 - i) rs j ≡ over → Wrote b m (fieldsText (formOf rs) (valuesOf rs s vs)) at k
     unfolding fieldsText
     ended f = rw (inv .kept, f, append-nil) (inv .wrote)
 
-    pub no-rule-left : (r : HeldRule) → r ≡ ruleAt rs j → r .size ≡ 0 → Wrote b m (fieldsText (formOf rs) (valuesOf rs vs)) at k
+    pub no-rule-left : (r : HeldRule) → r ≡ ruleAt rs j → r .size ≡ 0 → Wrote b m (fieldsText (formOf rs) (valuesOf rs s vs)) at k
     no-rule-left r e s = let z : ruleAt rs j .size ≡ 0 = rw e at s in ended (form-ends (4 - i) rs j z)
 
-    pub no-room-left : 4 ≤ i → Wrote b m (fieldsText (formOf rs) (valuesOf rs vs)) at k
+    pub no-room-left : 4 ≤ i → Wrote b m (fieldsText (formOf rs) (valuesOf rs s vs)) at k
     unfolding formAt
     no-room-left h = let q : 4 - i ≡ 0 = omega arith in ended (rw q)

@@ -25,11 +25,11 @@ run-last f q (suc i) = let e : suc q + i ≡ q + suc i = omega arith in ap (λ (
 module _ {W : Type 0} (d : Words W) where
   -- the line of a word whose layout is its form
   module _ (plain : (w : W) → Laying (d .form w)) where
-    line-is : (w : W) (vs : List ℕ) → lineText (spelled (d .spell w)) (layoutFor (d .form w)) vs ≡ itemText d (record { word = w; values = valuesIn (d .form w) vs })
+    line-is : (w : W) (vs : List ℕ) → lineText (spelled (d .spell w)) (layoutFor (d .form w)) [] vs ≡ itemText d (record { word = w; values = valuesIn (d .form w) [] vs })
     unfolding lineText itemText
     line-is w vs = rw (spelled-text (d .spell w), plain w .means)
 
-    pub item-written : (w : W) (p : Spelling) (l : Layout) (vs b a : List ℕ) (at r : ℕ) (i : Item W) → p ≡ spelled (d .spell w) → l ≡ layoutFor (d .form w) → record { word = w; values = valuesIn (d .form w) vs } ≡ i → Wrote b a (lineText p l vs) at r → Wrote b a (itemText d i) at r
+    pub item-written : (w : W) (p : Spelling) (l : Layout) (vs b a : List ℕ) (at r : ℕ) (i : Item W) → p ≡ spelled (d .spell w) → l ≡ layoutFor (d .form w) → record { word = w; values = valuesIn (d .form w) [] vs } ≡ i → Wrote b a (lineText p l [] vs) at r → Wrote b a (itemText d i) at r
     item-written w p l vs b a at r i e f g v = rw (← g, ← line-is w vs, ← e, ← f) v
 
   pub items-append : (is js : List (Item W)) → itemsText d (is ++ js) ≡ itemsText d is ++ itemsText d js

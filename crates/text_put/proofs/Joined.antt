@@ -22,8 +22,8 @@ pub first-long : (bytes : List ℕ) (size : ℕ) → size ≤ length bytes → s
 first-long bytes size h = rw length-take (omega arith)
 
 -- the whole line
-module _ (p : Spelling) (l : Layout) (vs : List ℕ) where
-  pub line-written : (b m k a : List ℕ) (at i j r : ℕ) → length b < 2 ^ 64 → Wrote b m (textOf p) at i → Wrote m k (fieldsText (formOf (l .rules)) (valuesOf (l .rules) vs)) i j → Wrote k a (lineFeed ∷ []) j r → Wrote b a (lineText p l vs) at r
+module _ (p : Spelling) (l : Layout) (s vs : List ℕ) where
+  pub line-written : (b m k a : List ℕ) (at i j r : ℕ) → length b < 2 ^ 64 → Wrote b m (textOf p) at i → Wrote m k (fieldsText (formOf (l .rules)) (valuesOf (l .rules) s vs)) i j → Wrote k a (lineFeed ∷ []) j r → Wrote b a (lineText p l s vs) at r
   unfolding lineText
   line-written b m k a at i j r h u v w =
       (wrote-then b m a (textOf p) _ at i r h u (wrote-then m k a _ _ i j r (rw (wrote-length b m (textOf p) at i u) h) v w))

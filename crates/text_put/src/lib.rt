@@ -4,14 +4,12 @@ use text_line::Layout;
 use text_line::Rule;
 use text_line::Spelling;
 ghost use mathlib.Core.Path.{_≡_};
-ghost use mathlib.Core.List.{[], _++_};
-ghost use Rattle.num_text.specs.Number.{numberText};
+ghost use mathlib.Core.List.{[]};
 ghost use Rattle.num_text.specs.Held.{Wrote};
-ghost use Rattle.text_grammar.specs.Line.{fieldsText};
-ghost use lib.ListN.{take};
-ghost use Rattle.text_line.specs.Held.{lowered};
+ghost use Rattle.text_grammar.specs.Line.{comma, upTo, fieldsText};
+ghost use lib.ListN.{take, drop};
 ghost use Rattle.text_line.specs.Layout.{pick, formOf, valuesOf};
-ghost use Rattle.text_put.specs.LineText.{lineText};
+ghost use Rattle.text_put.specs.LineText.{heldText, lineText};
 ghost use Rattle.text_put.specs.Shown.{shownOf};
 
 // How many items a count means, of an array of `capacity` items: one too many where it is above that.
@@ -42,28 +40,36 @@ fn put_word(out: &mut [u8], at: usize, bytes: [u8; 5], size: usize) -> usize
     put_first(out, at, &bytes, size)
 }
 
-// The same for a field: the first `size` bytes of its mark, then its value v, held `up` higher; nothing for one that is absent.
-fn put_field(
-    out: &mut [u8],
-    at: usize,
-    mark: [u8; 4],
-    size: usize,
-    up: u64,
-    v: u64,
-    absent: bool,
-) -> usize
-    ensures { λ r. ⌜ Wrote (now (out .entry)) (now (out .exit)) (pick absent [] (take size mark ++ numberText (lowered up v))) at r ⌝ }
+// The same for the bytes of the source from place v up to the next comma.
+fn put_string(out: &mut [u8], at: usize, source: &[u8], v: u64) -> usize
+    ensures { λ r. ⌜ Wrote (now (out .entry)) (now (out .exit)) (upTo comma (drop v (now (source .entry)))) at r ⌝ }
+{
+    if (source.len() as u64) < v {
+        return at;
+    }
+    let p = v as usize;
+    let b = p + text_line::bytes_before(&source[p..], 44);
+    num_text::put_bytes(out, at, &source[p..b])
+}
+
+// The same for a field: its mark, then its value v, as held, a string from the source; nothing for one that is absent.
+fn put_field(out: &mut [u8], at: usize, rule: Rule, source: &[u8], v: u64, absent: bool) -> usize
+    ensures { λ r. ⌜ Wrote (now (out .entry)) (now (out .exit)) (pick absent [] (heldText (now (source .entry)) rule v)) at r ⌝ }
 {
     if absent {
         return at;
     }
-    let a = put_first(out, at, &mark, size);
-    num_text::put_number(out, a, v, up)
+    let mark = rule.mark;
+    let a = put_first(out, at, &mark, rule.size);
+    if rule.letters != 0 {
+        return put_string(out, a, source, v);
+    }
+    num_text::put_number(out, a, v, rule.up)
 }
 
 // The same for the fields by their rules, with the values v, as held.
-fn put_fields(out: &mut [u8], at: usize, rules: [Rule; RULES], v: [u64; 4]) -> usize
-    ensures { λ r. ⌜ Wrote (now (out .entry)) (now (out .exit)) (fieldsText (formOf rules) (valuesOf rules v)) at r ⌝ }
+fn put_fields(out: &mut [u8], at: usize, rules: [Rule; RULES], source: &[u8], v: [u64; 4]) -> usize
+    ensures { λ r. ⌜ Wrote (now (out .entry)) (now (out .exit)) (fieldsText (formOf rules) (valuesOf rules (now (source .entry)) v)) at r ⌝ }
 {
     let mut a = at;
     let mut j: usize = 0;
@@ -73,22 +79,36 @@ fn put_fields(out: &mut [u8], at: usize, rules: [Rule; RULES], v: [u64; 4]) -> u
         if rule.size == 0 {
             return a;
         }
-        let mark = rule.mark;
         let absent = text_grammar::is_absent(rule.other, v[i]);
-        a = put_field(out, a, mark, rule.size, rule.up, v[i], absent);
+        a = put_field(out, a, rule, source, v[i], absent);
         j = text_grammar::next_place(j, rule.other, absent);
         i += 1;
     }
     a
 }
 
-// Writes the line with that word, that layout and the values v, as held, from `at` on, as far as the buffer goes, and answers the place after it.
-pub fn put_line(out: &mut [u8], at: usize, word: Spelling, layout: Layout, v: [u64; 4]) -> usize
-    ensures { λ r. ⌜ Wrote (now (out .entry)) (now (out .exit)) (lineText word layout v) at r ⌝ }
+// Writes the line with that word, that layout and the values v, as held, from `at` on, as far as the buffer goes, and answers the place after it; strings
+// are taken from the source, the bytes that v was read from.
+pub fn put_line_from(
+    out: &mut [u8],
+    at: usize,
+    word: Spelling,
+    layout: Layout,
+    source: &[u8],
+    v: [u64; 4],
+) -> usize
+    ensures { λ r. ⌜ Wrote (now (out .entry)) (now (out .exit)) (lineText word layout (now (source .entry)) v) at r ⌝ }
 {
     let bytes = word.bytes;
     let rules = layout.rules;
     let a = put_word(out, at, bytes, word.size);
-    let b = put_fields(out, a, rules, v);
+    let b = put_fields(out, a, rules, source, v);
     num_text::put_bytes(out, b, b"\n")
+}
+
+// The same for a line without strings.
+pub fn put_line(out: &mut [u8], at: usize, word: Spelling, layout: Layout, v: [u64; 4]) -> usize
+    ensures { λ r. ⌜ Wrote (now (out .entry)) (now (out .exit)) (lineText word layout [] v) at r ⌝ }
+{
+    put_line_from(out, at, word, layout, &[], v)
 }

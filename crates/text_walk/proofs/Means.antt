@@ -25,7 +25,7 @@ use Rattle.text_walk.specs.declared.Tests.{Tests}
 use Rattle.text_walk.specs.declared.LineWalked.{LineWalked}
 use Rattle.text_line.proofs.Find.{spelled-text}
 use Rattle.text_line.proofs.Layouts.{Laying}
-use Rattle.text_walk.specs.Walk.{Walk, word, stop, blankLayout, faultAt, findIn, byFields, unlessFault, ifKnown, walkWord, walkBytes, walkLine, walkOf, WalkOk}
+use Rattle.text_walk.specs.Walk.{Walk, word, stop, blankLayout, faultAt, findIn, byFields, unlessFault, ifKnown, walkWord, walkBytes, walkLine, walkOf, WalkedOk}
 
 module _ {W S : Type 0} (k : Kind W S) (z : W) where
   abbrev d : Words W
@@ -133,20 +133,17 @@ module _ {W S : Type 0} (k : Kind W S) (z : W) where
         by false = refl
 
     -- the answer of the program, r, for the line x
-    module _ (x : Line) (r : LineWalked) (ok : WalkOk ys l (walkLine ps ys n fs l x) r) where
-      meant : Means s (walkOf ys (r .fault) (r .word) (r .values)) (stepLine k s x)
+    module _ (x : Line) (r : LineWalked) (ok : WalkedOk ps ys n fs l x r) where
+      meant : Means s (walkOf ys (from comma (x .bytes)) (r .fault) (r .word) (r .values)) (stepLine k s x)
       meant = subst (λ (w : Walk). Means s w (stepLine k s x)) (sym (ok .meant)) (line-means x)
 
       pub walked-stops : (f : Refusal) → r .fault ≡ held.Refused f → LineOk (held.Refused f) s l (stepLine k s x)
       walked-stops f q = record { meant = rw q at meant; at = rw q at (ok .at) }
 
-      -- a line without fault, with the word w
-      module _ (q : r .fault ≡ held.Clear) (w : W) (e : w ≡ getD (d .all) (r .word) z) where
-        abbrev vs : List Value
-        vs = valuesIn (d .form w) (r .values)
-
+      -- a line without fault, with the word w and the values vs
+      module _ (q : r .fault ≡ held.Clear) (w : W) (e : w ≡ getD (d .all) (r .word) z) (vs : List Value) (same : valuesIn (d .form w) (from comma (x .bytes)) (r .values) ≡ vs) where
         abbrev us : List Value
-        us = valuesOf (getD ys (r .word) blankLayout .rules) (r .values)
+        us = valuesOf (getD ys (r .word) blankLayout .rules) (from comma (x .bytes)) (r .values)
 
         clear : WordMeans s (r .word) us (stepLine k s x)
         clear = rw q at meant
@@ -155,7 +152,7 @@ module _ {W S : Type 0} (k : Kind W S) (z : W) where
         laid-out = t .laid (r .word) (clear .inside) ∙ ap (λ (w : W). layoutFor (d .form w)) (sym e)
 
         its-values : us ≡ vs
-        its-values = ap (λ (y : Layout). valuesOf (y .rules) (r .values)) laid-out
+        its-values = ap (λ (y : Layout). valuesOf (y .rules) (from comma (x .bytes)) (r .values)) laid-out ∙ same
 
         pub walked-entered : Entered k s w
         walked-entered = subst (λ (w : W). Entered k s w) (sym e) (clear .entered)

@@ -22,7 +22,7 @@ use Rattle.text_line.specs.declared.FieldsRead.{FieldsRead}
 use Rattle.text_line.specs.Layout.{formOf, isLayout, located, readFields, FieldsOk}
 use Rattle.text_walk.specs.declared.Tests.{Tests}
 use Rattle.text_walk.specs.declared.LineWalked.{LineWalked}
-use Rattle.text_walk.specs.Walk.{Walk, stop, blankLayout, faultAt, findIn, byFields, unlessFault, walkFields, walkBytes, walkLine, stoppedAt, WalkOk}
+use Rattle.text_walk.specs.Walk.{Walk, stop, blankLayout, faultAt, findIn, byFields, unlessFault, walkFields, walkBytes, stoppedAt, WalkOk, WalkedOk}
 
 -- ---- the fields
 
@@ -40,10 +40,10 @@ own-line rs l s m j e = by (isLayout rs) refl
     by false q = let c : refused m j ≡ refused 2 l = e ∙ rw (q, readFields) in cc
 
 module _ (ys : List Layout) (i l : ℕ) (rest : List ℕ) (r : FieldsRead) (ok : FieldsOk (getD ys i blankLayout .rules) l rest r) where
-  pub fields-walked : r .answer ≡ held.Got → WalkOk ys l (walkFields (getD ys i blankLayout) i l rest) (record { fault = fault.Clear; word = i; values = r .values })
+  pub fields-walked : r .answer ≡ held.Got → WalkOk ys l rest (walkFields (getD ys i blankLayout) i l rest) (record { fault = fault.Clear; word = i; values = r .values })
   fields-walked q = record { meant = ap (byFields i) (rw q at (ok .meant)); at = refl }
 
-  pub fields-stop : (f : Refusal) → r .answer ≡ held.Refused f → (x : LineWalked) → x ≡ stoppedAt f → WalkOk ys l (walkFields (getD ys i blankLayout) i l rest) x
+  pub fields-stop : (f : Refusal) → r .answer ≡ held.Refused f → (x : LineWalked) → x ≡ stoppedAt f → WalkOk ys l rest (walkFields (getD ys i blankLayout) i l rest) x
   fields-stop f q x e =
       let p : refused (f .no) (f .line) ≡ readFields (getD ys i blankLayout .rules) l rest = rw q at (ok .meant) in
       rw e (record { meant = ap (byFields i) p; at = own-line _ l rest (f .no) (f .line) p })
@@ -58,25 +58,25 @@ module _ (ps : List Spelling) (ys : List Layout) (n : ℕ) (fs : Tests) (l : ℕ
   found : findIn (take n ps) (upTo comma bytes) ≡ i
   found = sym (e ∙ rw (q, ← up-to-take comma bytes))
 
-  unknown : length (take n ps) ≤ i → x ≡ stoppedAt (record { no = 2; line = l }) → WalkOk ys l (walkBytes ps ys n fs l bytes) x
+  unknown : length (take n ps) ≤ i → x ≡ stoppedAt (record { no = 2; line = l }) → WalkOk ys l (from comma bytes) (walkBytes ps ys n fs l bytes) x
   unfolding walkBytes
   unknown h g = rw g (record { meant = rw (found, le-ltb i (length (take n ps)) h); at = refl })
 
-  pub past-words : n ≤ i → x ≡ stoppedAt (record { no = 2; line = l }) → WalkOk ys l (walkBytes ps ys n fs l bytes) x
+  pub past-words : n ≤ i → x ≡ stoppedAt (record { no = 2; line = l }) → WalkOk ys l (from comma bytes) (walkBytes ps ys n fs l bytes) x
   past-words h = unknown (rw length-take (omega arith))
 
-  pub past-table : length ps ≡ 8 → 8 ≤ i → x ≡ stoppedAt (record { no = 2; line = l }) → WalkOk ys l (walkBytes ps ys n fs l bytes) x
+  pub past-table : length ps ≡ 8 → 8 ≤ i → x ≡ stoppedAt (record { no = 2; line = l }) → WalkOk ys l (from comma bytes) (walkBytes ps ys n fs l bytes) x
   past-table long h = unknown (rw length-take (omega arith))
 
   module _ (long : length ps ≡ 8) (h : i < n) (g : i < 8) (fault-no : ℕ) (u : fault-no ≡ faultAt fs i) where
     known : i < length (take n ps)
     known = rw length-take (omega arith)
 
-    pub word-stops : (fault-no ≡ 0 → ⊥) → x ≡ stoppedAt (record { no = fault-no; line = l }) → WalkOk ys l (walkBytes ps ys n fs l bytes) x
+    pub word-stops : (fault-no ≡ 0 → ⊥) → x ≡ stoppedAt (record { no = fault-no; line = l }) → WalkOk ys l (from comma bytes) (walkBytes ps ys n fs l bytes) x
     unfolding walkBytes
     word-stops z t = rw t (record { meant = rw (found, lt-ltb i (length (take n ps)) known, ← u) (faulty-stop fault-no _ z); at = refl })
 
-    pub word-goes-on : fault-no ≡ 0 → WalkOk ys l (walkFields (getD ys i blankLayout) i l (take (length bytes - b) (drop b bytes))) x → WalkOk ys l (walkBytes ps ys n fs l bytes) x
+    pub word-goes-on : fault-no ≡ 0 → WalkOk ys l (take (length bytes - b) (drop b bytes)) (walkFields (getD ys i blankLayout) i l (take (length bytes - b) (drop b bytes))) x → WalkOk ys l (from comma bytes) (walkBytes ps ys n fs l bytes) x
     unfolding walkBytes
     word-goes-on z t =
         let after : take (length bytes - b) (drop b bytes) ≡ from comma bytes = take-all (length bytes - b) (drop b bytes) (rw length-drop (omega arith)) ∙ rw q (sym (from-drop comma bytes)) in
@@ -85,12 +85,12 @@ module _ (ps : List Spelling) (ys : List Layout) (n : ℕ) (fs : Tests) (l : ℕ
 -- ---- the line
 
 module _ (text : List ℕ) (a : ℕ) (ps : List Spelling) (ys : List Layout) (n : ℕ) (fs : Tests) (l z : ℕ) (e : z ≡ lineEnd text a) (x : LineWalked) where
-  pub no-feed : length text ≤ z → x ≡ stoppedAt (record { no = 2; line = l }) → WalkOk ys l (walkLine ps ys n fs l (lineAt text a (lineEnd text a))) x
+  pub no-feed : length text ≤ z → x ≡ stoppedAt (record { no = 2; line = l }) → WalkedOk ps ys n fs l (lineAt text a (lineEnd text a)) x
   no-feed h g = rw (g, ← e, le-ltb z (length text) h) (record { meant = refl; at = refl })
 
   module _ (h : z < length text) where
-    pub never-before : z < a → WalkOk ys l (walkLine ps ys n fs l (lineAt text a (lineEnd text a))) x
+    pub never-before : z < a → WalkedOk ps ys n fs l (lineAt text a (lineEnd text a)) x
     never-before g = absurd (omega arith)
 
-    pub line-walked : WalkOk ys l (walkBytes ps ys n fs l (take (z - a) (drop a text))) x → WalkOk ys l (walkLine ps ys n fs l (lineAt text a (lineEnd text a))) x
+    pub line-walked : WalkOk ys l (from comma (take (z - a) (drop a text))) (walkBytes ps ys n fs l (take (z - a) (drop a text))) x → WalkedOk ps ys n fs l (lineAt text a (lineEnd text a)) x
     line-walked t = rw (← e, lt-ltb z (length text) h) t

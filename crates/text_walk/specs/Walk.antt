@@ -76,12 +76,16 @@ walkLine ps ys n t l x = ifKnown (x .ended) (walkBytes ps ys n t l (x .bytes))
 abbrev pub stoppedAt : Refusal → LineWalked
 stoppedAt f = record { fault = fault.Refused f; word = 0; values = 0 ∷ 0 ∷ 0 ∷ 0 ∷ [] }
 
--- what each case of the answer means
-abbrev pub walkOf : List Layout → Fault → ℕ → List ℕ → Walk
-walkOf ys fault.Clear i vs = word i (valuesOf (getD ys i blankLayout .rules) vs)
-walkOf ys (fault.Refused f) i vs = stop (f .no)
+-- what each case of the answer means, with the bytes s after the word
+abbrev pub walkOf : List Layout → List ℕ → Fault → ℕ → List ℕ → Walk
+walkOf ys s fault.Clear i vs = word i (valuesOf (getD ys i blankLayout .rules) s vs)
+walkOf ys s (fault.Refused f) i vs = stop (f .no)
 
--- r is the answer for line l, which is walked so
-pub record WalkOk (ys : List Layout) (l : ℕ) (w : Walk) (r : LineWalked) : Type 0 where
-  pub meant : walkOf ys (r .fault) (r .word) (r .values) ≡ w
+-- r is the answer for line l, which is walked so and has the bytes s after its word
+pub record WalkOk (ys : List Layout) (l : ℕ) (s : List ℕ) (w : Walk) (r : LineWalked) : Type 0 where
+  pub meant : walkOf ys s (r .fault) (r .word) (r .values) ≡ w
   pub at : lineOf (r .fault) l ≡ l
+
+-- r is the answer for the line x, number l, by the first n words of a table
+abbrev pub WalkedOk : List Spelling → List Layout → ℕ → Tests → ℕ → Line → LineWalked → Type 0
+WalkedOk ps ys n t l x r = WalkOk ys l (from comma (x .bytes)) (walkLine ps ys n t l x) r

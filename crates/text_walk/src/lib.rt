@@ -8,8 +8,9 @@ use text_line::Spelling;
 ghost use mathlib.Core.Path.{_≡_};
 ghost use lib.ListN.{take, getD};
 ghost use Prim.Native.Nat.{_<_};
+ghost use Rattle.text_grammar.specs.Line.{comma, from};
 ghost use Rattle.text_grammar.specs.Steps.{lineEnd, lineAt};
-ghost use Rattle.text_walk.specs.Walk.{findIn, blankLayout, walkFields, walkBytes, walkLine, stoppedAt, WalkOk};
+ghost use Rattle.text_walk.specs.Walk.{findIn, blankLayout, walkFields, walkBytes, stoppedAt, WalkOk, WalkedOk};
 
 // The tests before the fields of a line, by word: place, count, and whether the net above has a pin.
 pub struct Tests {
@@ -18,7 +19,7 @@ pub struct Tests {
     pub pinned: [bool; WORDS],
 }
 
-// A line: its fault, or the number of its word and the values of its fields, as held.
+// A line: its fault, or the number of its word and the values of its fields, as held; the place of a string is that in the bytes after the word.
 pub struct LineWalked {
     pub fault: Fault,
     pub word: usize,
@@ -58,7 +59,7 @@ fn stopped(f: Refusal) -> LineWalked
 // A line with word i, by the bytes after the word.
 fn walk_fields(rest: &[u8], layouts: [Layout; WORDS], i: usize, line: usize) -> LineWalked
     requires { ⌜ i < 8 ⌝ }
-    ensures { λ r. ⌜ WalkOk layouts line (walkFields (getD layouts i blankLayout) i line (now (rest .entry))) r ⌝ }
+    ensures { λ r. ⌜ WalkOk layouts line (now (rest .entry)) (walkFields (getD layouts i blankLayout) i line (now (rest .entry))) r ⌝ }
 {
     let layout = layouts[i];
     let fields = text_line::read_fields(rest, layout, line);
@@ -83,7 +84,7 @@ fn walk_bytes(
     tests: Tests,
     line: usize,
 ) -> LineWalked
-    ensures { λ r. ⌜ WalkOk layouts line (walkBytes spellings layouts count tests line (now (bytes .entry))) r ⌝ }
+    ensures { λ r. ⌜ WalkOk layouts line (from comma (now (bytes .entry))) (walkBytes spellings layouts count tests line (now (bytes .entry))) r ⌝ }
 {
     let b = text_line::bytes_before(bytes, 44);
     let i = find_word(&bytes[..b], spellings, count);
@@ -113,7 +114,7 @@ pub fn next_line(
     tests: Tests,
     line: usize,
 ) -> LineWalked
-    ensures { λ r. ⌜ WalkOk layouts line (walkLine spellings layouts count tests line (lineAt (now (text .entry)) a (lineEnd (now (text .entry)) a))) r ⌝ }
+    ensures { λ r. ⌜ WalkedOk spellings layouts count tests line (lineAt (now (text .entry)) a (lineEnd (now (text .entry)) a)) r ⌝ }
 {
     let end = text_line::line_end(text, a);
     if text.len() <= end {

@@ -1,5 +1,6 @@
--- A field: its name, its number, its range.
-use Rattle.text_line.proofs.OneField.{no-mark, not-here, name-end, field-end, field-end-fits, no-number, too-far-below, negative, positive, magnitude-fits}
+-- A field: its name, its string or its number, its range.
+use Rattle.text_line.proofs.OneField.{no-mark, not-here, name-end, field-end, field-end-fits, no-string, string-read, no-number, too-far-below, negative, positive, magnitude-fits}
+use borrow.Author.Needs.{needs}
 use borrow.Author.Needs.{needs}
 use Rattle.text_line.proofs.read_field.Statement.{statement}
 use Rattle.text_line.proofs.read_field.Tie as tie
@@ -34,6 +35,24 @@ bytes-before-requires c κs = search needs
 add-b : tie.Need-add-b
 add-b c = search (needs, field-end-fits)
 
+sub-is-string : tie.Need-sub-is-string
+sub-is-string c = search needs
+
+part-is-string-start : tie.Need-part-is-string-start
+part-is-string-start c = search needs
+
+part-is-string-end : tie.Need-part-is-string-end
+part-is-string-end c = search (needs, field-end)
+
+is-string-requires : tie.Need-is-string-requires
+is-string-requires c κs = search needs
+
+returns-3 : tie.Need-returns-3
+returns-3 c = search no-string
+
+returns-4 : tie.Need-returns-4
+returns-4 c = search string-read
+
 sub-read-number : tie.Need-sub-read-number
 sub-read-number c = search needs
 
@@ -52,17 +71,17 @@ enum-known-negative c = search needs
 enum-told : tie.Need-enum-told
 enum-told c = search needs
 
-returns-3 : tie.Need-returns-3
-returns-3 c = search no-number
+returns-5 : tie.Need-returns-5
+returns-5 c = search no-number
 
-returns-4 : tie.Need-returns-4
-returns-4 c = search too-far-below
+returns-6 : tie.Need-returns-6
+returns-6 c = search too-far-below
 
 in-range-requires : tie.Need-in-range-requires
 in-range-requires c κs = search needs
 
-returns-5 : tie.Need-returns-5
-returns-5 c = search negative
+returns-7 : tie.Need-returns-7
+returns-7 c = search negative
 
 add-in-range : tie.Need-add-in-range
 add-in-range c = search (needs, magnitude-fits)
@@ -70,8 +89,8 @@ add-in-range c = search (needs, magnitude-fits)
 in-range-requires-2 : tie.Need-in-range-requires-2
 in-range-requires-2 c κs = search needs
 
-returns-6 : tie.Need-returns-6
-returns-6 c = search positive
+returns-8 : tie.Need-returns-8
+returns-8 c = search positive
 
 pub read-field-spec : {M : Type 1} → statement M
 read-field-spec =
@@ -87,16 +106,22 @@ read-field-spec =
     part-bytes-before-end
     bytes-before-requires
     add-b
+    sub-is-string
+    part-is-string-start
+    part-is-string-end
+    is-string-requires
+    returns-3
+    returns-4
     sub-read-number
     part-read-number-start
     part-read-number-end
     read-number-requires
     enum-known-negative
     enum-told
-    returns-3
-    returns-4
-    in-range-requires
     returns-5
+    returns-6
+    in-range-requires
+    returns-7
     add-in-range
     in-range-requires-2
-    returns-6)
+    returns-8)

@@ -6,10 +6,10 @@ use Rattle.text_put.proofs.put_fields.Statement.{statement}
 use Rattle.text_put.proofs.put_fields.Tie as tie
 
 abbrev Inv-loop : tie.InvT-loop
-Inv-loop out₀ at rules v a₀ j₀ i₀ out a j i = (i ≤ 4) × PutTo rules v out₀ at out a j i
+Inv-loop out₀ at rules source v a₀ j₀ i₀ out a j i = (i ≤ 4) × PutTo rules source v out₀ at out a j i
 
 abbrev μ-loop : tie.MeasureT-loop
-μ-loop out₀ at rules v a₀ j₀ i₀ out a j i = 4 - i
+μ-loop out₀ at rules source v a₀ j₀ i₀ out a j i = 4 - i
 
 loop-holds : tie.Need-loop-holds Inv-loop μ-loop
 loop-holds c = (search needs, search (needs, no-field))
