@@ -13,10 +13,11 @@ use Rattle.model.specs.Meaning.{Pin, Net, Chip}
 use Rattle.text_grammar.proofs.Lacks.{and-left}
 use Rattle.chip_text.specs.Valid.{ValidPin, ValidNet, Valid, noPin, noNet}
 use Rattle.num_laws.specs.Spread.{spread}
+use Rattle.num_laws.proofs.Differences.{sub-up, sub-down}
 use Rattle.placement.specs.Length as plane
 use Rattle.placement.specs.Length.{origin, pinX, pinY, netLength, wirelength}
 use Rattle.placement.specs.Integers.{span}
-use Rattle.placement.proofs.Spans.{shifted, span-shift, add-shift, from-zero, below-zero}
+use Rattle.placement.proofs.Spans.{shifted, span-shift, add-shift}
 use Rattle.axis_bounds.specs.Axis.{valueAt, places, netsLength, lengthOn}
 use Rattle.placement.specs.Letters.{Letter}
 use Rattle.fit_slots.specs.declared.Direction.{Direction}
@@ -26,14 +27,14 @@ use Rattle.fit_slots.specs.Axes.{raised, axisPin, axisNet, axisFor, corn
 use Rattle.fit_slots.proofs.Pairs.{value-corner}
 
 pub raised-low : (n : ℕ) → n ≤ 4095 → raised (negsuc n) ≡ 4096 - suc n
-raised-low n l = ap natAbs (from-zero 4096 (suc n) (omega arith))
+raised-low n l = ap natAbs (sub-up 4096 (suc n) (omega arith))
 
 -- a raised place, lowered again
 pub raise-back : (z : ℤ) → leZ (negsuc 4095) z ≡ true → subℕ (raised z) 4096 ≡ z
-raise-back (pos n) h = from-zero (n + 4096) 4096 (omega arith) ∙ ap (λ (t : ℕ). pos t) (omega arith)
+raise-back (pos n) h = sub-up (n + 4096) 4096 (omega arith) ∙ ap (λ (t : ℕ). pos t) (omega arith)
 raise-back (negsuc n) h =
     let l = leb-true n 4095 h in
-    ap (λ (t : ℕ). subℕ t 4096) (raised-low n l) ∙ below-zero (4096 - suc n) 4096 (omega arith) ∙ ap (λ (t : ℕ). negsuc t) (omega arith)
+    ap (λ (t : ℕ). subℕ t 4096) (raised-low n l) ∙ sub-down (4096 - suc n) 4096 (omega arith) ∙ ap (λ (t : ℕ). negsuc t) (omega arith)
 
 -- where a pin lies in a direction
 abbrev pub placeAt : Direction → List Spot → Pin → ℤ

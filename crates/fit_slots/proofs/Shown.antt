@@ -20,13 +20,12 @@ use Rattle.text_grammar.specs.Reading.{accepted}
 use Rattle.chip_text.specs.Text.{readChip}
 use Rattle.chip_text.specs.Valid.{Valid}
 use Rattle.chip_text.proofs.Accepted.{accepted-valid}
-use Rattle.num_laws.proofs.Differences.{add-sub}
+use Rattle.num_laws.proofs.Differences.{add-sub, sub-up, sub-down}
 use Rattle.placement.specs.Integers.{Corner, wirelengthZ}
 use Rattle.placement.specs.Length.{wirelength}
 use Rattle.placement.specs.Letters.{Letter, keepsLettersZ}
 use Rattle.placement.specs.Pairs.{keepsLetters}
 use Rattle.placement.proofs.Integers.{naturals, length-same, letters-natural, natural-letters}
-use Rattle.placement.proofs.Spans.{below-zero, from-zero}
 use Rattle.flow_laws.specs.Flow.{weigh, Balance}
 use Rattle.axis_bounds.specs.declared.Slot.{Slot as HeldSlot}
 use Rattle.axis_bounds.specs.Axis.{Axis, Keeps, lengthOn, WellFormed}
@@ -51,8 +50,8 @@ at-least : (p m l n : ℕ) → leZ (pos l) (subℕ p m) ≡ true → p ≤ m + n
 at-least p m l n h most = by (decLt p m)
   where
     by : Dec (p < m) → l ≤ n
-    by (yes q) = absurd (false≢true (ap (leZ (pos l)) (sym (below-zero p m q)) ∙ h))
-    by (no q) = let k = leb-true l (p - m) (ap (leZ (pos l)) (sym (from-zero p m (omega arith))) ∙ h) in omega arith
+    by (yes q) = absurd (false≢true (ap (leZ (pos l)) (sym (sub-down p m q)) ∙ h))
+    by (no q) = let k = leb-true l (p - m) (ap (leZ (pos l)) (sym (sub-up p m (omega arith))) ∙ h) in omega arith
 
 module _ (c : Chip) (ls : List Letter) (v : Valid c) where
   -- ---- one direction

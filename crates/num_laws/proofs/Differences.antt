@@ -1,13 +1,40 @@
--- Differences of natural numbers, as integers: sums and multiples.
-use Prim.Native.Nat.{ℕ, zero, suc, _+_, _-_, _*_, _≤_}
+-- Differences of natural numbers, as integers: their order, sums and multiples.
+use Prim.Native.Nat.{ℕ, zero, suc, _+_, _-_, _*_, _≤_, _<_}
 use mathlib.Core.Path.{_≡_, refl, sym, ap, subst, _∙_}
-use native.Mathlib.Decide.{decLe}
+use native.Mathlib.Decide.{decLe, decLt}
 use native.Mathlib.Omega.{arith}
 use lib.IntN.{ℤ, pos, negsuc, negℤ, _+ℤ_, _-ℤ_, _*ℤ_, subℕ, +ℤ-assoc, +ℤ-comm, negℤ-+ℤ, negℤ-negℤ}
-use borrow.Author.Tests.{le-ltb}
+use lib.Dec.{leb}
+use lib.Signed.{leZ}
+use borrow.Author.Tests.{le-ltb, lt-ltb, le-leb, lt-leb}
 
 pub sub-up : (a b : ℕ) → b ≤ a → subℕ a b ≡ pos (a - b)
 sub-up a b h = rw (le-ltb a b h)
+
+pub sub-down : (a b : ℕ) → a < b → subℕ a b ≡ negsuc (b - suc a)
+sub-down a b h = rw (lt-ltb a b h)
+
+-- tests of two numbers that agree
+leb-same : (a b c d : ℕ) → (a ≤ b → c ≤ d) → (c ≤ d → a ≤ b) → leb a b ≡ leb c d
+leb-same a b c d f g = by (decLe a b)
+  where
+    by : Dec (a ≤ b) → leb a b ≡ leb c d
+    by (yes h) = rw (le-leb a b h, le-leb c d (f h))
+    by (no n) = by-other (decLe c d) n
+      where
+        by-other : Dec (c ≤ d) → (a ≤ b → ⊥) → leb a b ≡ leb c d
+        by-other (yes k) m = absurd (m (g k))
+        by-other (no k) m = rw (lt-leb a b (omega arith), lt-leb c d (omega arith))
+
+-- a shift keeps the order
+pub shift-order : (b p q : ℕ) → leZ (subℕ p b) (subℕ q b) ≡ leb p q
+shift-order b p q = by (decLt p b) (decLt q b)
+  where
+    by : Dec (p < b) → Dec (q < b) → leZ (subℕ p b) (subℕ q b) ≡ leb p q
+    by (yes h) (yes k) = rw (sub-down p b h, sub-down q b k) (leb-same (b - suc q) (b - suc p) p q (λ l. omega arith) (λ l. omega arith))
+    by (yes h) (no k) = rw (sub-down p b h, sub-up q b (omega arith), le-leb p q (omega arith))
+    by (no h) (yes k) = rw (sub-up p b (omega arith), sub-down q b k, lt-leb p q (omega arith))
+    by (no h) (no k) = rw (sub-up p b (omega arith), sub-up q b (omega arith)) (leb-same (p - b) (q - b) p q (λ l. omega arith) (λ l. omega arith))
 
 -- a - b as a sum
 pub sub-sum : (a b : ℕ) → subℕ a b ≡ pos a -ℤ pos b

@@ -16,10 +16,11 @@ use Rattle.model.specs.Limits.{isWithin, pinPlace}
 use Rattle.text_grammar.proofs.Lacks.{and-left}
 use Rattle.chip_text.specs.Valid.{Valid, ValidNet, noPin, noNet}
 use Rattle.num_laws.proofs.Spreads.{spread-le}
+use Rattle.num_laws.proofs.Differences.{sub-up, sub-down}
 use Rattle.placement.specs.Length.{origin, netLength, netsLength, wirelength}
 use Rattle.placement.specs.Integers.{span}
 use Rattle.placement.specs.Corners.{CornersWithin}
-use Rattle.placement.proofs.Spans.{shifted, span-shift, from-zero, below-zero, add-shift}
+use Rattle.placement.proofs.Spans.{shifted, span-shift, add-shift}
 
 -- a place of a pin, 4,096 higher
 abbrev raise : ℤ → ℕ
@@ -32,9 +33,9 @@ record Raised (z : ℤ) : Type 0 where
 
 raised : (z : ℤ) → isWithin pinPlace z ≡ true → Raised z
 raised (pos n) w = let h : n ≤ 4096 = leb-true n 4096 w in
-    record { small = omega arith; back = rw (from-zero (n + 4096) 4096 (omega arith)) (ap (λ (t : ℕ). pos t) (omega arith)) }
+    record { small = omega arith; back = rw (sub-up (n + 4096) 4096 (omega arith)) (ap (λ (t : ℕ). pos t) (omega arith)) }
 raised (negsuc n) w = let h : n ≤ 4095 = leb-true n 4095 (and-left (leb n 4095) true w) in
-    record { small = omega arith; back = rw (below-zero (4096 - suc n) 4096 (omega arith)) (ap (λ (t : ℕ). negsuc t) (omega arith)) }
+    record { small = omega arith; back = rw (sub-down (4096 - suc n) 4096 (omega arith)) (ap (λ (t : ℕ). negsuc t) (omega arith)) }
 
 -- one axis of the corners
 module _ (corner : Spot → ℕ) (blank : corner blankSpot ≤ 1024) (ps : List Spot) (near : (i : ℕ) → i < length ps → corner (getD ps i blankSpot) ≤ 1024) where

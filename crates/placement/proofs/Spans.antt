@@ -5,45 +5,17 @@ use mathlib.Core.List.{List, [], _∷_, map}
 use mathlib.Core.Bool.{cond}
 use native.Mathlib.Decide.{decLe, decLt}
 use native.Mathlib.Omega.{arith}
-use lib.Dec.{leb}
 use lib.IntN.{ℤ, pos, negsuc, negℤ, _+ℤ_, subℕ, natAbs}
 use lib.Signed.{leZ}
-use borrow.Author.Tests.{lt-ltb, le-ltb, le-leb, lt-leb}
+use borrow.Author.Tests.{le-leb, lt-leb}
 use Rattle.model.specs.declared.Spot.{Spot}
 use Rattle.model.specs.declared.Pin.{Pin as HeldPin}
 use Rattle.model.specs.Meaning.{Pin, pinOf, pinsOf}
 use Rattle.num_laws.specs.Spread.{most, fewest, spread}
+use Rattle.num_laws.proofs.Differences.{sub-up, sub-down, shift-order}
 use Rattle.num_laws.proofs.Spreads.{fewest-le-most}
 use Rattle.placement.specs.Length.{origin, pinX, pinY, netLength}
 use Rattle.placement.specs.Integers.{greatest, least, span}
-
--- tests and places of two numbers that agree
-leb-same : (a b c d : ℕ) → (a ≤ b → c ≤ d) → (c ≤ d → a ≤ b) → leb a b ≡ leb c d
-leb-same a b c d f g = by (decLe a b)
-  where
-    by : Dec (a ≤ b) → leb a b ≡ leb c d
-    by (yes h) = rw (le-leb a b h, le-leb c d (f h))
-    by (no n) = by-other (decLe c d) n
-      where
-        by-other : Dec (c ≤ d) → (a ≤ b → ⊥) → leb a b ≡ leb c d
-        by-other (yes k) m = absurd (m (g k))
-        by-other (no k) m = rw (lt-leb a b (omega arith), lt-leb c d (omega arith))
-
-pub below-zero : (a b : ℕ) → a < b → subℕ a b ≡ negsuc (b - suc a)
-below-zero a b h = rw (lt-ltb a b h)
-
-pub from-zero : (a b : ℕ) → b ≤ a → subℕ a b ≡ pos (a - b)
-from-zero a b h = rw (le-ltb a b h)
-
--- a shift keeps the order
-shift-order : (b p q : ℕ) → leZ (subℕ p b) (subℕ q b) ≡ leb p q
-shift-order b p q = by (decLt p b) (decLt q b)
-  where
-    by : Dec (p < b) → Dec (q < b) → leZ (subℕ p b) (subℕ q b) ≡ leb p q
-    by (yes h) (yes k) = rw (below-zero p b h, below-zero q b k) (leb-same (b - suc q) (b - suc p) p q (λ l. omega arith) (λ l. omega arith))
-    by (yes h) (no k) = rw (below-zero p b h, from-zero q b (omega arith), le-leb p q (omega arith))
-    by (no h) (yes k) = rw (from-zero p b (omega arith), below-zero q b k, lt-leb p q (omega arith))
-    by (no h) (no k) = rw (from-zero p b (omega arith), from-zero q b (omega arith)) (leb-same (p - b) (q - b) p q (λ l. omega arith) (λ l. omega arith))
 
 -- the larger and the smaller of two places
 abbrev larger : ℤ → ℤ → ℤ
@@ -72,13 +44,13 @@ shift-less b p q l = by (decLt p b) (decLt q b)
   where
     less : (m k : ℕ) → k ≤ m → natAbs (pos m +ℤ negℤ (pos k)) ≡ m - k
     less m zero h = omega arith
-    less m (suc k) h = rw (from-zero m (suc k) h)
+    less m (suc k) h = rw (sub-up m (suc k) h)
 
     by : Dec (p < b) → Dec (q < b) → natAbs (subℕ p b +ℤ negℤ (subℕ q b)) ≡ p - q
-    by (yes h) (yes k) = rw (below-zero p b h, below-zero q b k, from-zero (suc (b - suc q)) (suc (b - suc p)) (omega arith)) (omega arith)
+    by (yes h) (yes k) = rw (sub-down p b h, sub-down q b k, sub-up (suc (b - suc q)) (suc (b - suc p)) (omega arith)) (omega arith)
     by (yes h) (no k) = absurd (omega arith)
-    by (no h) (yes k) = rw (from-zero p b (omega arith), below-zero q b k) (omega arith)
-    by (no h) (no k) = rw (from-zero p b (omega arith), from-zero q b (omega arith), less (p - b) (q - b) (omega arith)) (omega arith)
+    by (no h) (yes k) = rw (sub-up p b (omega arith), sub-down q b k) (omega arith)
+    by (no h) (no k) = rw (sub-up p b (omega arith), sub-up q b (omega arith), less (p - b) (q - b) (omega arith)) (omega arith)
 
 -- the places us, less b
 abbrev pub shifted : ℕ → List ℕ → List ℤ
@@ -104,9 +76,9 @@ pub add-shift : (o u b : ℕ) → pos o +ℤ subℕ u b ≡ subℕ (o + u) b
 add-shift o u b = by (decLt u b) (decLt (o + u) b)
   where
     by : Dec (u < b) → Dec (o + u < b) → pos o +ℤ subℕ u b ≡ subℕ (o + u) b
-    by (yes h) (yes k) = rw (below-zero u b h, below-zero (o + u) b k, below-zero o (suc (b - suc u)) (omega arith)) (ap (λ (t : ℕ). negsuc t) (omega arith))
-    by (yes h) (no k) = rw (below-zero u b h, from-zero (o + u) b (omega arith), from-zero o (suc (b - suc u)) (omega arith)) (ap (λ (t : ℕ). pos t) (omega arith))
-    by (no h) k = rw (from-zero u b (omega arith), from-zero (o + u) b (omega arith)) (ap (λ (t : ℕ). pos t) (omega arith))
+    by (yes h) (yes k) = rw (sub-down u b h, sub-down (o + u) b k, sub-down o (suc (b - suc u)) (omega arith)) (ap (λ (t : ℕ). negsuc t) (omega arith))
+    by (yes h) (no k) = rw (sub-down u b h, sub-up (o + u) b (omega arith), sub-up o (suc (b - suc u)) (omega arith)) (ap (λ (t : ℕ). pos t) (omega arith))
+    by (no h) k = rw (sub-up u b (omega arith), sub-up (o + u) b (omega arith)) (ap (λ (t : ℕ). pos t) (omega arith))
 
 -- where a held pin lies, 4,096 higher
 abbrev pub upX : List Spot → HeldPin → ℕ

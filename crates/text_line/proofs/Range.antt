@@ -8,7 +8,8 @@ use native.Mathlib.Omega.{arith}
 use lib.Dec.{leb}
 use lib.IntN.{ℤ, pos, negsuc}
 use lib.Signed.{leZ}
-use borrow.Author.Tests.{le-leb, lt-leb, lt-ltb, le-ltb, not-true, not-false}
+use borrow.Author.Tests.{lt-leb, not-true, not-false}
+use Rattle.num_laws.proofs.Differences.{sub-up, sub-down, shift-order}
 use Rattle.num_text.specs.declared.Number.the-variants as held
 use Rattle.num_text.specs.Number.{Numeral, number, noNumber}
 use Rattle.num_text.specs.Held.{cap, heldNumber}
@@ -34,31 +35,15 @@ module _ (r : HeldRule) (v b l : ℕ) (t : Bool) (e : t ≡ within r v) where
 
 lowered-above : (u v : ℕ) → u ≤ v → lowered u v ≡ pos (v - u)
 lowered-above zero v h = ap pos (omega arith)
-lowered-above (suc u) v h = rw (le-ltb v (suc u) h)
+lowered-above (suc u) v h = sub-up v (suc u) h
 
 lowered-below : (u v : ℕ) → v < u → lowered u v ≡ negsuc (u - suc v)
 lowered-below zero v h = absurd (omega arith)
-lowered-below (suc u) v h = rw (lt-ltb v (suc u) h)
-
-same-leb : (a b c d : ℕ) → (a ≤ b → c ≤ d) → (c ≤ d → a ≤ b) → leb a b ≡ leb c d
-same-leb a b c d f g = by (decLe a b)
-  where
-    by : Dec (a ≤ b) → leb a b ≡ leb c d
-    by (yes h) = rw (le-leb a b h, le-leb c d (f h))
-    by (no n) = rw (lt-leb a b (omega arith), lt-leb c d (by-no (decLe c d)))
-      where
-        by-no : Dec (c ≤ d) → d < c
-        by-no (yes k) = absurd (n (g k))
-        by-no (no k) = omega arith
+lowered-below (suc u) v h = sub-down v (suc u) h
 
 lowered-order : (u a b : ℕ) → leZ (lowered u a) (lowered u b) ≡ leb a b
-lowered-order u a b = by (decLt a u) (decLt b u)
-  where
-    by : Dec (a < u) → Dec (b < u) → leZ (lowered u a) (lowered u b) ≡ leb a b
-    by (yes h) (yes k) = rw (lowered-below u a h, lowered-below u b k) (same-leb (u - suc b) (u - suc a) a b (λ e. omega arith) (λ e. omega arith))
-    by (yes h) (no k) = rw (lowered-below u a h, lowered-above u b (omega arith), le-leb a b (omega arith))
-    by (no h) (yes k) = rw (lowered-above u a (omega arith), lowered-below u b k, lt-leb a b (omega arith))
-    by (no h) (no k) = rw (lowered-above u a (omega arith), lowered-above u b (omega arith)) (same-leb (a - u) (b - u) a b (λ e. omega arith) (λ e. omega arith))
+lowered-order zero a b = refl
+lowered-order (suc u) a b = shift-order (suc u) a b
 
 pub never : {A : Type 0} → true ≡ false → A
 never e = absurd (true≢false e)
