@@ -1,4 +1,5 @@
-// Two sample words whose lines have choices: `net,w,3` or `net,x,3,y,1`, and `at,n,1,x,3,y,4` with or without `,t,1`.
+// Three sample words. Lines of two have choices: `net,w,3` or `net,x,3,y,1`, and `at,n,1,x,3,y,4` with or without `,t,1`; those of the third have
+// strings: `leaf,s,LRB,k,o,v,6`.
 use text_grammar::WORDS;
 use text_line::Layout;
 use text_line::Spelling;
@@ -6,12 +7,12 @@ use text_walk::Tests;
 ghost use mathlib.Core.Path.{_≡_};
 ghost use Rattle.text_line.specs.Held.{spelled};
 ghost use Rattle.text_line.specs.Layout.{layoutFor};
-ghost use Rattle.test_fields.specs.Forms.{netName, atName, netForm, atForm};
+ghost use Rattle.test_fields.specs.Forms.{netName, atName, leafName, netForm, atForm, leafForm};
 
 // How many words there are.
-pub(crate) const COUNT: usize = 2;
+pub(crate) const COUNT: usize = 3;
 
-// The spelling of `net`, and of `at`.
+// The spelling of `net`, of `at`, and of `leaf`.
 fn net_word() -> Spelling
     ensures { λ r. ⌜ r ≡ spelled netName ⌝ }
 {
@@ -27,6 +28,15 @@ fn at_word() -> Spelling
     Spelling {
         bytes: [b'a', b't', 0, 0, 0],
         size: 2,
+    }
+}
+
+fn leaf_word() -> Spelling
+    ensures { λ r. ⌜ r ≡ spelled leafName ⌝ }
+{
+    Spelling {
+        bytes: [b'l', b'e', b'a', b'f', 0],
+        size: 4,
     }
 }
 
@@ -56,17 +66,34 @@ fn at_fields() -> Layout
     }
 }
 
+// The fields of `leaf`: s has up to 92 of the letters L, R, B, A, and k is one of n, f, o.
+fn leaf_fields() -> Layout
+    ensures { λ r. ⌜ r ≡ layoutFor leafForm ⌝ }
+{
+    let s = text_line::short_rule(b's', 0, 0, 92);
+    let letters = text_line::of_letters(s, [b'L', b'R', b'B', b'A'], 4);
+    let k = text_line::short_rule(b'k', 0, 1, 1);
+    let letter = text_line::of_letters(k, [b'n', b'f', b'o', 0], 3);
+    let v = text_line::short_rule(b'v', 0, 0, 589824000);
+    let none = text_line::no_rule();
+    Layout {
+        rules: [letters, letter, v, none],
+    }
+}
+
 // The tables of the walk.
 pub(crate) fn spellings() -> [Spelling; WORDS] {
     let net = net_word();
     let at = at_word();
-    [net, at, at, at, at, at, at, at]
+    let leaf = leaf_word();
+    [net, at, leaf, leaf, leaf, leaf, leaf, leaf]
 }
 
 pub(crate) fn layouts() -> [Layout; WORDS] {
     let net = net_fields();
     let at = at_fields();
-    [net, at, at, at, at, at, at, at]
+    let leaf = leaf_fields();
+    [net, at, leaf, leaf, leaf, leaf, leaf, leaf]
 }
 
 pub(crate) fn tests() -> Tests {

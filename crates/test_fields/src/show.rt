@@ -19,18 +19,19 @@ fn show_values(v: [u64; 4]) {
     }
 }
 
-// Prints the line of word i with the values v.
-fn write_back(i: usize, v: [u64; 4]) {
+// Prints the line of word i with the values v, which were read from these bytes.
+fn write_back(i: usize, bytes: &[u8], v: [u64; 4]) {
     if WORDS <= i {
         return;
     }
+    let b = text_line::bytes_before(bytes, 44);
     let spellings = sample::spellings();
     let layouts = sample::layouts();
     let word = spellings[i];
     let layout = layouts[i];
-    let mut out = [0u8; 64];
-    let n = text_put::put_line(&mut out, 0, word, layout, v);
-    if n <= 64 {
+    let mut out = [0u8; 128];
+    let n = text_put::put_line_from(&mut out, 0, word, layout, &bytes[b..], v);
+    if n <= 128 {
         io::write_all(1, &out[0..n]);
     }
 }
@@ -54,7 +55,10 @@ fn show_line(text: &[u8], a: usize, line: usize) {
     match fault {
         Fault::Clear => {
             show_values(values);
-            write_back(walked.word, values);
+            let end = text_line::line_end(text, a);
+            if a <= end {
+                write_back(walked.word, &text[a..end], values);
+            }
         }
         Fault::Refused(f) => show_refusal(f),
     }

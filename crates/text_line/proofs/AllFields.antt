@@ -6,7 +6,7 @@ use native.Mathlib.Numerals.{add-one}
 use native.Mathlib.Decide.{decLe}
 use native.Mathlib.Omega.{arith}
 use lib.Dec.{leb}
-use lib.ListN.{length, length-append, getD, take, drop, set, replicate, drop-of-length-le}
+use lib.ListN.{length, getD, take, drop, set, replicate, drop-of-length-le}
 use lib.Seq.{drop-cons, getD-set-same, getD-set-other, take-suc-set}
 use mathlib.Core.Bool.{Bool, not, true, false}
 use borrow.Author.Tests.{le-leb, lt-leb, not-true}
@@ -69,14 +69,13 @@ read-place text a l v b r f one e = let g : Got text a r v b = subst (FieldOk te
 pub record ReadTo (rs : List HeldRule) (text vs : List ℕ) (a j i : ℕ) : Type 0 where
   pub room : Holds 0 4 i vs
   pub far : List Value
-  pub many : length far ≡ i
   pub kept : fields (formOf rs) text ≡ prefixed far (fields (formAt (4 - i) rs j) (drop a text))
   pub again : (ws : List ℕ) → ((n : ℕ) → n < i → getD ws n 0 ≡ getD vs n 0) → valuesOf rs text ws ≡ far ++ valuesAt (4 - i) rs text ws j i
   pub held : (zs : List Value) → numbersAt rs text 0 0 (far ++ zs) ≡ take i vs ++ numbersAt rs text j a zs
 
 pub read-none : (rs : List HeldRule) (text : List ℕ) → ReadTo rs text (replicate 4 0) 0 0 0
 unfolding prefixed
-read-none rs text = record { room = holds-none 0 4; far = []; many = refl; kept = refl; again = λ ws h. refl; held = λ zs. refl }
+read-none rs text = record { room = holds-none 0 4; far = []; kept = refl; again = λ ws h. refl; held = λ zs. refl }
 
 -- ---- the whole answer, by what it means
 
@@ -139,8 +138,7 @@ module _ (rs : List HeldRule) (text vs : List ℕ) (a j i : ℕ) (inv : ReadTo r
     unfolding numbersAt
     read-more v b q t u p w =
         let d = inv .room .long in
-        let m = inv .many in
-        record { room = holds-more (inv .room) v h; far = inv .far ++ (z ∷ []); many = rw length-append (omega arith); kept = kept-on; again = again-on; held = held-on }
+        record { room = holds-more (inv .room) v h; far = inv .far ++ (z ∷ []); kept = kept-on; again = again-on; held = held-on }
       where
         z : Value
         z = valueIn text (ruleAt rs j) v

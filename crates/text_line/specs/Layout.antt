@@ -97,10 +97,11 @@ numberFor r p (number z) = raised (r .up) z
 numberFor r p (string s) = p
 numberFor r p absent = absentHeld
 
--- the place after the field r with the value v that stands in the bytes s at a
+-- the place of the next comma in the bytes s from p on, or their end
 abbrev pub endFrom : List ℕ → ℕ → ℕ
 endFrom s p = p + length (upTo comma (drop p s))
 
+-- the place after the field r with the value v that stands in the bytes s at a
 abbrev pub endOf : List ℕ → HeldRule → ℕ → Value → ℕ
 endOf s r a v = ifAbsent v a (endFrom s (a + r .size))
 
@@ -108,7 +109,8 @@ endOf s r a v = ifAbsent v a (endFrom s (a + r .size))
 unfoldable pub numbersAt : List HeldRule → List ℕ → ℕ → ℕ → List Value → List ℕ
 numbersAt rs s j a [] = []
 numbersAt rs s j a (v ∷ vs) =
-    numberFor (ruleAt rs j) (a + ruleAt rs j .size) v ∷ numbersAt rs s (nextPlace j (ruleAt rs j .other) (ifAbsent v true false)) (endOf s (ruleAt rs j) a v) vs
+    numberFor (ruleAt rs j) (a + ruleAt rs j .size) v ∷
+    numbersAt rs s (nextPlace j (ruleAt rs j .other) (ifAbsent v true false)) (endOf s (ruleAt rs j) a v) vs
 
 -- the form that rules are, of at most four fields, and the values of their numbers vs, read from the bytes s
 abbrev pub formOf : List HeldRule → Form
