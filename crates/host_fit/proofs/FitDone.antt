@@ -18,6 +18,7 @@ use Rattle.refusals.proofs.FirstFailed.{passes-last}
 use Rattle.text_grammar.specs.Reading.{Reading, accepted, refused}
 use Rattle.chip_text.specs.Text.{readChip}
 use Rattle.chip_text.specs.Passed.{Passed}
+use Rattle.placement.proofs.OrderLaws.{length-keys}
 use Rattle.placement.specs.Order.{keys}
 use Rattle.placement.specs.Least.{Best, nothing, found, fitOf}
 use Rattle.fit_slots.specs.Fit.{Fit, refusedBy, noFit, placed, areLetters, lettersOf, letterCount, slotCount, bestFit, fitTests, fitChip, fitLetters, Filled}
