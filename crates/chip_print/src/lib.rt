@@ -109,7 +109,7 @@ fn put_item(out: &mut [u8], at: usize, c: Chip, w: ChipWord, i: usize) -> usize
     let v = values_at(c, w, i);
     let word = chip_words::spelling_of(w);
     let layout = chip_words::layout_of(w);
-    text_put::put_line(out, at, word, layout, v)
+    text_put::put_line(out, at, word, layout, &[], v)
 }
 
 // The same for n items from item q on.

@@ -20,7 +20,7 @@ fn put_item(out: &mut [u8], at: usize, w: RecordWord, v: [u64; 4]) -> usize
 {
     let word = record_words::spelling_of(w);
     let layout = record_words::layout_of(w);
-    text_put::put_line(out, at, word, layout, v)
+    text_put::put_line(out, at, word, layout, &[], v)
 }
 
 // Spot i of the array, or a blank one past its end.

@@ -30,7 +30,7 @@ fn write_back(i: usize, bytes: &[u8], v: [u64; 4]) {
     let word = spellings[i];
     let layout = layouts[i];
     let mut out = [0u8; 128];
-    let n = text_put::put_line_from(&mut out, 0, word, layout, &bytes[b..], v);
+    let n = text_put::put_line(&mut out, 0, word, layout, &bytes[b..], v);
     if n <= 128 {
         io::write_all(1, &out[0..n]);
     }

@@ -87,9 +87,9 @@ fn put_fields(out: &mut [u8], at: usize, rules: [Rule; RULES], source: &[u8], v:
     a
 }
 
-// Writes the line with that word, that layout and the values v, as held, from `at` on, as far as the buffer goes, and answers the place after it; strings
-// are taken from the source, the bytes that v was read from.
-pub fn put_line_from(
+// Writes the line with that word, that layout and the values v, as held, from `at` on, as far as the buffer goes, and answers the place after it. Strings
+// are taken from the source.
+pub fn put_line(
     out: &mut [u8],
     at: usize,
     word: Spelling,
@@ -104,11 +104,4 @@ pub fn put_line_from(
     let a = put_word(out, at, bytes, word.size);
     let b = put_fields(out, a, rules, source, v);
     num_text::put_bytes(out, b, b"\n")
-}
-
-// The same for a line without strings.
-pub fn put_line(out: &mut [u8], at: usize, word: Spelling, layout: Layout, v: [u64; 4]) -> usize
-    ensures { λ r. ⌜ Wrote (now (out .entry)) (now (out .exit)) (lineText word layout [] v) at r ⌝ }
-{
-    put_line_from(out, at, word, layout, &[], v)
 }

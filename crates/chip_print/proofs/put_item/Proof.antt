@@ -14,6 +14,9 @@ spelling-of-requires c κs = search needs
 layout-of-requires : tie.Need-layout-of-requires
 layout-of-requires c κs = search needs
 
+slice-aggregate-put-line : tie.Need-slice-aggregate-put-line
+slice-aggregate-put-line c = search needs
+
 put-line-requires : tie.Need-put-line-requires
 put-line-requires c κs = search needs
 
@@ -30,6 +33,6 @@ put-item-spec =
     values-at-requires
     spelling-of-requires
     layout-of-requires
-    put-line-requires
+    slice-aggregate-put-line put-line-requires
     same-length
     returns)

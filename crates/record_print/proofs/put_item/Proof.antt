@@ -11,6 +11,9 @@ spelling-of-requires c κs = search needs
 layout-of-requires : tie.Need-layout-of-requires
 layout-of-requires c κs = search needs
 
+slice-aggregate-put-line : tie.Need-slice-aggregate-put-line
+slice-aggregate-put-line c = search needs
+
 put-line-requires : tie.Need-put-line-requires
 put-line-requires c κs = search needs
 
@@ -23,4 +26,4 @@ returns c = search (item-written recordWords laying)
 pub put-item-spec : {M : Type 1} → statement M
 put-item-spec =
     tie.close
-    (tie.spec spelling-of-requires layout-of-requires put-line-requires same-length returns)
+    (tie.spec spelling-of-requires layout-of-requires slice-aggregate-put-line put-line-requires same-length returns)

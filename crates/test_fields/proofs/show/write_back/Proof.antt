@@ -27,20 +27,20 @@ mul-layout c = search needs
 array-copy-out-layout : tie.Need-array-copy-out-layout
 array-copy-out-layout c = search needs
 
-slice-aggregate-put-line-from : tie.Need-slice-aggregate-put-line-from
-slice-aggregate-put-line-from c = search needs
+slice-aggregate-put-line : tie.Need-slice-aggregate-put-line
+slice-aggregate-put-line c = search needs
 
-sub-put-line-from : tie.Need-sub-put-line-from
-sub-put-line-from c = search word-end
+sub-put-line : tie.Need-sub-put-line
+sub-put-line c = search word-end
 
-part-put-line-from-start : tie.Need-part-put-line-from-start
-part-put-line-from-start c = search (needs, word-end)
+part-put-line-start : tie.Need-part-put-line-start
+part-put-line-start c = search (needs, word-end)
 
-part-put-line-from-end : tie.Need-part-put-line-from-end
-part-put-line-from-end c = search needs
+part-put-line-end : tie.Need-part-put-line-end
+part-put-line-end c = search needs
 
-put-line-from-requires : tie.Need-put-line-from-requires
-put-line-from-requires c κs = search needs
+put-line-requires : tie.Need-put-line-requires
+put-line-requires c κs = search needs
 
 sub-write-all : tie.Need-sub-write-all
 sub-write-all c = search needs
@@ -72,11 +72,11 @@ write-back-spec =
     array-copy-out-word
     mul-layout
     array-copy-out-layout
-    slice-aggregate-put-line-from
-    sub-put-line-from
-    part-put-line-from-start
-    part-put-line-from-end
-    put-line-from-requires
+    slice-aggregate-put-line
+    sub-put-line
+    part-put-line-start
+    part-put-line-end
+    put-line-requires
     sub-write-all
     part-write-all-start
     part-write-all-end

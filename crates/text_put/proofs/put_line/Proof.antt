@@ -1,7 +1,7 @@
 use Rattle.text_put.proofs.Joined.{line-written}
 use borrow.Author.Needs.{needs}
-use Rattle.text_put.proofs.put_line_from.Statement.{statement}
-use Rattle.text_put.proofs.put_line_from.Tie as tie
+use Rattle.text_put.proofs.put_line.Statement.{statement}
+use Rattle.text_put.proofs.put_line.Tie as tie
 
 put-word-requires : tie.Need-put-word-requires
 put-word-requires c κs = search needs
@@ -21,8 +21,8 @@ same-length c = search needs
 returns : tie.Need-returns
 returns c = search (needs, line-written)
 
-pub put-line-from-spec : {M : Type 1} → statement M
-put-line-from-spec =
+pub put-line-spec : {M : Type 1} → statement M
+put-line-spec =
     tie.close
     (tie.spec
     put-word-requires
