@@ -9,6 +9,8 @@ use lib.Seq.{take-suc-set, drop-cons, drop-length}
 use Rattle.model.specs.declared.Fix.{Fix}
 use Rattle.model.specs.declared.Mac.{Mac}
 use Rattle.model.specs.declared.Chip.{Chip as HeldChip}
+use Rattle.model.specs.declared.Blocks.{Blocks}
+use Rattle.model.specs.Blocks.{blocksOf}
 use Rattle.axis_bounds.specs.declared.Slot.{Slot}
 use Rattle.fit_slots.specs.declared.Direction.{Direction}
 use Rattle.fit_slots.specs.declared.Asked.{Asked}
@@ -69,7 +71,7 @@ module _ (c : HeldChip) (s : List ℕ) (d : Direction) where
             let p = on-near (c .n) (c .k) at on-pair (t .fine .macCount) (t .fine .fixCount) in
             record { i = p .0; j = p .1; fix = λ e. t .fine .fix (at .j) (on-pair .fixes e .1) }
 
-        one-written : (a : Asked) (x : Slot) (r : Cursor) → a ≡ asked d (letterOf (getD s i 0)) → x ≡ slotRead d a (c .macs) (c .fixes) (at .fix) (at .i) (at .j) → r ≡ nextOf at (c .n) (c .k) → Written (set pairs i x) r (i + 1)
+        one-written : (a : Asked) (x : Slot) (r : Cursor) → a ≡ asked d (letterOf (getD s i 0)) → x ≡ slotRead d a (blocksOf c) (at .fix) (at .i) (at .j) → r ≡ nextOf at (c .n) (c .k) → Written (set pairs i x) r (i + 1)
         unfolding heldSlots
         one-written a x r ea er₀ er =
             let next : Next (c .n) (c .k) at r = rw er (next-step at (c .n) (c .k) on-pair) in
@@ -79,7 +81,7 @@ module _ (c : HeldChip) (s : List ℕ) (d : Direction) where
             let lx = v .left in
             let lm = ap length more in
             let ls = ap length step in
-            let here : x ≡ heldSlot d (asked d (letterOf (getD s i 0))) (coupleAt ms fs at) = er₀ ∙ slot-read d a (c .macs) (c .fixes) at pair-reached ∙ rw (ea, couple-taken (c .macs) (c .fixes) (c .n) (c .k) at on-pair) in
+            let here : x ≡ heldSlot d (asked d (letterOf (getD s i 0))) (coupleAt ms fs at) = er₀ ∙ slot-read d a (blocksOf c) at pair-reached ∙ rw (ea, couple-taken (c .macs) (c .fixes) (c .n) (c .k) at on-pair) in
             record {
               ready = next .ready;
               left = rw add-one (omega arith);
@@ -88,8 +90,8 @@ module _ (c : HeldChip) (s : List ℕ) (d : Direction) where
                   (ap (λ (t : List Slot). take i pairs ++ t) (sym (ap (λ (t : List ℕ). heldSlots d (lettersOf t) (restFrom ms fs at)) more ∙ ap (heldSlots d (lettersOf (getD s i 0 ∷ drop (suc i) s))) step)) ∙ v .slots);
             }
 
-      pub slot-written : (a : Asked) (x : Slot) (r : Cursor) → a ≡ asked d (letterOf (getD s i 0)) → x ≡ slotRead d a (c .macs) (c .fixes) (at .fix) (at .i) (at .j) → r ≡ nextOf at (c .n) (c .k) → Writing (set pairs i x) r (i + 1)
-      slot-written a x r ea ex er = record { long = length-set pairs i x ∙ w .long; written = λ t. one-written t a x r ea ex er }
+      pub slot-written : (a : Asked) (x : Slot) (r : Cursor) (b : Blocks) → b ≡ blocksOf c → a ≡ asked d (letterOf (getD s i 0)) → x ≡ slotRead d a b (at .fix) (at .i) (at .j) → r ≡ nextOf at (c .n) (c .k) → Writing (set pairs i x) r (i + 1)
+      slot-written a x r b eb ea ex er = record { long = length-set pairs i x ∙ w .long; written = λ t. one-written t a x r ea (ex ∙ rw eb) er }
 
     -- the letters are over
     done : Taken c s → i ≤ length s → length s ≤ i → take (length s) pairs ≡ heldSlots d (lettersOf s) (couplesOf ms fs)

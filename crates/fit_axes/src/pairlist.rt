@@ -12,8 +12,7 @@ ghost use Rattle.fit_axes.specs.Axes.{PairsMade};
 pub(crate) fn pair_slots(c: Chip, letters: &[u8], d: Direction) -> [Slot; Axis::PAIRS]
     ensures { λ r. ⌜ PairsMade c (now (letters .entry)) d r ⌝ }
 {
-    let macs = c.macs;
-    let fixes = c.fixes;
+    let blocks = model::blocks_of(c);
     let mut pairs = [Slot {
         tail: 0,
         head: 0,
@@ -26,7 +25,7 @@ pub(crate) fn pair_slots(c: Chip, letters: &[u8], d: Direction) -> [Slot; Axis::
         if letters.len() <= s {
             return pairs;
         }
-        pairs[s] = slot_at(at, asked_by(letters[s], d), macs, fixes, d);
+        pairs[s] = slot_at(blocks, at, asked_by(letters[s], d), d);
         at = next_pair(at, c.n, c.k);
         s += 1;
     }

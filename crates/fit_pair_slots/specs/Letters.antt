@@ -5,7 +5,7 @@ use mathlib.Core.Bool.{Bool, true, false}
 use mathlib.Core.List.{List}
 use lib.ListN.{getD}
 use Rattle.model.specs.declared.Fix.{Fix}
-use Rattle.model.specs.declared.Mac.{Mac}
+use Rattle.model.specs.declared.Blocks.{Blocks}
 use Rattle.model.specs.Meaning.{blankFix, blankMac}
 use Rattle.chip_text.specs.Valid.{ValidFix}
 use Rattle.axis_bounds.specs.declared.Slot.{Slot}
@@ -26,12 +26,13 @@ letterAfter horizontal = 82
 letterAfter vertical = 65
 
 -- the slot of macros i and j, or of macro i and fix j, counted from 0: places are read modulo 8, a fix's numbers modulo 65,536
-abbrev pub slotRead : Direction → Asked → List Mac → List Fix → Bool → ℕ → ℕ → Slot
-slotRead d k macs fixes false i j = macPair k (i % 8 + 1) (macSide d (getD macs (i % 8) blankMac)) (j % 8 + 1) (macSide d (getD macs (j % 8) blankMac))
-slotRead d k macs fixes true i j =
-    fixPair k (i % 8 + 1) (macSide d (getD macs (i % 8) blankMac))
-    (fixCorner d (getD fixes (j % 8) blankFix) % 65536)
-    (fixSide d (getD fixes (j % 8) blankFix) % 65536)
+abbrev pub slotRead : Direction → Asked → Blocks → Bool → ℕ → ℕ → Slot
+slotRead d k b false i j =
+    macPair k (i % 8 + 1) (macSide d (getD (b .macs) (i % 8) blankMac)) (j % 8 + 1) (macSide d (getD (b .macs) (j % 8) blankMac))
+slotRead d k b true i j =
+    fixPair k (i % 8 + 1) (macSide d (getD (b .macs) (i % 8) blankMac))
+    (fixCorner d (getD (b .fixes) (j % 8) blankFix) % 65536)
+    (fixSide d (getD (b .fixes) (j % 8) blankFix) % 65536)
 
 -- the pair is on the arrays, and its fix is within its ranges
 pub record Reached (fixes : List Fix) (at : Cursor) : Type 0 where

@@ -3,6 +3,7 @@ use axis_bounds::Slot;
 use fit_pairs::Cursor;
 use fit_slots::Asked;
 use fit_slots::Direction;
+use model::Blocks;
 use model::Die;
 use model::Fix;
 use model::Mac;
@@ -137,21 +138,17 @@ fn fix_pair(k: Asked, i: usize, w: u64, x: u64, v: u64) -> Slot
 }
 
 // The slot of a pair in a direction. A cursor past the arrays and a fix past its ranges are read modulo 8 and 65,536.
-pub fn slot_at(
-    at: Cursor,
-    k: Asked,
-    macs: [Mac; Mac::COUNT],
-    fixes: [Fix; Fix::COUNT],
-    d: Direction,
-) -> Slot
-    ensures { λ r. ⌜ r ≡ slotRead d k macs fixes (at .fix) (at .i) (at .j) ⌝ }
+pub fn slot_at(blocks: Blocks, at: Cursor, k: Asked, d: Direction) -> Slot
+    ensures { λ r. ⌜ r ≡ slotRead d k blocks (at .fix) (at .i) (at .j) ⌝ }
 {
+    let macs = blocks.macs;
     let fix = at.fix;
     let i = at.i % 8;
     let j = at.j % 8;
     let a = macs[i];
     let w = mac_side(a, d);
     if fix {
+        let fixes = blocks.fixes;
         let f = fixes[j];
         return fix_pair(
             k,

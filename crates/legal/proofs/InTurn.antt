@@ -1,4 +1,4 @@
--- Each box tested in turn, in the form of the needs of `legal_boxes`.
+-- Each box tested in turn, in the form of the needs of `legal_boxes` and `is_legal`.
 use mathlib.Core.Path.{_≡_, sym, ap, _∙_}
 use mathlib.Core.Bool.{Bool, true, false, not, _&&_}
 use mathlib.Core.List.{List, [], map}
@@ -10,10 +10,13 @@ use lib.Seq.{take-all, slice, slice-empty, slice-cons, take-suc}
 use borrow.Author.Tests.{not-true, not-false}
 use Rattle.model.specs.declared.Die.{Die}
 use Rattle.model.specs.declared.Fix.{Fix}
+use Rattle.model.specs.declared.Spot.{Spot}
+use Rattle.model.specs.declared.Chip.{Chip}
 use Rattle.geometry.specs.declared.Box.{Box}
 use Rattle.geometry.specs.Box.{boxOf, blankBox}
 use Rattle.geometry.proofs.Clear.{take-boxes-of}
-use Rattle.legal.specs.Turn.{legalBox, legalAfter}
+use Rattle.placement.specs.Legal.{boxes}
+use Rattle.legal.specs.Turn.{legalBox, legalAfter, legalHeld}
 
 -- one box
 module _ (p : Bool) (r : Bool) (e : r ≡ p) where
@@ -54,3 +57,7 @@ module _ (g : ℕ) (d : Die) (fixes : List Fix) (k : ℕ) (fs : List Box) (ef : 
 
   pub tested-all : length bs ≡ 8 → 8 < n → r ≡ legalAfter g d (take k fs) [] (take 8 bs) → r ≡ legalAfter g d (map boxOf (take k fixes)) [] (take n bs)
   tested-all l h e = fixes-tested (e ∙ ap (legalAfter g d (take k fs) []) (take-all 8 bs (omega arith) ∙ sym (take-all n bs (omega arith))))
+
+-- those of a chip
+pub boxes-legal : (c : Chip) (s : List Spot) (bs : List Box) (a : Bool) → bs ≡ boxes (c .macs) s → a ≡ legalAfter 0 (c .die) (map boxOf (take (c .k) (c .fixes))) [] (take (c .n) bs) → a ≡ legalHeld c s
+boxes-legal c s bs a f g = rw (g, f)

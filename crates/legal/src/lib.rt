@@ -1,5 +1,6 @@
 // Macros at their corners: whether all lie in the die, and are apart from the fixes and from each other.
 use geometry::Box;
+use model::Chip;
 use model::Die;
 use model::Fix;
 use model::Mac;
@@ -10,13 +11,13 @@ ghost use Prim.Native.Nat.{_≤_, _<_};
 ghost use lib.ListN.{getD, take};
 ghost use Rattle.geometry.specs.Box.{boxOf, blankBox};
 ghost use Rattle.placement.specs.Legal.{boxes};
-ghost use Rattle.legal.specs.Turn.{legalBox, legalAfter};
+ghost use Rattle.legal.specs.Turn.{legalBox, legalAfter, legalHeld};
 
 // The gap between two macros, and between a macro and a fix.
 const GAP: u64 = 0;
 
 // The macros at their positions, as boxes.
-pub fn boxes_at(macs: [Mac; Mac::COUNT], spots: [Spot; Mac::COUNT]) -> [Box; Box::COUNT]
+fn boxes_at(macs: [Mac; Mac::COUNT], spots: [Spot; Mac::COUNT]) -> [Box; Box::COUNT]
     ensures { λ r. ⌜ r ≡ boxes macs spots ⌝ }
 {
     let mut bs = [Box {
@@ -64,7 +65,7 @@ fn legal_first(die: Die, fs: [Box; Box::COUNT], k: usize, bs: [Box; Box::COUNT],
 }
 
 // Whether each of n boxes is legal beside k fixes; all of them, where n is above their number.
-pub fn legal_boxes(
+fn legal_boxes(
     die: Die,
     fixes: [Fix; Fix::COUNT],
     k: usize,
@@ -78,4 +79,15 @@ pub fn legal_boxes(
         return legal_first(die, fs, k, bs, Mac::COUNT);
     }
     legal_first(die, fs, k, bs, n)
+}
+
+// Whether each macro at its position lies in the die, and is apart from the fixes and from the macros before it; of any chip value, without a test.
+pub fn is_legal(c: Chip, spots: [Spot; Mac::COUNT]) -> bool
+    ensures { λ r. ⌜ r ≡ legalHeld c spots ⌝ }
+{
+    let die = c.die;
+    let fixes = c.fixes;
+    let macs = c.macs;
+    let bs = boxes_at(macs, spots);
+    legal_boxes(die, fixes, c.k, bs, c.n)
 }

@@ -25,7 +25,8 @@ use Rattle.measure_tests.specs.Tested.{testedBy}
 use Rattle.measure_tests.proofs.Testing.{chip-is-passed, the-spots, are-near}
 use Rattle.measure_held.specs.declared.MeasureAnswer.{MeasureAnswer}
 use Rattle.measure_held.specs.Answer.{Measure, refused, measured, measuredAs}
-use Rattle.measure_held.specs.Held.{legalHeld, lengthHeld, lengthIn}
+use Rattle.legal.specs.Turn.{legalHeld}
+use Rattle.measure_held.specs.Held.{lengthHeld, lengthIn}
 use Rattle.measure.specs.Measuring.{afterReading, measurePassed, measurePositions}
 use Rattle.measure.proofs.IsLegal.{legal-told}
 use Rattle.measure.proofs.HeldNet.{length-whole}

@@ -14,7 +14,7 @@ use Rattle.chip_text.proofs.HeldMeaning.{macs-held}
 use Rattle.placement.specs.Legal.{boxes, within, legal}
 use Rattle.placement.proofs.Boxes.{take-boxes}
 use Rattle.legal.proofs.TurnLegal.{turn-legal}
-use Rattle.measure_held.specs.Held.{legalHeld}
+use Rattle.legal.specs.Turn.{legalHeld}
 
 module _ (c : HeldChip) (fine : HeldValid c) (s : List Spot) (l : length (c .fixes) ≡ 8) (m : length (c .macs) ≡ 8) (n : length s ≡ 8) where
   its-boxes : boxes (chipOf c .macs) (take (c .n) s) ≡ take (c .n) (boxes (c .macs) s)

@@ -1,9 +1,8 @@
 -- What is measured of a chip held as a value, without a test: numbers count up to a limit. That those of a tested chip do not reach it, and that this
 -- is then legality and wirelength, is measure/proofs/IsLegal.antt `legal-told` and HeldNet.antt `length-whole`.
 use Prim.Native.Nat.{ℕ, zero, suc, _+_, min}
-use mathlib.Core.Bool.{Bool}
-use mathlib.Core.List.{List, [], map}
-use lib.ListN.{getD, take}
+use mathlib.Core.List.{List}
+use lib.ListN.{getD}
 use Rattle.model.specs.declared.Spot.{Spot}
 use Rattle.model.specs.declared.Chip.{Chip as HeldChip}
 use Rattle.model.specs.declared.Net.{Net as HeldNet}
@@ -11,15 +10,8 @@ use Rattle.model.specs.declared.Pin.{Pin as HeldPin}
 use Rattle.model.specs.Meaning.{blankNet}
 use Rattle.model.specs.Limits.{mostNets}
 use Rattle.chip_text.specs.Valid.{pinsBefore}
-use Rattle.geometry.specs.Box.{boxOf}
-use Rattle.placement.specs.Legal.{boxes}
-use Rattle.legal.specs.Turn.{legalAfter}
 use Rattle.measure_nets.specs.Held.{netHeld}
 use Rattle.measure_held.specs.Answer.{Measure, refused, measured}
-
--- each macro at its position lies in the die, and is apart from the fixes and from the macros before it
-abbrev pub legalHeld : HeldChip → List Spot → Bool
-legalHeld c ps = legalAfter 0 (c .die) (map boxOf (take (c .k) (c .fixes))) [] (take (c .n) (boxes (c .macs) ps))
 
 -- the lengths of the first j nets
 unfoldable pub lengthTo : List Spot → List HeldNet → List HeldPin → ℕ → ℕ

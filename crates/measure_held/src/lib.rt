@@ -6,24 +6,14 @@ use model::Refusal;
 use model::Spot;
 use num_limits::sum;
 ghost use mathlib.Core.Path.{_≡_};
+ghost use Rattle.legal.specs.Turn.{legalHeld};
 ghost use Rattle.measure_held.specs.Answer.{measured as measuredAt, measuredAs};
-ghost use Rattle.measure_held.specs.Held.{legalHeld, lengthHeld, lengthIn};
+ghost use Rattle.measure_held.specs.Held.{lengthHeld, lengthIn};
 
 // What measuring answers: legal or not and the wirelength, or the refusal.
 pub enum MeasureAnswer {
     Measured(bool, u64),
     Refused(Refusal),
-}
-
-// Whether each macro at its position lies in the die, and is apart from the fixes and from the macros before it.
-fn is_legal(c: Chip, spots: [Spot; Mac::COUNT]) -> bool
-    ensures { λ r. ⌜ r ≡ legalHeld c spots ⌝ }
-{
-    let die = c.die;
-    let fixes = c.fixes;
-    let macs = c.macs;
-    let bs = legal::boxes_at(macs, spots);
-    legal::legal_boxes(die, fixes, c.k, bs, c.n)
 }
 
 // The sum of the lengths of the chip's nets.
@@ -51,9 +41,9 @@ fn length_of(c: Chip, spots: [Spot; Mac::COUNT]) -> u64
 pub fn measured(c: Chip, spots: [Spot; Mac::COUNT]) -> MeasureAnswer
     ensures { λ r. ⌜ measuredAs r ≡ measuredAt (legalHeld c spots) (lengthHeld c spots) ⌝ }
 {
-    let legal = is_legal(c, spots);
+    let legality = legal::is_legal(c, spots);
     let length = length_of(c, spots);
-    MeasureAnswer::Measured(legal, length)
+    MeasureAnswer::Measured(legality, length)
 }
 
 // The wirelength in an answer; 0 where it is a refusal.

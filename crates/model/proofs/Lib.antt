@@ -6,3 +6,4 @@ pub mod Pins
 pub mod Holding
 pub mod HeldAgain
 pub mod Corners
+pub mod BlocksLong

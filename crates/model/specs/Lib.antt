@@ -5,3 +5,4 @@ pub mod Made
 pub mod Held
 pub mod Counted
 pub mod Corners
+pub mod Blocks

@@ -2,6 +2,7 @@
 ghost use mathlib.Core.Path.{_≡_};
 ghost use mathlib.Core.Bool.{_&&_};
 ghost use lib.Dec.{leb};
+ghost use Rattle.model.specs.Blocks.{blocksOf};
 ghost use Rattle.model.specs.Made.{meantDie, makeDie, meantFix, makeFix, meantMac, makeMac, meantNet, makeNet, meantPlace, makePlace, meantPin, makePin, remakePin, meantSpot, makeSpot};
 
 // How many bytes a text has at most.
@@ -273,6 +274,28 @@ pub struct Chip {
     pub t: usize,
     pub nets: [Net; Net::COUNT],
     pub pins: [Pin; Pin::COUNT],
+}
+
+// The blocks of a chip, whose pairs are decided: n macros and k fixes.
+pub struct Blocks {
+    pub n: usize,
+    pub macs: [Mac; Mac::COUNT],
+    pub k: usize,
+    pub fixes: [Fix; Fix::COUNT],
+}
+
+// The blocks of a chip.
+pub fn blocks_of(c: Chip) -> Blocks
+    ensures { λ r. ⌜ r ≡ blocksOf c ⌝ }
+{
+    let macs = c.macs;
+    let fixes = c.fixes;
+    Blocks {
+        n: c.n,
+        macs,
+        k: c.k,
+        fixes,
+    }
 }
 
 // A macro's lower left corner in a placement.

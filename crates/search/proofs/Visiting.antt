@@ -122,7 +122,7 @@ module _ (c : HeldChip) (parts : Parts) (p : ℕ) (tx ty : List ℕ) (node : Nod
     pub visits-done : 4 ≤ i → Searched c (node .letters) p (node .kx) (node .ky) best b
     visits-done h = visits-end c p node s (g .passed) (g .branch) (w .free) best b t okay grown i sought h
 
-    pub visit-child : i < 4 → (u : Slot) → u ≡ slotAsked (parts .macs) (parts .fixes) at i → (next : Node) → NextOf node t s i u next → (r : Left) → Visited t i u r → Visit c parts p tx ty node s best b t next r
+    pub visit-child : i < 4 → (u : Slot) → u ≡ slotAsked (parts .blocks) at i → (next : Node) → NextOf node t s i u next → (r : Left) → Visited t i u r → Visit c parts p tx ty node s best b t next r
     visit-child h u e next o r v = record {
       given = record { passed = g .passed; reads = g .reads; arrays = g .arrays; branch = nx .node; counted = grown .counted };
       falls = visit-falls c p node s (g .passed) (g .branch) (w .free) i u asks best b (g .counted) t okay grown next nx r v;

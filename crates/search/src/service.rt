@@ -18,25 +18,20 @@ use search_node::no_letters;
 use search_node::no_record;
 use search_tables::arrays_of;
 ghost use mathlib.Core.Path.{_≡_};
+ghost use Rattle.model.specs.Blocks.{blocksOf};
 ghost use Rattle.model.specs.Meaning.{chipOf, recordOf};
 ghost use Rattle.text_grammar.specs.Writing.{answerOf};
 ghost use Rattle.chip_text.specs.Passed.{Passed};
 ghost use Rattle.placement.specs.Least.{chipRecord};
-ghost use Rattle.search_node.specs.Node.{PartsOf};
 ghost use Rattle.search.specs.Place.{searchChip, placeText};
 
 // The parts of a chip that the search reads.
 fn parts_of(c: Chip) -> Parts
-    ensures { λ r. ⌜ PartsOf c r ⌝ }
+    ensures { λ r. ⌜ r .blocks ≡ blocksOf c ⌝ }
 {
-    let macs = c.macs;
-    let fixes = c.fixes;
     let weights = all_weights(c);
     Parts {
-        n: c.n,
-        k: c.k,
-        macs,
-        fixes,
+        blocks: model::blocks_of(c),
         weights,
     }
 }

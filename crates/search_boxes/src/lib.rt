@@ -1,5 +1,6 @@
 // The two boxes of a pair.
 use geometry::Box;
+use model::Blocks;
 use model::Fix;
 use model::Mac;
 use model::Spot;
@@ -19,30 +20,26 @@ fn empty_box() -> Box
 }
 
 // Macro i at its corner, counted from 0; past the arrays an empty box.
-pub fn mac_box(macs: [Mac; Mac::COUNT], spots: [Spot; Mac::COUNT], i: usize) -> Box
-    ensures { λ r. ⌜ r ≡ macBox macs spots i ⌝ }
+pub fn mac_box(blocks: Blocks, spots: [Spot; Mac::COUNT], i: usize) -> Box
+    ensures { λ r. ⌜ r ≡ macBox blocks spots i ⌝ }
 {
     if Mac::COUNT <= i {
         return empty_box();
     }
+    let macs = blocks.macs;
     geometry::box_at(macs[i], spots[i])
 }
 
 // The second of a pair: fix j, or macro j at its corner; past the arrays an empty box.
-pub fn second_box(
-    macs: [Mac; Mac::COUNT],
-    fixes: [Fix; Fix::COUNT],
-    spots: [Spot; Mac::COUNT],
-    fix: bool,
-    j: usize,
-) -> Box
-    ensures { λ r. ⌜ r ≡ secondOf macs fixes spots fix j ⌝ }
+pub fn second_box(blocks: Blocks, spots: [Spot; Mac::COUNT], fix: bool, j: usize) -> Box
+    ensures { λ r. ⌜ r ≡ secondOf blocks spots fix j ⌝ }
 {
     if fix {
         if j < Fix::COUNT {
+            let fixes = blocks.fixes;
             return geometry::box_of(fixes[j]);
         }
         return empty_box();
     }
-    mac_box(macs, spots, j)
+    mac_box(blocks, spots, j)
 }

@@ -2,7 +2,7 @@
 use Prim.Native.Nat.{ℕ, _+_, _≤_, _<_}
 use mathlib.Core.Path.{_≡_, refl, sym, ap, _∙_}
 use mathlib.Core.Bool.{Bool, true, false, not, false≢true}
-use mathlib.Core.List.{List, []}
+use mathlib.Core.List.{List, [], map}
 use native.Mathlib.Decide.{ℕ-discrete}
 use native.Mathlib.Numerals.{add-one}
 use native.Mathlib.Omega.{arith}
@@ -13,8 +13,11 @@ use borrow.Author.Tests.{lt-ltb, le-ltb, eq-eqb, eqb-true, not-true, not-false}
 use Rattle.model.specs.declared.Fix.{Fix}
 use Rattle.model.specs.declared.Mac.{Mac}
 use Rattle.model.specs.declared.Spot.{Spot}
+use Rattle.model.specs.declared.Blocks.{Blocks}
 use Rattle.model.specs.declared.Chip.{Chip as HeldChip}
 use Rattle.model.specs.Meaning.{Chip, chipOf, firstOf, blankFix, blankMac, blankSpot}
+use Rattle.model.specs.Blocks.{blocksOf, bareOf}
+use Rattle.model.proofs.BlocksLong.{macs-eight, fixes-eight}
 use Rattle.model.proofs.FirstOf.{first-take}
 use Rattle.geometry.specs.Box.{apart}
 use Rattle.placement.specs.Integers.{gapOf}
@@ -27,10 +30,22 @@ use Rattle.fit_pairs.specs.Order.{pairAt, coupleAt, OnPair, First, nextOf}
 use Rattle.fit_pairs.specs.Count.{letterTotal}
 use Rattle.fit_pairs.proofs.Counts.{all-letters}
 use Rattle.fit_pairs.proofs.Places.{AtPlace, place-first, place-on, place-next, place-couple, couple-taken}
-use Rattle.search_choose.specs.Choice.{noPair, apartAt, Chosen, PlaceOf, partsOf, Laid, LaidBy, ChosenOf}
+use Rattle.search_choose.specs.Choice.{noPair, apartAt, Chosen, PlaceOf, Laid, LaidBy, ChosenOf}
 use Rattle.search_boxes.specs.Boxes.{macBox, secondOf}
 
-module _ (macs : List Mac) (n : ℕ) (fixes : List Fix) (k : ℕ) (spots : List Spot) (p : ℕ) where
+module _ (blocks : Blocks) (spots : List Spot) (p : ℕ) where
+  abbrev n : ℕ
+  n = blocks .n
+
+  abbrev k : ℕ
+  k = blocks .k
+
+  abbrev macs : List Mac
+  macs = blocks .macs
+
+  abbrev fixes : List Fix
+  fixes = blocks .fixes
+
   abbrev ms : List Mac
   ms = take n macs
 
@@ -84,9 +99,9 @@ module _ (macs : List Mac) (n : ℕ) (fixes : List Fix) (k : ℕ) (spots : List 
     pub quiet : best ≡ p → most ≡ 0
     pub apart : best ≡ p → (t : ℕ) → t < s → apartHere t ≡ true
 
-  pub none-seen : (r : Cursor) → Laid n k p → length macs ≡ 8 → length fixes ≡ 8 → length spots ≡ 8 → First n r → Seen r 0 p r 0
-  none-seen r l lm lf ls f =
-      let z = sized l lm lf ls in
+  pub none-seen : (r : Cursor) (A B : Type 0) (u : Mac → A) (v : Fix → B) → Laid n k p → length (map u macs) ≡ 8 → length (map v fixes) ≡ 8 → length spots ≡ 8 → First n r → Seen r 0 p r 0
+  none-seen r A B u v l lm lf ls f =
+      let z = sized l (macs-eight blocks u lm) (fixes-eight blocks v lf) ls in
       let g : First (length ms) r = rw (z .macCount) f in
       record { size = z; place = place-first ms fs r g; chosen = λ h. absurd (omega arith); within = omega arith; overlap = λ h. absurd (omega arith); quiet = λ e. refl; apart = λ e t h. absurd (omega arith) }
 
@@ -99,12 +114,12 @@ module _ (macs : List Mac) (n : ℕ) (fixes : List Fix) (k : ℕ) (spots : List 
 
     -- the pair of place s
     abbrev taken : Pair
-    taken = record { first = macBox macs spots (at .i); second = secondOf macs fixes spots (at .fix) (at .j) }
+    taken = record { first = macBox blocks spots (at .i); second = secondOf blocks spots (at .fix) (at .j) }
 
     at-couple : pairOf ps (coupleAt macs fixes at) ≡ taken
     at-couple = by (at .fix) refl
       where
-        by : (f : Bool) → at .fix ≡ f → pairOf ps (pairAt macs fixes f (at .i) (at .j)) ≡ record { first = macBox macs spots (at .i); second = secondOf macs fixes spots f (at .j) }
+        by : (f : Bool) → at .fix ≡ f → pairOf ps (pairAt macs fixes f (at .i) (at .j)) ≡ record { first = macBox blocks spots (at .i); second = secondOf blocks spots f (at .j) }
         by false e = let q = on .macs e in rw (add-one (at .i), add-one (at .j), getD-take n spots (at .i) blankSpot (omega arith), getD-take n spots (at .j) blankSpot (omega arith))
         by true e = let q = on .fixes e in rw (add-one (at .i), getD-take n spots (at .i) blankSpot (omega arith))
 
@@ -155,7 +170,7 @@ module _ (macs : List Mac) (n : ℕ) (fixes : List Fix) (k : ℕ) (spots : List 
             by e t b (yes q) = let z = w .quiet e in rw q (scored-apart (omega arith))
             by e t b (no q) = w .apart e t (omega arith)
 
-  pub all-placed : (at : Cursor) (s best : ℕ) (b : Cursor) (most : ℕ) → Seen at s best b most → PlaceOf macs n fixes k p best b
+  pub all-placed : (at : Cursor) (s best : ℕ) (b : Cursor) (most : ℕ) → Seen at s best b most → PlaceOf blocks p best b
   all-placed at s best b most w = record {
     on = λ h. on-best h;
     couple = λ h z. rw (w .size .macsFirst, w .size .fixesFirst) (place-couple ms fs b best (w .chosen h) (inside h) z ∙ sym (couple-taken macs fixes n k b (on-best h)));
@@ -167,14 +182,14 @@ module _ (macs : List Mac) (n : ℕ) (fixes : List Fix) (k : ℕ) (spots : List 
       on-best : best < p → OnPair n k b
       on-best h = rw (w .size .macCount, w .size .fixCount) at (place-on ms fs b best (w .chosen h) (inside h))
 
-  pub all-chosen : (at : Cursor) (s best : ℕ) (b : Cursor) (most : ℕ) → Seen at s best b most → p ≤ s → Chosen (partsOf macs n fixes k) (take n spots) p best
+  pub all-chosen : (at : Cursor) (s best : ℕ) (b : Cursor) (most : ℕ) → Seen at s best b most → p ≤ s → Chosen (bareOf blocks) (take n spots) p best
   all-chosen at s best b most w h = record {
     place = w .within;
     overlap = λ g. same best (w .overlap g);
     none = λ e t g. same t (w .apart e t (omega arith));
   }
     where
-      same : {b : Bool} (t : ℕ) → apartHere t ≡ b → apartAt (partsOf macs n fixes k) (pairs (partsOf macs n fixes k) ps) t ≡ b
+      same : {b : Bool} (t : ℕ) → apartHere t ≡ b → apartAt (bareOf blocks) (pairs (bareOf blocks) ps) t ≡ b
       same t e = rw (w .size .macsFirst, w .size .fixesFirst) e
 
 -- ---- in the form of the needs
@@ -195,16 +210,16 @@ module _ (n k p : ℕ) where
 pub is-laid : (n k p : ℕ) (b : Bool) → LaidBy b n k p → not b ≡ false → Laid n k p
 is-laid n k p b h q = h .yes (not-false b q)
 
-module _ (macs : List Mac) (n : ℕ) (fixes : List Fix) (k : ℕ) (spots : List Spot) (p r : ℕ) (at : Cursor) (b : Bool) (h : LaidBy b n k p) where
-  pub not-laid : not b ≡ true → ChosenOf macs n fixes k spots p r at
-  not-laid q = record { pair = λ l. absurd (h .no (not-true b q) l); place = λ l. absurd (h .no (not-true b q) l) }
+module _ (b : Blocks) (spots : List Spot) (p r : ℕ) (at : Cursor) where
+  pub not-laid : (t : Bool) → LaidBy t (b .n) (b .k) p → not t ≡ true → ChosenOf b spots p r at
+  not-laid t h q = record { pair = λ l. absurd (h .no (not-true t q) l); place = λ l. absurd (h .no (not-true t q) l) }
 
-pub chosen-of : (macs : List Mac) (n : ℕ) (fixes : List Fix) (k : ℕ) (spots : List Spot) (p r : ℕ) (at : Cursor) → Chosen (partsOf macs n fixes k) (take n spots) p r → PlaceOf macs n fixes k p r at → ChosenOf macs n fixes k spots p r at
-chosen-of macs n fixes k spots p r at a b = record { pair = λ l. a; place = λ l. b }
+  pub chosen-of : Chosen (bareOf b) (take (b .n) spots) p r → PlaceOf b p r at → ChosenOf b spots p r at
+  chosen-of c o = record { pair = λ l. c; place = λ l. o }
 
 -- ---- the chip
 
 module _ (c : HeldChip) (spots : List Spot) (p : ℕ) where
-  pub chip-chosen : (r : ℕ) → Chosen (partsOf (c .macs) (c .n) (c .fixes) (c .k)) (take (c .n) spots) p r → Chosen (chipOf c) (take (c .n) spots) p r
+  pub chip-chosen : (r : ℕ) → Chosen (bareOf (blocksOf c)) (take (c .n) spots) p r → Chosen (chipOf c) (take (c .n) spots) p r
   unfolding chipOf pairs
   chip-chosen r h = record { place = h .place; overlap = h .overlap; none = h .none }

@@ -9,8 +9,7 @@ use mir.Syntax.{w64}
 use mir.Val.{Fits}
 use lib.Dec.{ltb}
 use borrow.Author.Tests.{lt-ltb}
-use Rattle.model.specs.declared.Fix.{Fix}
-use Rattle.model.specs.declared.Mac.{Mac}
+use Rattle.model.specs.declared.Blocks.{Blocks}
 use Rattle.model.specs.declared.Spot.{Spot}
 use Rattle.geometry.specs.declared.Box.{Box}
 use Rattle.geometry.specs.Box.{apart}
@@ -56,12 +55,12 @@ lesser-small w v r s e = omega arith
 
 -- ---- the pair at hand
 
-module _ (macs : List Mac) (fixes : List Fix) (spots : List Spot) (at : Cursor) (a b : Box) (ea : a ≡ macBox macs spots (at .i)) (eb : b ≡ secondOf macs fixes spots (at .fix) (at .j)) (r : Bool) (e : r ≡ apart 0 a b) where
-  taken : r ≡ apart 0 (macBox macs spots (at .i)) (secondOf macs fixes spots (at .fix) (at .j))
+module _ (blocks : Blocks) (spots : List Spot) (at : Cursor) (a b : Box) (ea : a ≡ macBox blocks spots (at .i)) (eb : b ≡ secondOf blocks spots (at .fix) (at .j)) (r : Bool) (e : r ≡ apart 0 a b) where
+  taken : r ≡ apart 0 (macBox blocks spots (at .i)) (secondOf blocks spots (at .fix) (at .j))
   taken = e ∙ rw (ea, eb)
 
-  pub apart-scored : r ≡ true → ltb 0 0 ≡ not (apart 0 (macBox macs spots (at .i)) (secondOf macs fixes spots (at .fix) (at .j)))
+  pub apart-scored : r ≡ true → ltb 0 0 ≡ not (apart 0 (macBox blocks spots (at .i)) (secondOf blocks spots (at .fix) (at .j)))
   apart-scored q = rw (← taken, q)
 
-  pub overlap-scored : r ≡ false → (v : ℕ) → 0 < v → ltb 0 v ≡ not (apart 0 (macBox macs spots (at .i)) (secondOf macs fixes spots (at .fix) (at .j)))
+  pub overlap-scored : r ≡ false → (v : ℕ) → 0 < v → ltb 0 v ≡ not (apart 0 (macBox blocks spots (at .i)) (secondOf blocks spots (at .fix) (at .j)))
   overlap-scored q v h = lt-ltb 0 v h ∙ rw (← taken, q)

@@ -2,16 +2,16 @@
 use Prim.Native.Nat.{ℕ, _≤_, _<_}
 use mathlib.Core.Path.{_≡_}
 use mathlib.Core.Bool.{Bool, true, false}
-use mathlib.Core.List.{List, []}
+use mathlib.Core.List.{List}
 use lib.ListN.{getD, take}
-use Rattle.model.specs.declared.Fix.{Fix}
-use Rattle.model.specs.declared.Mac.{Mac}
+use Rattle.model.specs.declared.Blocks.{Blocks}
 use Rattle.model.specs.declared.Spot.{Spot}
-use Rattle.model.specs.Meaning.{Chip, firstOf, blankFix, blankMac}
+use Rattle.model.specs.Meaning.{Chip}
+use Rattle.model.specs.Blocks.{bareOf}
 use Rattle.geometry.specs.Box.{blankBox, apart}
 use Rattle.placement.specs.Integers.{gapOf}
 use Rattle.placement.specs.Pairs.{Pair, pairs}
-use Rattle.fit_slots.specs.Slots.{Couple, couplesOf}
+use Rattle.fit_slots.specs.Slots.{Couple, couples}
 use Rattle.fit_pairs.specs.declared.Cursor.{Cursor}
 use Rattle.fit_pairs.specs.Order.{coupleAt, OnPair}
 use Rattle.fit_pairs.specs.Count.{letterTotal}
@@ -30,13 +30,9 @@ pub record Chosen (c : Chip) (ps : List Spot) (p r : ℕ) : Type 0 where
   pub none : r ≡ p → (s : ℕ) → s < p → apartAt c (pairs c ps) s ≡ true
 
 -- the cursor is at the pair of place s, where there is one
-pub record PlaceOf (macs : List Mac) (n : ℕ) (fixes : List Fix) (k p s : ℕ) (at : Cursor) : Type 0 where
-  pub on : s < p → OnPair n k at
-  pub couple : s < p → (z : Couple) → getD (couplesOf (firstOf blankMac n macs) (firstOf blankFix k fixes)) s z ≡ coupleAt macs fixes at
-
--- a chip with n macros and k fixes, for its pairs
-abbrev pub partsOf : List Mac → ℕ → List Fix → ℕ → Chip
-partsOf macs n fixes k = record { die = record { w = 0; h = 0 }; fixes = firstOf blankFix k fixes; macs = firstOf blankMac n macs; nets = [] }
+pub record PlaceOf (b : Blocks) (p s : ℕ) (at : Cursor) : Type 0 where
+  pub on : s < p → OnPair (b .n) (b .k) at
+  pub couple : s < p → (z : Couple) → getD (couples (bareOf b)) s z ≡ coupleAt (b .macs) (b .fixes) at
 
 -- p is the number of pairs of n macros and k fixes
 pub record Laid (n k p : ℕ) : Type 0 where
@@ -49,6 +45,6 @@ pub record LaidBy (b : Bool) (n k p : ℕ) : Type 0 where
   pub no : b ≡ false → Laid n k p → ⊥
 
 -- r is the place of an overlapping pair of the p pairs, with the cursor there, or p where each two are apart
-pub record ChosenOf (macs : List Mac) (n : ℕ) (fixes : List Fix) (k : ℕ) (spots : List Spot) (p r : ℕ) (at : Cursor) : Type 0 where
-  pub pair : Laid n k p → Chosen (partsOf macs n fixes k) (take n spots) p r
-  pub place : Laid n k p → PlaceOf macs n fixes k p r at
+pub record ChosenOf (b : Blocks) (spots : List Spot) (p r : ℕ) (at : Cursor) : Type 0 where
+  pub pair : Laid (b .n) (b .k) p → Chosen (bareOf b) (take (b .n) spots) p r
+  pub place : Laid (b .n) (b .k) p → PlaceOf b p r at

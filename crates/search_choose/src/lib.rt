@@ -7,12 +7,14 @@ use fit_pairs::Cursor;
 use fit_pairs::first_pair;
 use fit_pairs::letter_count;
 use fit_pairs::next_pair;
+use model::Blocks;
 use model::Fix;
 use model::Mac;
 use model::Spot;
 use search_kept::CELLS;
 ghost use lib.ListN.{take};
-ghost use Rattle.search_choose.specs.Choice.{Laid, LaidBy, Chosen, PlaceOf, partsOf, ChosenOf};
+ghost use Rattle.model.specs.Blocks.{bareOf};
+ghost use Rattle.search_choose.specs.Choice.{Laid, LaidBy, Chosen, PlaceOf, ChosenOf};
 
 // A pair by its place in the order of letters, with the cursor there.
 pub struct Choice {
@@ -33,12 +35,9 @@ fn is_laid(n: usize, k: usize, p: usize) -> bool
     p == letter_count(n, k)
 }
 
-// The place of an overlapping pair of the p pairs of n macros and k fixes, or p where each two are apart.
+// The place of an overlapping pair of the p pairs of blocks, or p where each two are apart.
 fn choose_pair(
-    macs: [Mac; Mac::COUNT],
-    n: usize,
-    fixes: [Fix; Fix::COUNT],
-    k: usize,
+    blocks: Blocks,
     p: usize,
     weights: [u64; Mac::COUNT],
     kx: &[u32; CELLS],
@@ -46,17 +45,19 @@ fn choose_pair(
     found: bool,
     spots: [Spot; Mac::COUNT],
 ) -> Choice
-    requires { ⌜ Laid n k p ⌝ }
-    ensures { λ r. ⌜ Chosen (partsOf macs n fixes k) (take n spots) p (r .s) ⌝ }
-    ensures { λ r. ⌜ PlaceOf macs n fixes k p (r .s) (r .at) ⌝ }
+    requires { ⌜ Laid (blocks .n) (blocks .k) p ⌝ }
+    ensures { λ r. ⌜ Chosen (bareOf blocks) (take (blocks .n) spots) p (r .s) ⌝ }
+    ensures { λ r. ⌜ PlaceOf blocks p (r .s) (r .at) ⌝ }
 {
+    let n = blocks.n;
+    let k = blocks.k;
     let mut best = p;
     let mut most: u64 = 0;
     let mut at = first_pair(n);
     let mut best_at = at;
     let mut s: usize = 0;
     while s < p {
-        let v = pair_score(macs, fixes, spots, weights, kx, ky, found, at);
+        let v = pair_score(blocks, spots, weights, kx, ky, found, at);
         let here = s;
         let here_at = at;
         at = next_pair(at, n, k);
@@ -73,12 +74,9 @@ fn choose_pair(
     }
 }
 
-// The same for every number of macros, fixes and pairs; kx, ky are the differences kept, and found says whether a placement is found.
+// The same for any blocks and any number of pairs; kx, ky are the differences kept, and found says whether a placement is found.
 pub fn choose(
-    macs: [Mac; Mac::COUNT],
-    n: usize,
-    fixes: [Fix; Fix::COUNT],
-    k: usize,
+    blocks: Blocks,
     p: usize,
     weights: [u64; Mac::COUNT],
     kx: &[u32; CELLS],
@@ -86,13 +84,13 @@ pub fn choose(
     found: bool,
     spots: [Spot; Mac::COUNT],
 ) -> Choice
-    ensures { λ r. ⌜ ChosenOf macs n fixes k spots p (r .s) (r .at) ⌝ }
+    ensures { λ r. ⌜ ChosenOf blocks spots p (r .s) (r .at) ⌝ }
 {
-    if !is_laid(n, k, p) {
+    if !is_laid(blocks.n, blocks.k, p) {
         return Choice {
             s: p,
-            at: first_pair(n),
+            at: first_pair(blocks.n),
         };
     }
-    choose_pair(macs, n, fixes, k, p, weights, kx, ky, found, spots)
+    choose_pair(blocks, p, weights, kx, ky, found, spots)
 }

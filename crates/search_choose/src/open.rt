@@ -4,8 +4,7 @@ use fit_pair_slots::slot_at;
 use fit_pairs::Cursor;
 use fit_slots::Asked;
 use fit_slots::Direction;
-use model::Fix;
-use model::Mac;
+use model::Blocks;
 use search_kept::CELLS;
 ghost use Prim.Native.Nat.{_≤_};
 
@@ -22,29 +21,18 @@ fn is_open(k: &[u32; CELLS], s: Slot) -> bool {
 }
 
 pub(crate) fn open_letters(
-    macs: [Mac; Mac::COUNT],
-    fixes: [Fix; Fix::COUNT],
+    blocks: Blocks,
     kx: &[u32; CELLS],
     ky: &[u32; CELLS],
     at: Cursor,
 ) -> Open {
+    let x = Direction::Horizontal;
+    let y = Direction::Vertical;
     Open {
-        left: is_open(
-            kx,
-            slot_at(at, Asked::Before, macs, fixes, Direction::Horizontal),
-        ),
-        right: is_open(
-            kx,
-            slot_at(at, Asked::After, macs, fixes, Direction::Horizontal),
-        ),
-        below: is_open(
-            ky,
-            slot_at(at, Asked::Before, macs, fixes, Direction::Vertical),
-        ),
-        above: is_open(
-            ky,
-            slot_at(at, Asked::After, macs, fixes, Direction::Vertical),
-        ),
+        left: is_open(kx, slot_at(blocks, at, Asked::Before, x)),
+        right: is_open(kx, slot_at(blocks, at, Asked::After, x)),
+        below: is_open(ky, slot_at(blocks, at, Asked::Before, y)),
+        above: is_open(ky, slot_at(blocks, at, Asked::After, y)),
     }
 }
 

@@ -5,7 +5,7 @@ use crate::open::urgency;
 use fit_pairs::Cursor;
 use geometry::Box;
 use geometry::apart;
-use model::Fix;
+use model::Blocks;
 use model::Mac;
 use model::Spot;
 use num_limits::greater;
@@ -93,8 +93,7 @@ fn pair_weight(weights: [u64; Mac::COUNT], fix: bool, i: usize, j: usize) -> u64
 
 // The score of the pair at hand.
 pub(crate) fn pair_score(
-    macs: [Mac; Mac::COUNT],
-    fixes: [Fix; Fix::COUNT],
+    blocks: Blocks,
     spots: [Spot; Mac::COUNT],
     weights: [u64; Mac::COUNT],
     kx: &[u32; CELLS],
@@ -102,17 +101,17 @@ pub(crate) fn pair_score(
     found: bool,
     at: Cursor,
 ) -> u64
-    ensures { λ r. ⌜ ltb 0 r ≡ not (areApart 0 (macBox macs spots (at .i)) (secondOf macs fixes spots (at .fix) (at .j))) ⌝ }
+    ensures { λ r. ⌜ ltb 0 r ≡ not (areApart 0 (macBox blocks spots (at .i)) (secondOf blocks spots (at .fix) (at .j))) ⌝ }
 {
     let fix = at.fix;
     let i = at.i;
     let j = at.j;
-    let a = mac_box(macs, spots, i);
-    let b = second_box(macs, fixes, spots, fix, j);
+    let a = mac_box(blocks, spots, i);
+    let b = second_box(blocks, spots, fix, j);
     if apart(a, b, 0) {
         return 0;
     }
-    let open = open_letters(macs, fixes, kx, ky, at);
+    let open = open_letters(blocks, kx, ky, at);
     score(
         a,
         b,

@@ -3,7 +3,9 @@ use Prim.Native.Nat.{ℕ, _<_}
 use mathlib.Core.Path.{_≡_, sym, _∙_}
 use lib.ListN.{take}
 use Rattle.model.specs.declared.Chip.{Chip as HeldChip}
+use Rattle.model.specs.declared.Blocks.{Blocks}
 use Rattle.model.specs.Meaning.{chipOf}
+use Rattle.model.specs.Blocks.{blocksOf}
 use Rattle.chip_text.specs.Passed.{Passed}
 use Rattle.fit_pairs.specs.declared.Cursor.{Cursor}
 use Rattle.fit_pairs.proofs.Cursors.{on-near}
@@ -21,13 +23,13 @@ use Rattle.search_close.proofs.Closings.{fit-closes, legal-found, chose
 use Rattle.search_choose.proofs.Choosing.{chip-chosen}
 use Rattle.search_node.specs.declared.Node.{Node}
 use Rattle.search_node.specs.declared.Parts.{Parts}
-use Rattle.search_node.specs.Node.{PartsOf, Given}
+use Rattle.search_node.specs.Node.{Given}
 use Rattle.search_halves.specs.Kept.{noCouple}
 use Rattle.search_choose.specs.Choice.{PlaceOf, Chosen, ChosenOf, Laid}
 use Rattle.search_node.specs.Letters.{CursorAt}
 
 -- the cursor of the pair that is chosen
-chosen-placed : (c : HeldChip) → Passed c → (p s : ℕ) (at : Cursor) → PlaceOf (c .macs) (c .n) (c .fixes) (c .k) p s at → s < p → CursorAt c s at
+chosen-placed : (c : HeldChip) → Passed c → (p s : ℕ) (at : Cursor) → PlaceOf (blocksOf c) p s at → s < p → CursorAt c s at
 unfolding chipOf
 chosen-placed c ok p s at o h = record {
   reached = record { i = near .0; j = near .1; fix = λ e. ok .fine .fix (at .j) (o .on h .fixes e .1) };
@@ -37,21 +39,24 @@ chosen-placed c ok p s at o h = record {
     near : (at .i < 8) × (at .j < 8)
     near = on-near (c .n) (c .k) at (o .on h) (ok .fine .macCount) (ok .fine .fixCount)
 
--- ---- the parts of a chip that the search reads: what is chosen of them is chosen of the chip
+-- ---- the blocks of a chip: what is chosen of them is chosen of the chip
 
-module _ (c : HeldChip) (parts : Parts) (q : PartsOf c parts) (ok : Passed c) (p : ℕ) (e : p ≡ letterCount (chipOf c)) (spots : List Spot) (r : ℕ) (at : Cursor) (h : ChosenOf (parts .macs) (parts .n) (parts .fixes) (parts .k) spots p r at) where
-  laid : Laid (parts .n) (parts .k) p
-  laid = rw (q .n, q .k) (record {
+module _ (c : HeldChip) (b : Blocks) (q : b ≡ blocksOf c) (ok : Passed c) (p : ℕ) (e : p ≡ letterCount (chipOf c)) (spots : List Spot) (r : ℕ) (at : Cursor) (h : ChosenOf b spots p r at) where
+  laid : Laid (c .n) (c .k) p
+  laid = record {
     few = ok .fine .macCount;
     fewFixes = ok .fine .fixCount;
     count = e ∙ rw (ok .macs, ok .fixes) (all-letters (c .n) (ok .fine .macCount) (c .k) (ok .fine .fixCount));
-  })
+  }
 
-  parts-chosen : Chosen (chipOf c) (take (c .n) spots) p r
-  parts-chosen = chip-chosen c spots p r (rw (q .macs, q .n, q .fixes, q .k) at (h .pair laid))
+  own : ChosenOf (blocksOf c) spots p r at
+  own = rw q at h
 
-  parts-place : PlaceOf (c .macs) (c .n) (c .fixes) (c .k) p r at
-  parts-place = rw (q .macs, q .n, q .fixes, q .k) at (h .place laid)
+  blocks-chosen : Chosen (chipOf c) (take (c .n) spots) p r
+  blocks-chosen = chip-chosen c spots p r (own .pair laid)
+
+  blocks-place : PlaceOf (blocksOf c) p r at
+  blocks-place = own .place laid
 
 -- ---- in the form of the needs
 
@@ -62,9 +67,9 @@ module _ (parts : Parts) (p : ℕ) (node : Node) (best : HeldRecord) (t : Bool) 
     branch = λ z. absurd (true≢false z);
   })
 
-  module _ (told : Told t (node .here)) (q : not t ≡ false) (s : ℕ) (at : Cursor) (h : ChosenOf (parts .macs) (parts .n) (parts .fixes) (parts .k) (node .here .spots) p s at) where
+  module _ (told : Told t (node .here)) (q : not t ≡ false) (s : ℕ) (at : Cursor) (h : ChosenOf (parts .blocks) (node .here .spots) p s at) where
     pair : (c : HeldChip) (tx ty : List ℕ) → Given c parts p tx ty node best → Chosen (chipOf c) (take (c .n) (node .here .spots)) p s
-    pair c tx ty g = parts-chosen c parts (g .reads) (g .passed) p (g .branch .letters .count) (node .here .spots) s at h
+    pair c tx ty g = blocks-chosen c (parts .blocks) (g .reads) (g .passed) p (g .branch .letters .count) (node .here .spots) s at h
 
     pub step-found : s ≡ p → (a : HeldRecord) → Better best (node .here) a → (r : Step) → r ≡ closedBy a → StepOk parts p node best r
     step-found z a w r e = rw e (record {
@@ -77,5 +82,5 @@ module _ (parts : Parts) (p : ℕ) (node : Node) (best : HeldRecord) (t : Bool) 
       closed = λ y. absurd (false≢true y);
       branch = λ _ c tx ty g.
           let o = chosen-open c p node best (g .passed) (g .branch) (g .counted) t told q s (pair c tx ty g) z in
-          record { free = o; on = chosen-placed c (g .passed) p s at (parts-place c parts (g .reads) (g .passed) p (g .branch .letters .count) (node .here .spots) s at h) (o .place) };
+          record { free = o; on = chosen-placed c (g .passed) p s at (blocks-place c (parts .blocks) (g .reads) (g .passed) p (g .branch .letters .count) (node .here .spots) s at h) (o .place) };
     }

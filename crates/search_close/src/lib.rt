@@ -31,27 +31,14 @@ fn is_found(best: Record) -> bool {
 
 // The pair that is chosen at a node; best is the best so far.
 fn chosen(parts: Parts, p: usize, node: Node, best: Record) -> Choice
-    ensures { λ r. ⌜ ChosenOf (parts .macs) (parts .n) (parts .fixes) (parts .k) (node .here .spots) p (r .s) (r .at) ⌝ }
+    ensures { λ r. ⌜ ChosenOf (parts .blocks) (node .here .spots) p (r .s) (r .at) ⌝ }
 {
-    let macs = parts.macs;
-    let fixes = parts.fixes;
     let weights = parts.weights;
     let kx = node.kx;
     let ky = node.ky;
     let here = node.here;
     let spots = here.spots;
-    choose(
-        macs,
-        parts.n,
-        fixes,
-        parts.k,
-        p,
-        weights,
-        &kx,
-        &ky,
-        is_found(best),
-        spots,
-    )
+    choose(parts.blocks, p, weights, &kx, &ky, is_found(best), spots)
 }
 
 // The branch is closed with an answer.

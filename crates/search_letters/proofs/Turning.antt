@@ -275,10 +275,10 @@ module _ (c : HeldChip) (p : ℕ) (node : Node) (s : ℕ) where
 
 module _ (c : HeldChip) (parts : Parts) (p : ℕ) (tx ty : List ℕ) (node : Node) (s : ℕ) (at : Cursor) (best : HeldRecord) where
   -- the slot that a letter asks
-  pub asked : Given c parts p tx ty node best → Turn c p node s at → (i : ℕ) → i < 4 → (u : Slot) → u ≡ slotAsked (parts .macs) (parts .fixes) at i → Asks c s i u
-  asked g w i h u e = asks-is c s at (w .on) i h u (rw (g .reads .macs, g .reads .fixes) at e)
+  pub asked : Given c parts p tx ty node best → Turn c p node s at → (i : ℕ) → i < 4 → (u : Slot) → u ≡ slotAsked (parts .blocks) at i → Asks c s i u
+  asked g w i h u e = asks-is c s at (w .on) i h u (rw (g .reads) at e)
 
-  module _ (i : ℕ) (u : Slot) (eu : u ≡ slotAsked (parts .macs) (parts .fixes) at i) (t : Left) where
+  module _ (i : ℕ) (u : Slot) (eu : u ≡ slotAsked (parts .blocks) at i) (t : Left) where
     pub one-excluded : (e : Bool) → ExcludedBy e i u (t .kx) (t .ky) → e ≡ true → TriedOne c parts p tx ty node s at i best t t
     one-excluded e x q = record { left = λ g w h o. tried-excluded c p node s (g .passed) (g .branch) (w .free) i u (asked g w i h u eu) t best o e x q }
 

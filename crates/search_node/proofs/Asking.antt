@@ -6,11 +6,11 @@ use native.Mathlib.Omega.{arith}
 use lib.ListN.{getD}
 use borrow.Author.Tests.{lt-ltb, le-ltb}
 use Rattle.model.specs.declared.Chip.{Chip as HeldChip}
-use Rattle.model.specs.declared.Fix.{Fix}
-use Rattle.model.specs.declared.Mac.{Mac}
+use Rattle.model.specs.declared.Blocks.{Blocks}
 use Rattle.model.specs.declared.Record.{Record as HeldRecord}
 use Rattle.model.specs.declared.Outcome.the-variants as outcome
 use Rattle.model.specs.Meaning.{chipOf}
+use Rattle.model.specs.Blocks.{blocksOf}
 use Rattle.placement.specs.Letters.{dot}
 use Rattle.axis_bounds.specs.declared.Slot.{Slot}
 use Rattle.fit_slots.specs.declared.Direction.{Direction}
@@ -43,8 +43,8 @@ asked-before (suc (suc zero)) a b = refl
 asked-before (suc (suc (suc zero))) a b = absurd (b refl)
 asked-before (suc (suc (suc (suc i)))) a b = refl
 
-pub slot-asked : (macs : List Mac) (fixes : List Fix) (at : Cursor) (i : ℕ) (k : Asked) (d : Direction) (r : Slot) → k ≡ askedAt i → d ≡ wayAt i → r ≡ slotRead d k macs fixes (at .fix) (at .i) (at .j) → r ≡ slotAsked macs fixes at i
-slot-asked macs fixes at i k d r e f q = q ∙ rw (e, f)
+pub slot-asked : (b : Blocks) (at : Cursor) (i : ℕ) (k : Asked) (d : Direction) (r : Slot) → k ≡ askedAt i → d ≡ wayAt i → r ≡ slotRead d k b (at .fix) (at .i) (at .j) → r ≡ slotAsked b at i
+slot-asked b at i k d r e f q = q ∙ rw (e, f)
 
 -- the direction of a letter, and what it asks in the other one
 pub way-of : (i : ℕ) → i < 4 → wayOf (letterAt i) ≡ wayAt i
@@ -71,10 +71,10 @@ letter-asks (suc (suc zero)) h q = refl
 letter-asks (suc (suc (suc zero))) h q = refl
 letter-asks (suc (suc (suc (suc i)))) h q = absurd (omega arith)
 
-pub asks-is : (c : HeldChip) (s : ℕ) (at : Cursor) → CursorAt c s at → (i : ℕ) → i < 4 → (t : Slot) → t ≡ slotAsked (c .macs) (c .fixes) at i → Asks c s i t
+pub asks-is : (c : HeldChip) (s : ℕ) (at : Cursor) → CursorAt c s at → (i : ℕ) → i < 4 → (t : Slot) → t ≡ slotAsked (blocksOf c) at i → Asks c s i t
 asks-is c s at p i h t e = record {
   four = h;
-  slot = e ∙ (slot-read (wayAt i) (askedAt i) (c .macs) (c .fixes) at (p .reached) ∙ (ap (heldSlot (wayAt i) (askedAt i)) (p .couple) ∙ letter-asks i h (getD (couples (chipOf c)) s noCouple)));
+  slot = e ∙ (slot-read (wayAt i) (askedAt i) (blocksOf c) at (p .reached) ∙ (ap (heldSlot (wayAt i) (askedAt i)) (p .couple) ∙ letter-asks i h (getD (couples (chipOf c)) s noCouple)));
 }
 
 -- ---- the room

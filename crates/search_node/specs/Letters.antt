@@ -6,8 +6,7 @@ use mathlib.Core.List.{List, [], _∷_}
 use lib.Dec.{ltb}
 use lib.ListN.{getD, take, replicate}
 use Rattle.model.specs.declared.Chip.{Chip as HeldChip}
-use Rattle.model.specs.declared.Mac.{Mac}
-use Rattle.model.specs.declared.Fix.{Fix}
+use Rattle.model.specs.declared.Blocks.{Blocks}
 use Rattle.model.specs.Meaning.{chipOf}
 use Rattle.placement.specs.Letters.{Letter}
 use Rattle.axis_bounds.specs.declared.Slot.{Slot}
@@ -56,8 +55,8 @@ abbrev pub askedAt : ℕ → Asked
 askedAt i = getD (before ∷ after ∷ before ∷ after ∷ []) i before
 
 -- the slot that letter i asks of the pair at hand
-abbrev pub slotAsked : List Mac → List Fix → Cursor → ℕ → Slot
-slotAsked macs fixes at i = slotRead (wayAt i) (askedAt i) macs fixes (at .fix) (at .i) (at .j)
+abbrev pub slotAsked : Blocks → Cursor → ℕ → Slot
+slotAsked b at i = slotRead (wayAt i) (askedAt i) b (at .fix) (at .i) (at .j)
 
 -- the cursor is at pair s
 pub record CursorAt (c : HeldChip) (s : ℕ) (at : Cursor) : Type 0 where

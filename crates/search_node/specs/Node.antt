@@ -9,6 +9,7 @@ use Rattle.model.specs.declared.Record.{Record as HeldRecord}
 use Rattle.model.specs.declared.Outcome.{Outcome}
 use Rattle.model.specs.declared.Outcome.the-variants as outcome
 use Rattle.model.specs.Meaning.{chipOf, blankSpot}
+use Rattle.model.specs.Blocks.{blocksOf}
 use Rattle.chip_text.specs.Passed.{Passed}
 use Rattle.placement.specs.Letters.{dot}
 use Rattle.placement.specs.Least.{nothing, found, fitOf}
@@ -44,13 +45,6 @@ roomOf (outcome.Least m n) other = m - other
 
 -- ---- a node
 
--- the parts that the search reads are those of the chip
-pub record PartsOf (c : HeldChip) (parts : Parts) : Type 0 where
-  pub n : parts .n ≡ c .n
-  pub k : parts .k ≡ c .k
-  pub macs : parts .macs ≡ c .macs
-  pub fixes : parts .fixes ≡ c .fixes
-
 -- the arrays stand for the chip
 pub record Arrayed (c : HeldChip) (tx ty : List ℕ) : Type 0 where
   pub x : Tabled horizontal (chipOf c) tx
@@ -81,7 +75,7 @@ pub record Open (c : HeldChip) (p : ℕ) (node : Node) (s : ℕ) : Type 0 where
 -- a branch of a chip whose test is passed, with the arrays of the chip, and the best so far
 pub record Given (c : HeldChip) (parts : Parts) (p : ℕ) (tx ty : List ℕ) (node : Node) (best : HeldRecord) : Type 0 where
   pub passed : Passed c
-  pub reads : PartsOf c parts
+  pub reads : parts .blocks ≡ blocksOf c
   pub arrays : Arrayed c tx ty
   pub branch : NodeOk c p node
   pub counted : Counted (c .n) best

@@ -4,7 +4,7 @@ use fit_pair_slots::slot_at;
 use fit_pairs::Cursor;
 use fit_slots::Asked;
 use fit_slots::Direction;
-use model::Fix;
+use model::Blocks;
 use model::Mac;
 use model::Outcome;
 use model::Record;
@@ -20,12 +20,9 @@ ghost use Rattle.search_node.specs.Node.{noRecord, lengthOf, roomOf};
 // Room for the letters of a chip: at most 92 today, and 120 with 12 more fixes.
 pub const LETTERS: usize = 120;
 
-// What the search reads of a chip: its macros, its fixes, and the weight of each macro's nets.
+// What the search reads of a chip: its blocks, and the weight of each macro's nets.
 pub struct Parts {
-    pub n: usize,
-    pub k: usize,
-    pub macs: [Mac; Mac::COUNT],
-    pub fixes: [Fix; Fix::COUNT],
+    pub blocks: Blocks,
     pub weights: [u64; Mac::COUNT],
 }
 
@@ -145,9 +142,7 @@ fn asked(i: usize) -> Asked
 
 // The slot that letter i asks of the pair at hand.
 pub fn letter_slot(parts: Parts, at: Cursor, i: usize) -> Slot
-    ensures { λ r. ⌜ r ≡ slotAsked (parts .macs) (parts .fixes) at i ⌝ }
+    ensures { λ r. ⌜ r ≡ slotAsked (parts .blocks) at i ⌝ }
 {
-    let macs = parts.macs;
-    let fixes = parts.fixes;
-    slot_at(at, asked(i), macs, fixes, way(i))
+    slot_at(parts.blocks, at, asked(i), way(i))
 }

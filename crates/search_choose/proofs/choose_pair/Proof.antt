@@ -5,10 +5,10 @@ use Rattle.search_choose.proofs.choose_pair.Statement.{statement}
 use Rattle.search_choose.proofs.choose_pair.Tie as tie
 
 abbrev Inv-loop : tie.InvT-loop
-Inv-loop macs n fixes k p weights kx ky found spots best₀ most₀ at₀ on₀ s₀ best most at on s = (s ≤ p) × Seen macs n fixes k spots p at s best on most
+Inv-loop blocks p weights kx ky found spots n k best₀ most₀ at₀ on₀ s₀ best most at on s = (s ≤ p) × Seen blocks spots p at s best on most
 
 abbrev μ-loop : tie.MeasureT-loop
-μ-loop macs n fixes k p weights kx ky found spots best₀ most₀ at₀ on₀ s₀ best most at on s = p - s
+μ-loop blocks p weights kx ky found spots n k best₀ most₀ at₀ on₀ s₀ best most at on s = p - s
 
 first-pair-requires : tie.Need-first-pair-requires Inv-loop μ-loop
 first-pair-requires c κs = search needs

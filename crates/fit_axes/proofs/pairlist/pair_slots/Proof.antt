@@ -7,10 +7,13 @@ use Rattle.fit_axes.proofs.pairlist.pair_slots.Tie as tie
 
 -- s slots are written, and the cursor is at the pair of letter s
 abbrev Inv-loop : tie.InvT-loop
-Inv-loop c letters d macs fixes pairs₀ at₀ s₀ pairs at s = (s ≤ 120) × (s ≤ length letters) × Writing c letters d pairs at s
+Inv-loop c letters d blocks pairs₀ at₀ s₀ pairs at s = (s ≤ 120) × (s ≤ length letters) × Writing c letters d pairs at s
 
 abbrev μ-loop : tie.MeasureT-loop
-μ-loop c letters d macs fixes pairs₀ at₀ s₀ pairs at s = 120 - s
+μ-loop c letters d blocks pairs₀ at₀ s₀ pairs at s = 120 - s
+
+blocks-of-requires : tie.Need-blocks-of-requires Inv-loop μ-loop
+blocks-of-requires c κs = search needs
 
 first-pair-requires : tie.Need-first-pair-requires Inv-loop μ-loop
 first-pair-requires c κs = search needs
@@ -57,6 +60,7 @@ pair-slots-spec =
     (tie.spec
     Inv-loop
     μ-loop
+    blocks-of-requires
     first-pair-requires
     loop-holds
     returns

@@ -1,7 +1,7 @@
-use Rattle.measure_held.proofs.Answers.{boxes-legal}
+use Rattle.legal.proofs.InTurn.{boxes-legal}
 use borrow.Author.Needs.{needs}
-use Rattle.measure_held.proofs.is_legal.Statement.{statement}
-use Rattle.measure_held.proofs.is_legal.Tie as tie
+use Rattle.legal.proofs.is_legal.Statement.{statement}
+use Rattle.legal.proofs.is_legal.Tie as tie
 
 boxes-at-requires : tie.Need-boxes-at-requires
 boxes-at-requires c κs = search needs
