@@ -58,15 +58,15 @@ module _ (c : HeldChip) (e : c ≡ heldChip (start .chip)) where
 
 -- ---- a line
 
-module _ (text : List ℕ) (a : ℕ) (s : State) (t : Taken) (line : ℕ) (h : a < length text) (left : Left chipKind start text (partOf s) a line) (ok : TakenOk t line (stepLine chipKind (partOf s) (lineAt text a (lineEnd text a)))) where
+module _ (text : List ℕ) (a : ℕ) (s : State) (t : Taken) (line : ℕ) (h : a < length text) (left : Left chipKind start text (partOf s) a line) (z : ℕ) (e : z ≡ lineEnd text a) (ok : TakenOk t line (stepLine chipKind (partOf s) (lineAt text a z))) where
   pub line-fails : (f : Refusal) → t .fault ≡ held.Refused f → refused (f .no) (f .line) ≡ readChip text
   unfolding readChip
   line-fails f g =
       let own : f .line ≡ line = rw g at (ok .ok .at) in
-      rw own (ap (partRead (λ (s : Part). s .chip)) (text-fails chipKind start text (partOf s) a line left (lineEnd text a) refl h (f .no) (rw g at (ok .ok .meant))))
+      rw own (ap (partRead (λ (s : Part). s .chip)) (text-fails chipKind start text (partOf s) a line left z e h (f .no) (rw g at (ok .ok .meant))))
 
-  pub line-read : (z : ℕ) → z ≡ lineEnd text a → t .fault ≡ held.Clear → Left chipKind start text (partOf (t .state)) (z + 1) (line + 1)
-  line-read z e g = rw e (text-goes-on chipKind start text (partOf s) a line left (lineEnd text a) refl h (partOf (t .state)) (rw g at (ok .ok .meant)))
+  pub line-read : t .fault ≡ held.Clear → Left chipKind start text (partOf (t .state)) (z + 1) (line + 1)
+  line-read g = text-goes-on chipKind start text (partOf s) a line left z e h (partOf (t .state)) (rw g at (ok .ok .meant))
 
 -- ---- after the last line
 

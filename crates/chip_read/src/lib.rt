@@ -16,14 +16,17 @@ use model::PinMade;
 use model::Refusal;
 use model::TEXT_MOST;
 use text_line::Fault;
+use text_line::Fields;
 ghost use mathlib.Core.Path.{_≡_};
 ghost use Rattle.model.specs.Limits.{mostBytes};
 ghost use Rattle.model.specs.Held.{heldChip};
 ghost use Prim.Native.Nat.{_≤_, _<_};
-ghost use lib.ListN.{length};
+ghost use lib.ListN.{length, drop};
 ghost use Rattle.text_grammar.specs.Reading.{stepLine, partRead};
-ghost use Rattle.text_grammar.specs.Steps.{ending, Entered, ReadAs, lineEnd, lineAt};
-ghost use Rattle.chip_text.specs.Words.{chipWords};
+ghost use Rattle.text_grammar.specs.Steps.{ending, Entered, ReadAs, lineAt};
+ghost use Rattle.text_grammar.specs.Line.{fields};
+ghost use Rattle.model.specs.Step.{onNext};
+ghost use Rattle.chip_text.specs.Words.{form, chipWords};
 ghost use Rattle.chip_text.specs.Kind.{addFix, add, chipKind, Part, start};
 ghost use Rattle.chip_text.specs.Text.{readChip};
 ghost use Rattle.chip_read.specs.State.{Sound, partOf, chipValues, withFault, withChip, TakenOk, refusedAt, ReadOk};
@@ -235,10 +238,28 @@ fn add_item(s: State, w: ChipWord, v: [u64; 4], line: usize) -> Taken
     }
 }
 
-// What the line that begins at a leads to.
-fn next_line(text: &[u8], a: usize, s: State, line: usize) -> Taken
+// What a line with the word w adds, by its bytes, of which the word has the first `size`; or its fault.
+fn add_line(bytes: &[u8], size: usize, s: State, w: ChipWord, line: usize) -> Taken
     requires { ⌜ Sound s ⌝ }
-    ensures { λ r. ⌜ TakenOk r line (stepLine chipKind (partOf s) (lineAt (now (text .entry)) a (lineEnd (now (text .entry)) a))) ⌝ }
+    requires { ⌜ Entered chipKind (partOf s) w ⌝ }
+    requires { ⌜ size ≤ length (now bytes) ⌝ }
+    ensures { λ r. ⌜ TakenOk r line (onNext (fields (form w) (drop size (now (bytes .entry)))) (add (partOf s) w)) ⌝ }
+{
+    let layout = chip_words::layout_of(w);
+    let fields = text_line::read_fields(&bytes[size..], layout, line);
+    let answer = fields.answer;
+    let values = fields.values;
+    match answer {
+        Fields::Got => add_item(s, w, values, line),
+        Fields::Refused(f) => with_fault(s, f),
+    }
+}
+
+// What the line from a to e, where its LF stands, leads to.
+fn next_line(text: &[u8], a: usize, e: usize, s: State, line: usize) -> Taken
+    requires { ⌜ Sound s ⌝ }
+    requires { ⌜ a ≤ e ⌝ }
+    ensures { λ r. ⌜ TakenOk r line (stepLine chipKind (partOf s) (lineAt (now (text .entry)) a e)) ⌝ }
 {
     let last = s.last;
     let held = Counts {
@@ -249,12 +270,13 @@ fn next_line(text: &[u8], a: usize, s: State, line: usize) -> Taken
     };
     let tests = chip_words::entry_tests(last, held);
     let spellings = chip_words::spellings();
-    let layouts = chip_words::layouts();
-    let walked = text_walk::next_line(text, a, spellings, layouts, chip_words::COUNT, tests, line);
+    let walked = text_walk::next_word(text, a, e, spellings, chip_words::COUNT, tests, line);
     let fault = walked.fault;
-    let values = walked.values;
     match fault {
-        Fault::Clear => add_item(s, chip_words::word_at(walked.word), values, line),
+        Fault::Clear => {
+            let w = chip_words::word_at(walked.word);
+            add_line(&text[a..e], walked.size, s, w, line)
+        }
         Fault::Refused(f) => with_fault(s, f),
     }
 }
@@ -300,7 +322,7 @@ fn read_lines(text: &[u8]) -> ChipRead
     let mut line = text_grammar::first_line();
     while a < text.len() {
         let e = text_line::line_end(text, a);
-        let taken = next_line(text, a, s, line);
+        let taken = next_line(text, a, e, s, line);
         let fault = taken.fault;
         s = taken.state;
         match fault {

@@ -5,30 +5,23 @@ use mathlib.Core.List.{List, [], _∷_}
 use Prim.Native.Nat.{ℕ, zero, suc, _≤_, _<_}
 use native.Mathlib.Omega.{arith}
 use lib.ListN.{getD}
-use Rattle.text_grammar.specs.Line.{over}
 use Rattle.text_grammar.specs.declared.Following.{Following}
 use Rattle.text_grammar.specs.Steps.{entryFault}
 use Rattle.text_line.specs.declared.Spelling.{Spelling}
-use Rattle.text_line.specs.declared.Layout.{Layout}
 use Rattle.text_line.specs.Held.{spelled}
-use Rattle.text_line.specs.Layout.{layoutFor}
 use Rattle.text_walk.specs.declared.Tests.{Tests}
-use Rattle.text_walk.specs.Walk.{blankLayout, faultAt}
+use Rattle.text_walk.specs.Walk.{faultAt}
 use Rattle.text_walk.proofs.Means.{TableOf, FaultsOf}
 use Rattle.chip_text.specs.declared.ChipWord.{ChipWord}
 use Rattle.chip_text.specs.declared.ChipWord.the-variants as word
-use Rattle.chip_text.specs.Words.{spell, form, chipWords}
+use Rattle.chip_text.specs.Words.{spell, chipWords}
 use Rattle.chip_text.specs.Kind.{Part, Counts, countsOf, chipKind}
 use Rattle.text_grammar.specs.Reading.{Last}
 use Rattle.chip_text.specs.Tests.{chipFollowing, chipRooms}
-use Rattle.chip_words.specs.Meant.{chipSpellings, chipLayouts, chipTests}
-use Rattle.chip_words.proofs.Words.{laying}
+use Rattle.chip_words.specs.Meant.{chipSpellings, chipTests}
 
 pub all-spelled : (z a b c e f g : Spelling) → z ≡ spelled [] → a ≡ spelled (spell word.Die) → b ≡ spelled (spell word.Fix) → c ≡ spelled (spell word.Mac) → e ≡ spelled (spell word.Net) → f ≡ spelled (spell word.Pin) → g ≡ spelled (spell word.End) → (a ∷ b ∷ c ∷ e ∷ f ∷ g ∷ z ∷ z ∷ []) ≡ chipSpellings
 all-spelled z a b c e f g ez ea eb ec ee ef eg = rw (ez, ea, eb, ec, ee, ef, eg)
-
-pub all-laid : (z a b c e f g : Layout) → z ≡ layoutFor over → a ≡ layoutFor (form word.Die) → b ≡ layoutFor (form word.Fix) → c ≡ layoutFor (form word.Mac) → e ≡ layoutFor (form word.Net) → f ≡ layoutFor (form word.Pin) → g ≡ layoutFor (form word.End) → (a ∷ b ∷ c ∷ e ∷ f ∷ g ∷ z ∷ z ∷ []) ≡ chipLayouts
-all-laid z a b c e f g ez ea eb ec ee ef eg = rw (ez, ea, eb, ec, ee, ef, eg)
 
 pub all-tests : (l : Last ChipWord) (c : Counts) (f : Following) (rs : List Bool) → f ≡ chipFollowing l → rs ≡ chipRooms c → record { placed = f .placed; room = rs; pinned = f .pinned } ≡ chipTests l c
 all-tests l c f rs ef er = rw (ef, er)
@@ -43,17 +36,8 @@ past-last (suc (suc (suc (suc zero)))) h = absurd (omega arith)
 past-last (suc (suc (suc (suc (suc zero))))) h = absurd (omega arith)
 past-last (suc (suc (suc (suc (suc (suc i)))))) h = refl
 
-pub table-of : (ps : List Spelling) (ys : List Layout) → ps ≡ chipSpellings → ys ≡ chipLayouts → TableOf chipKind word.Die ps ys 6
-table-of ps ys e q = rw (e, q) (record { spells = refl; laid = by; lays = laying })
-  where
-    by : (i : ℕ) → i < 6 → getD chipLayouts i blankLayout ≡ layoutFor (form (getD (chipWords .all) i word.Die))
-    by zero h = refl
-    by (suc zero) h = refl
-    by (suc (suc zero)) h = refl
-    by (suc (suc (suc zero))) h = refl
-    by (suc (suc (suc (suc zero)))) h = refl
-    by (suc (suc (suc (suc (suc zero))))) h = refl
-    by (suc (suc (suc (suc (suc (suc i)))))) h = absurd (omega arith)
+pub table-of : (ps : List Spelling) → ps ≡ chipSpellings → TableOf chipKind word.Die ps 6
+table-of ps e = rw e (record { spells = refl })
 
 -- the tests of word i
 fault-is : (s : Part) (i : ℕ) → i < 6 → faultAt (chipTests (s .last) (countsOf (s .chip))) i ≡ entryFault chipKind s (getD (chipWords .all) i word.Die)

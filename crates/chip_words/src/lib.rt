@@ -18,7 +18,7 @@ ghost use Rattle.text_line.specs.Held.{spelled};
 ghost use Rattle.text_line.specs.Layout.{shortRule, laidOut, layoutFor};
 ghost use Rattle.chip_text.specs.Words.{spell, form, chipWords};
 ghost use Rattle.chip_text.specs.Tests.{lastOf, countsIn};
-ghost use Rattle.chip_words.specs.Meant.{chipSpellings, chipLayouts, chipTests};
+ghost use Rattle.chip_words.specs.Meant.{chipSpellings, chipTests};
 
 // How many words chip files have.
 pub const COUNT: usize = 6;
@@ -145,20 +145,6 @@ pub fn layout_of(w: ChipWord) -> Layout
         ChipWord::Pin => pin_fields(),
         ChipWord::End => text_line::no_fields(),
     }
-}
-
-// The layouts of all words in their order; no field past the last.
-pub fn layouts() -> [Layout; WORDS]
-    ensures { λ r. ⌜ r ≡ chipLayouts ⌝ }
-{
-    let blank = text_line::no_fields();
-    let die = layout_of(ChipWord::Die);
-    let fix = layout_of(ChipWord::Fix);
-    let mac = layout_of(ChipWord::Mac);
-    let net = layout_of(ChipWord::Net);
-    let pin = layout_of(ChipWord::Pin);
-    let end = layout_of(ChipWord::End);
-    [die, fix, mac, net, pin, end, blank, blank]
 }
 
 // The tests before the fields of a line, by word.

@@ -45,15 +45,15 @@ all-left text h l q = rw q (text-left recordKind start text h)
 
 -- ---- a line
 
-module _ (text : List ℕ) (a : ℕ) (s : State) (t : Taken) (line : ℕ) (h : a < length text) (left : Left recordKind start text (partOf s) a line) (ok : TakenOk t line (stepLine recordKind (partOf s) (lineAt text a (lineEnd text a)))) where
+module _ (text : List ℕ) (a : ℕ) (s : State) (t : Taken) (line : ℕ) (h : a < length text) (left : Left recordKind start text (partOf s) a line) (z : ℕ) (e : z ≡ lineEnd text a) (ok : TakenOk t line (stepLine recordKind (partOf s) (lineAt text a z))) where
   pub line-fails : (f : Refusal) → t .fault ≡ held.Refused f → refused (f .no) (f .line) ≡ readRecord text
   unfolding readRecord
   line-fails f g =
       let own : f .line ≡ line = rw g at (ok .ok .at) in
-      rw own (ap (partRead (λ (s : Part). s .result)) (text-fails recordKind start text (partOf s) a line left (lineEnd text a) refl h (f .no) (rw g at (ok .ok .meant))))
+      rw own (ap (partRead (λ (s : Part). s .result)) (text-fails recordKind start text (partOf s) a line left z e h (f .no) (rw g at (ok .ok .meant))))
 
-  pub line-read : (z : ℕ) → z ≡ lineEnd text a → t .fault ≡ held.Clear → Left recordKind start text (partOf (t .state)) (z + 1) (line + 1)
-  line-read z e g = rw e (text-goes-on recordKind start text (partOf s) a line left (lineEnd text a) refl h (partOf (t .state)) (rw g at (ok .ok .meant)))
+  pub line-read : t .fault ≡ held.Clear → Left recordKind start text (partOf (t .state)) (z + 1) (line + 1)
+  line-read g = text-goes-on recordKind start text (partOf s) a line left z e h (partOf (t .state)) (rw g at (ok .ok .meant))
 
 -- ---- after the last line
 

@@ -9,14 +9,17 @@ use model::TEXT_MOST;
 use record_text::RecordLast;
 use record_text::RecordWord;
 use text_line::Fault;
+use text_line::Fields;
 ghost use mathlib.Core.Path.{_≡_};
 ghost use Prim.Native.Nat.{_≤_, _<_};
-ghost use lib.ListN.{length, replicate};
+ghost use lib.ListN.{length, drop, replicate};
 ghost use Rattle.model.specs.Limits.{mostBytes, mostMacs};
 ghost use Rattle.model.specs.Meaning.{blankSpot};
 ghost use Rattle.text_grammar.specs.Reading.{stepLine, partRead};
-ghost use Rattle.text_grammar.specs.Steps.{ending, Entered, ReadAs, lineEnd, lineAt};
-ghost use Rattle.record_text.specs.Words.{recordWords};
+ghost use Rattle.text_grammar.specs.Steps.{ending, Entered, ReadAs, lineAt};
+ghost use Rattle.text_grammar.specs.Line.{fields};
+ghost use Rattle.model.specs.Step.{onNext};
+ghost use Rattle.record_text.specs.Words.{form, recordWords};
 ghost use Rattle.record_text.specs.Kind.{add, recordKind, Part};
 ghost use Rattle.record_text.specs.Text.{readRecord};
 ghost use Rattle.record_read.specs.State.{Sound, partOf, recordValues, withFault, TakenOk, RecordIs, refusedAt, ReadOk};
@@ -165,28 +168,39 @@ fn add_item(s: State, w: RecordWord, v: [u64; 4], line: usize) -> Taken
     }
 }
 
-// What the line that begins at a leads to.
-fn next_line(text: &[u8], a: usize, s: State, line: usize) -> Taken
+// What a line with the word w adds, by its bytes, of which the word has the first `size`; or its fault.
+fn add_line(bytes: &[u8], size: usize, s: State, w: RecordWord, line: usize) -> Taken
     requires { ⌜ Sound s ⌝ }
-    ensures { λ r. ⌜ TakenOk r line (stepLine recordKind (partOf s) (lineAt (now (text .entry)) a (lineEnd (now (text .entry)) a))) ⌝ }
+    requires { ⌜ Entered recordKind (partOf s) w ⌝ }
+    requires { ⌜ size ≤ length (now bytes) ⌝ }
+    ensures { λ r. ⌜ TakenOk r line (onNext (fields (form w) (drop size (now (bytes .entry)))) (add (partOf s) w)) ⌝ }
+{
+    let layout = record_words::layout_of(w);
+    let fields = text_line::read_fields(&bytes[size..], layout, line);
+    let answer = fields.answer;
+    let values = fields.values;
+    match answer {
+        Fields::Got => add_item(s, w, values, line),
+        Fields::Refused(f) => with_fault(s, f),
+    }
+}
+
+// What the line from a to e, where its LF stands, leads to.
+fn next_line(text: &[u8], a: usize, e: usize, s: State, line: usize) -> Taken
+    requires { ⌜ Sound s ⌝ }
+    requires { ⌜ a ≤ e ⌝ }
+    ensures { λ r. ⌜ TakenOk r line (stepLine recordKind (partOf s) (lineAt (now (text .entry)) a e)) ⌝ }
 {
     let last = s.last;
     let tests = record_words::entry_tests(last, s.count);
     let spellings = record_words::spellings();
-    let layouts = record_words::layouts();
-    let walked = text_walk::next_line(
-        text,
-        a,
-        spellings,
-        layouts,
-        record_words::COUNT,
-        tests,
-        line,
-    );
+    let walked = text_walk::next_word(text, a, e, spellings, record_words::COUNT, tests, line);
     let fault = walked.fault;
-    let values = walked.values;
     match fault {
-        Fault::Clear => add_item(s, record_words::word_at(walked.word), values, line),
+        Fault::Clear => {
+            let w = record_words::word_at(walked.word);
+            add_line(&text[a..e], walked.size, s, w, line)
+        }
         Fault::Refused(f) => with_fault(s, f),
     }
 }
@@ -256,7 +270,7 @@ fn read_lines(text: &[u8]) -> RecordRead
     let mut line = text_grammar::first_line();
     while a < text.len() {
         let e = text_line::line_end(text, a);
-        let taken = next_line(text, a, s, line);
+        let taken = next_line(text, a, e, s, line);
         let fault = taken.fault;
         s = taken.state;
         match fault {

@@ -5,30 +5,23 @@ use mathlib.Core.List.{List, [], _∷_}
 use Prim.Native.Nat.{ℕ, zero, suc, _≤_, _<_}
 use native.Mathlib.Omega.{arith}
 use lib.ListN.{length, getD}
-use Rattle.text_grammar.specs.Line.{over}
 use Rattle.text_grammar.specs.declared.Following.{Following}
 use Rattle.text_grammar.specs.Steps.{entryFault}
 use Rattle.text_line.specs.declared.Spelling.{Spelling}
-use Rattle.text_line.specs.declared.Layout.{Layout}
 use Rattle.text_line.specs.Held.{spelled}
-use Rattle.text_line.specs.Layout.{layoutFor}
 use Rattle.text_walk.specs.declared.Tests.{Tests}
-use Rattle.text_walk.specs.Walk.{blankLayout, faultAt}
+use Rattle.text_walk.specs.Walk.{faultAt}
 use Rattle.text_walk.proofs.Means.{TableOf, FaultsOf}
 use Rattle.record_text.specs.declared.RecordWord.{RecordWord}
 use Rattle.record_text.specs.declared.RecordWord.the-variants as word
-use Rattle.record_text.specs.Words.{spell, form, recordWords}
+use Rattle.record_text.specs.Words.{spell, recordWords}
 use Rattle.record_text.specs.Kind.{Part, spotsOf, recordKind}
 use Rattle.text_grammar.specs.Reading.{Last}
 use Rattle.record_text.specs.Tests.{recordFollowing, recordRooms}
-use Rattle.record_words.specs.Meant.{recordSpellings, recordLayouts, recordTests}
-use Rattle.record_words.proofs.Words.{laying}
+use Rattle.record_words.specs.Meant.{recordSpellings, recordTests}
 
 pub all-spelled : (z a b c e : Spelling) → z ≡ spelled [] → a ≡ spelled (spell word.Least) → b ≡ spelled (spell word.None) → c ≡ spelled (spell word.At) → e ≡ spelled (spell word.Done) → (a ∷ b ∷ c ∷ e ∷ z ∷ z ∷ z ∷ z ∷ []) ≡ recordSpellings
 all-spelled z a b c e ez ea eb ec ee = rw (ez, ea, eb, ec, ee)
-
-pub all-laid : (z a b c e : Layout) → z ≡ layoutFor over → a ≡ layoutFor (form word.Least) → b ≡ layoutFor (form word.None) → c ≡ layoutFor (form word.At) → e ≡ layoutFor (form word.Done) → (a ∷ b ∷ c ∷ e ∷ z ∷ z ∷ z ∷ z ∷ []) ≡ recordLayouts
-all-laid z a b c e ez ea eb ec ee = rw (ez, ea, eb, ec, ee)
 
 pub all-tests : (l : Last RecordWord) (n : ℕ) (f : Following) (rs : List Bool) → f ≡ recordFollowing l → rs ≡ recordRooms n → record { placed = f .placed; room = rs; pinned = f .pinned } ≡ recordTests l n
 all-tests l n f rs ef er = rw (ef, er)
@@ -41,15 +34,8 @@ past-last (suc (suc zero)) h = absurd (omega arith)
 past-last (suc (suc (suc zero))) h = absurd (omega arith)
 past-last (suc (suc (suc (suc i)))) h = refl
 
-pub table-of : (ps : List Spelling) (ys : List Layout) → ps ≡ recordSpellings → ys ≡ recordLayouts → TableOf recordKind word.Least ps ys 4
-table-of ps ys e q = rw (e, q) (record { spells = refl; laid = by; lays = laying })
-  where
-    by : (i : ℕ) → i < 4 → getD recordLayouts i blankLayout ≡ layoutFor (form (getD (recordWords .all) i word.Least))
-    by zero h = refl
-    by (suc zero) h = refl
-    by (suc (suc zero)) h = refl
-    by (suc (suc (suc zero))) h = refl
-    by (suc (suc (suc (suc i)))) h = absurd (omega arith)
+pub table-of : (ps : List Spelling) → ps ≡ recordSpellings → TableOf recordKind word.Least ps 4
+table-of ps e = rw e (record { spells = refl })
 
 -- the tests of word i
 fault-is : (s : Part) (i : ℕ) → i < 4 → faultAt (recordTests (s .last) (length (spotsOf (s .result)))) i ≡ entryFault recordKind s (getD (recordWords .all) i word.Least)

@@ -15,7 +15,7 @@ ghost use Rattle.text_line.specs.Held.{spelled};
 ghost use Rattle.text_line.specs.Layout.{layoutFor};
 ghost use Rattle.record_text.specs.Words.{spell, form, recordWords};
 ghost use Rattle.record_text.specs.Tests.{lastOf};
-ghost use Rattle.record_words.specs.Meant.{recordSpellings, recordLayouts, recordTests};
+ghost use Rattle.record_words.specs.Meant.{recordSpellings, recordTests};
 
 // How many words records have.
 pub const COUNT: usize = 4;
@@ -107,18 +107,6 @@ pub fn layout_of(w: RecordWord) -> Layout
         RecordWord::At => at_fields(),
         RecordWord::Done => text_line::no_fields(),
     }
-}
-
-// The layouts of all words in their order; no field past the last.
-pub fn layouts() -> [Layout; WORDS]
-    ensures { λ r. ⌜ r ≡ recordLayouts ⌝ }
-{
-    let blank = text_line::no_fields();
-    let least = layout_of(RecordWord::Least);
-    let none_word = layout_of(RecordWord::None);
-    let at = layout_of(RecordWord::At);
-    let done = layout_of(RecordWord::Done);
-    [least, none_word, at, done, blank, blank, blank, blank]
 }
 
 // The tests before the fields of a line, by word.

@@ -4,6 +4,7 @@ use model::Refusal;
 use text_grammar::ABSENT;
 use text_grammar::WORDS;
 use text_line::Fault;
+use text_line::Fields;
 
 // Prints the values of a line, as held.
 fn show_values(v: [u64; 4]) {
@@ -19,18 +20,15 @@ fn show_values(v: [u64; 4]) {
     }
 }
 
-// Prints the line of word i with the values v, which were read from these bytes.
-fn write_back(i: usize, bytes: &[u8], v: [u64; 4]) {
+// Prints the line of word i with the values v, which were read from the bytes after the word.
+fn write_back(i: usize, rest: &[u8], v: [u64; 4]) {
     if WORDS <= i {
         return;
     }
-    let b = text_line::bytes_before(bytes, 44);
     let spellings = sample::spellings();
-    let layouts = sample::layouts();
     let word = spellings[i];
-    let layout = layouts[i];
     let mut out = [0u8; 128];
-    let n = text_put::put_line(&mut out, 0, word, layout, &bytes[b..], v);
+    let n = text_put::put_line(&mut out, 0, word, sample::layout_at(i), rest, v);
     if n <= 128 {
         io::write_all(1, &out[0..n]);
     }
@@ -44,20 +42,33 @@ fn show_refusal(f: Refusal) {
     io::write_all(1, b"\n");
 }
 
-// The line that begins at a.
-fn show_line(text: &[u8], a: usize, line: usize) {
+// The fields of a line with word i, which has the first `size` of its bytes.
+fn show_fields(bytes: &[u8], i: usize, size: usize, line: usize) {
+    if bytes.len() < size {
+        return;
+    }
+    let fields = text_line::read_fields(&bytes[size..], sample::layout_at(i), line);
+    let answer = fields.answer;
+    let values = fields.values;
+    match answer {
+        Fields::Got => {
+            show_values(values);
+            write_back(i, &bytes[size..], values);
+        }
+        Fields::Refused(f) => show_refusal(f),
+    }
+}
+
+// The line from a to `end`.
+fn show_line(text: &[u8], a: usize, end: usize, line: usize) {
     let spellings = sample::spellings();
-    let layouts = sample::layouts();
     let tests = sample::tests();
-    let walked = text_walk::next_line(text, a, spellings, layouts, sample::COUNT, tests, line);
+    let walked = text_walk::next_word(text, a, end, spellings, sample::COUNT, tests, line);
     let fault = walked.fault;
-    let values = walked.values;
     match fault {
         Fault::Clear => {
-            show_values(values);
-            let end = text_line::line_end(text, a);
-            if a <= end {
-                write_back(walked.word, &text[a..end], values);
+            if a <= end && end <= text.len() {
+                show_fields(&text[a..end], walked.word, walked.size, line);
             }
         }
         Fault::Refused(f) => show_refusal(f),
@@ -69,8 +80,9 @@ pub(crate) fn run(text: &[u8]) {
     let mut a: usize = 0;
     let mut line: usize = 1;
     while a < text.len() {
-        show_line(text, a, line);
-        a = text_line::line_end(text, a) + 1;
+        let end = text_line::line_end(text, a);
+        show_line(text, a, end, line);
+        a = end + 1;
         line += 1;
     }
 }

@@ -9,3 +9,4 @@ pub mod AllFields
 pub mod Limits
 pub mod Find
 pub mod Layouts
+pub mod Worded

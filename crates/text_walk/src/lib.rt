@@ -1,16 +1,12 @@
-// The walk through the lines of a text, for any kind of text: the end of a line, its word, the tests before its fields, and its fields.
+// The walk through a line as far as its fields, for any kind of text: its LF, its word, and the tests before its fields.
 use model::Refusal;
 use text_grammar::WORDS;
 use text_line::Fault;
-use text_line::Fields;
-use text_line::Layout;
 use text_line::Spelling;
 ghost use mathlib.Core.Path.{_≡_};
-ghost use lib.ListN.{take, getD};
-ghost use Prim.Native.Nat.{_<_};
-ghost use Rattle.text_grammar.specs.Line.{comma, from};
-ghost use Rattle.text_grammar.specs.Steps.{lineEnd, lineAt};
-ghost use Rattle.text_walk.specs.Walk.{findIn, blankLayout, walkFields, walkBytes, stoppedAt, WalkOk, WalkedOk};
+ghost use lib.ListN.{take};
+ghost use Rattle.text_grammar.specs.Steps.{lineAt};
+ghost use Rattle.text_walk.specs.Walk.{findIn, walkBytes, stoppedAt, WalkOk, WalkedOk};
 
 // The tests before the fields of a line, by word: place, count, and whether the net above has a pin.
 pub struct Tests {
@@ -19,11 +15,11 @@ pub struct Tests {
     pub pinned: [bool; WORDS],
 }
 
-// A line: its fault, or the number of its word and the values of its fields, as held; the place of a string is that in the bytes after the word.
-pub struct LineWalked {
+// A line as far as its word: its fault, or the number of its word and how many bytes that has.
+pub struct WordWalked {
     pub fault: Fault,
     pub word: usize,
-    pub values: [u64; 4],
+    pub size: usize,
 }
 
 // The number of the first of the first `count` spellings that s is, or how many they are.
@@ -46,48 +42,28 @@ fn find_word(s: &[u8], spellings: [Spelling; WORDS], count: usize) -> usize
 }
 
 // A line with a fault.
-fn stopped(f: Refusal) -> LineWalked
+fn stopped(f: Refusal) -> WordWalked
     ensures { λ r. ⌜ r ≡ stoppedAt f ⌝ }
 {
-    LineWalked {
+    WordWalked {
         fault: Fault::Refused(f),
         word: 0,
-        values: [0; 4],
+        size: 0,
     }
 }
 
-// A line with word i, by the bytes after the word.
-fn walk_fields(rest: &[u8], layouts: [Layout; WORDS], i: usize, line: usize) -> LineWalked
-    requires { ⌜ i < 8 ⌝ }
-    ensures { λ r. ⌜ WalkOk layouts line (now (rest .entry)) (walkFields (getD layouts i blankLayout) i line (now (rest .entry))) r ⌝ }
-{
-    let layout = layouts[i];
-    let fields = text_line::read_fields(rest, layout, line);
-    let answer = fields.answer;
-    let values = fields.values;
-    match answer {
-        Fields::Got => LineWalked {
-            fault: Fault::Clear,
-            word: i,
-            values,
-        },
-        Fields::Refused(f) => stopped(f),
-    }
-}
-
-// A line with these bytes: its word, the tests before the fields, and its fields.
+// A line with these bytes: its word, and the tests before the fields.
 fn walk_bytes(
     bytes: &[u8],
     spellings: [Spelling; WORDS],
-    layouts: [Layout; WORDS],
     count: usize,
     tests: Tests,
     line: usize,
-) -> LineWalked
-    ensures { λ r. ⌜ WalkOk layouts line (from comma (now (bytes .entry))) (walkBytes spellings layouts count tests line (now (bytes .entry))) r ⌝ }
+) -> WordWalked
+    ensures { λ r. ⌜ WalkOk line (now (bytes .entry)) (walkBytes spellings count tests (now (bytes .entry))) r ⌝ }
 {
-    let b = text_line::bytes_before(bytes, 44);
-    let i = find_word(&bytes[..b], spellings, count);
+    let size = text_line::bytes_before(bytes, 44);
+    let i = find_word(&bytes[..size], spellings, count);
     if count <= i {
         return stopped(Refusal { no: 2, line });
     }
@@ -101,27 +77,30 @@ fn walk_bytes(
     if no != 0 {
         return stopped(Refusal { no, line });
     }
-    walk_fields(&bytes[b..], layouts, i, line)
+    WordWalked {
+        fault: Fault::Clear,
+        word: i,
+        size,
+    }
 }
 
-// The line that begins at a, by the first `count` words of a kind of text: missing LF 2, word 2, the fault of its word, its fields.
-pub fn next_line(
+// The line from a to `end`, where its LF stands, by the first `count` words of a kind of text: missing LF 2, word 2, the fault of its word.
+pub fn next_word(
     text: &[u8],
     a: usize,
+    end: usize,
     spellings: [Spelling; WORDS],
-    layouts: [Layout; WORDS],
     count: usize,
     tests: Tests,
     line: usize,
-) -> LineWalked
-    ensures { λ r. ⌜ WalkedOk spellings layouts count tests line (lineAt (now (text .entry)) a (lineEnd (now (text .entry)) a)) r ⌝ }
+) -> WordWalked
+    ensures { λ r. ⌜ WalkedOk spellings count tests line (lineAt (now (text .entry)) a end) r ⌝ }
 {
-    let end = text_line::line_end(text, a);
     if text.len() <= end {
         return stopped(Refusal { no: 2, line });
     }
     if end < a {
-        return stopped(Refusal { no: 2, line });
+        return walk_bytes(&text[..0], spellings, count, tests, line);
     }
-    walk_bytes(&text[a..end], spellings, layouts, count, tests, line)
+    walk_bytes(&text[a..end], spellings, count, tests, line)
 }

@@ -1,4 +1,4 @@
-use Rattle.text_grammar.proofs.OneLine.{word-end, word-long}
+use Rattle.text_grammar.proofs.OneLine.{word-long}
 use Rattle.text_walk.proofs.Walking.{past-words, past-table, word-stops, word-goes-on}
 use borrow.Author.Needs.{needs}
 use Rattle.text_walk.proofs.walk_bytes.Statement.{statement}
@@ -43,20 +43,12 @@ stopped-requires-3 c κs = search needs
 returns-3 : tie.Need-returns-3
 returns-3 c = search (needs, word-stops)
 
-sub-walk-fields : tie.Need-sub-walk-fields
-sub-walk-fields c = search word-end
-
-part-walk-fields-start : tie.Need-part-walk-fields-start
-part-walk-fields-start c = search (needs, word-end)
-
-part-walk-fields-end : tie.Need-part-walk-fields-end
-part-walk-fields-end c = search needs
-
-walk-fields-requires : tie.Need-walk-fields-requires
-walk-fields-requires c κs = search needs
-
 returns-4 : tie.Need-returns-4
-returns-4 c = search (needs, word-goes-on)
+returns-4 c =
+    let f = c .before in
+    let known = f .before .before .before .before in
+    let w = known .before .before in
+    word-goes-on _ _ _ _ _ _ (w .before .before .bytes-before .ensures) _ (w .find-word .ensures) (search needs) (known .before .if1 .left) (known .if2 .left) _ (f .entry-fault .ensures) (c .if3 .left)
 
 pub walk-bytes-spec : {M : Type 1} → statement M
 walk-bytes-spec =
@@ -75,8 +67,4 @@ walk-bytes-spec =
     entry-fault-requires
     stopped-requires-3
     returns-3
-    sub-walk-fields
-    part-walk-fields-start
-    part-walk-fields-end
-    walk-fields-requires
     returns-4)
