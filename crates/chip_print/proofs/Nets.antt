@@ -12,7 +12,7 @@ use Rattle.num_text.specs.Held.{Wrote}
 use Rattle.model.specs.declared.Net.{Net as HeldNet}
 use Rattle.model.specs.declared.Pin.{Pin as HeldPin}
 use Rattle.model.specs.declared.Chip.{Chip as HeldChip}
-use Rattle.model.specs.Counted.{taken}
+use Rattle.model.specs.Counted.{taken, itemCount}
 use Rattle.model.specs.Meaning.{Net, firstOf, blankNet, blankPin, pinOf, pinsOf, netsOf, chipOf}
 use Rattle.model.proofs.Nets.{taken-snoc, nets-snoc}
 use Rattle.text_grammar.specs.Words.{itemText, itemsText}
@@ -20,7 +20,6 @@ use Rattle.chip_text.specs.declared.ChipWord.the-variants as word
 use Rattle.chip_text.specs.Words.{chipWords}
 use Rattle.chip_text.specs.Text.{Item, pinItem, netItem, netItems}
 use Rattle.chip_text.proofs.Passing.{Whole}
-use Rattle.text_put.specs.Shown.{shownOf}
 use Rattle.text_put.specs.Run.{run}
 use Rattle.text_put.proofs.Counted.{first-run}
 use Rattle.text_put.proofs.Items.{run-last, items-none, items-one, items-then}
@@ -66,9 +65,9 @@ module _ (c : HeldChip) where
   unfolding taken run
   pins-none = refl
 
-  pub net-written : (u : HeldNet) (b m a : List ℕ) (j q n at f r : ℕ) → length b < 2 ^ 64 → u ≡ getD (c .nets) j blankNet → n ≡ shownOf (u .pins) (128 - q) → Wrote b m (itemText chipWords (itemAt c word.Net j)) at f → Wrote m a (itemsText chipWords (run (itemAt c word.Pin) q n)) f r → Wrote b a (itemsText chipWords (netAt c j q)) at r
+  pub net-written : (u : HeldNet) (b m a : List ℕ) (j q n at f r : ℕ) → length b < 2 ^ 64 → u ≡ getD (c .nets) j blankNet → n ≡ itemCount (u .pins) (128 - q) → Wrote b m (itemText chipWords (itemAt c word.Net j)) at f → Wrote m a (itemsText chipWords (run (itemAt c word.Pin) q n)) f r → Wrote b a (itemsText chipWords (netAt c j q)) at r
   net-written u b m a j q n at f r v y e w₁ w₂ =
-      let k : shownOf (getD (c .nets) j blankNet .pins) (128 - q) ≡ n = rw (← y) (sym e) in
+      let k : itemCount (getD (c .nets) j blankNet .pins) (128 - q) ≡ n = rw (← y) (sym e) in
       rw k (items-then chipWords b m a _ at f r v (items-one chipWords b m _ at f w₁) _ w₂)
 
   module _ (j q : ℕ) (x : q ≡ pinsTo j) where
@@ -83,21 +82,21 @@ module _ (c : HeldChip) where
 
     module _ (ok : Whole c) where
       -- the lines of the net's pins
-      pins-run : map pinItem (pinsOf (firstOf blankPin (u .pins) (drop (taken (netsTo j)) (c .pins)))) ≡ run (itemAt c word.Pin) q (shownOf (u .pins) (128 - q))
+      pins-run : map pinItem (pinsOf (firstOf blankPin (u .pins) (drop (taken (netsTo j)) (c .pins)))) ≡ run (itemAt c word.Pin) q (itemCount (u .pins) (128 - q))
       pins-run =
           let l : q ≤ length (c .pins) = rw (ok .pins) (omega arith) in
           rw (← drop-least (c .pins) q (taken (netsTo j)) 128 (ok .pins) x, held-items) (first-run blankPin (c .pins) (λ p. pinItem (pinOf p)) (u .pins) q l ∙ rw (ok .pins))
 
       pub net-more : (b m a : List ℕ) (at f r : ℕ) → length b < 2 ^ 64 → Wrote b m (netLines j) at f → Wrote m a (itemsText chipWords (netAt c j q)) f r → Wrote b a (netLines (j + 1)) at r
       net-more b m a at f r v w₁ w₂ =
-          rw (last-net, nets-snoc (netsTo j) u (c .pins), net-items-snoc, pins-run, append-snoc (netItems (netsOf (netsTo j) (c .pins))) (itemAt c word.Net j) (run (itemAt c word.Pin) q (shownOf (u .pins) (128 - q))))
+          rw (last-net, nets-snoc (netsTo j) u (c .pins), net-items-snoc, pins-run, append-snoc (netItems (netsOf (netsTo j) (c .pins))) (itemAt c word.Net j) (run (itemAt c word.Pin) q (itemCount (u .pins) (128 - q))))
           (items-then chipWords b m a _ at f r v w₁ _ w₂)
 
-  pub nets-all : (b a : List ℕ) (n j at r : ℕ) → Whole c → n ≡ shownOf (c .t) 32 → j ≤ n → n ≤ j → Wrote b a (netLines j) at r → Wrote b a (itemsText chipWords (netItems (chipOf c .nets))) at r
+  pub nets-all : (b a : List ℕ) (n j at r : ℕ) → Whole c → n ≡ itemCount (c .t) 32 → j ≤ n → n ≤ j → Wrote b a (netLines j) at r → Wrote b a (itemsText chipWords (netItems (chipOf c .nets))) at r
   unfolding chipOf
   nets-all b a n j at r ok e f h w = rw all-nets w
     where
       all-nets : firstOf blankNet (c .t) (c .nets) ≡ netsTo j
       all-nets =
-          let i : j ≡ shownOf (c .t) 32 = omega arith in
+          let i : j ≡ itemCount (c .t) 32 = omega arith in
           rw i (sym (map-id (firstOf blankNet (c .t) (c .nets))) ∙ (first-run blankNet (c .nets) (λ t. t) (c .t) 0 (omega arith) ∙ rw (ok .nets)))

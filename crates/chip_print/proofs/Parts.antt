@@ -12,14 +12,14 @@ use Rattle.chip_text.specs.declared.ChipWord.the-variants as word
 use Rattle.chip_text.specs.Words.{chipWords}
 use Rattle.chip_text.specs.Text.{Item, fixItem, macItem, netItems, endItem, chipItems, chipText}
 use Rattle.chip_text.proofs.Passing.{Whole}
-use Rattle.text_put.specs.Shown.{shownOf}
+use Rattle.model.specs.Counted.{itemCount}
 use Rattle.text_put.specs.Run.{run}
 use Rattle.text_put.proofs.Counted.{first-run}
 use Rattle.text_put.proofs.Items.{items-one, items-then, then-line}
 use Rattle.chip_print.specs.Items.{itemAt, blockItems}
 
 module _ (c : HeldChip) (b m o a : List ℕ) (at i j r : ℕ) (h : length b < 2 ^ 64) where
-  pub blocks-written : (k n : ℕ) → Whole c → k ≡ shownOf (c .k) 8 → n ≡ shownOf (c .n) 8 → Wrote b m (itemText chipWords (itemAt c word.Die 0)) at i → Wrote m o (itemsText chipWords (run (itemAt c word.Fix) 0 k)) i j → Wrote o a (itemsText chipWords (run (itemAt c word.Mac) 0 n)) j r → Wrote b a (itemsText chipWords (blockItems (chipOf c))) at r
+  pub blocks-written : (k n : ℕ) → Whole c → k ≡ itemCount (c .k) 8 → n ≡ itemCount (c .n) 8 → Wrote b m (itemText chipWords (itemAt c word.Die 0)) at i → Wrote m o (itemsText chipWords (run (itemAt c word.Fix) 0 k)) i j → Wrote o a (itemsText chipWords (run (itemAt c word.Mac) 0 n)) j r → Wrote b a (itemsText chipWords (blockItems (chipOf c))) at r
   unfolding chipOf blockItems
   blocks-written k n ok e f w₁ w₂ w₃ =
       let fs : map fixItem (firstOf blankFix (c .k) (c .fixes)) ≡ run (itemAt c word.Fix) 0 k = first-run blankFix (c .fixes) fixItem (c .k) 0 (omega arith) ∙ rw (ok .fixes, e) in

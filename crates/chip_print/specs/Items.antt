@@ -10,7 +10,7 @@ use Rattle.model.specs.declared.Chip.{Chip as HeldChip}
 use Rattle.model.specs.Meaning.{Chip, blankFix, blankMac, blankNet, blankPin, pinOf}
 use Rattle.model.specs.Limits.{mostPins}
 use Rattle.text_grammar.specs.Line.{number}
-use Rattle.text_put.specs.Shown.{shownOf}
+use Rattle.model.specs.Counted.{itemCount}
 use Rattle.text_put.specs.Run.{run}
 use Rattle.chip_text.specs.declared.ChipWord.{ChipWord}
 use Rattle.chip_text.specs.declared.ChipWord.the-variants as word
@@ -31,7 +31,7 @@ itemAt c word.End i = endItem
 
 -- net j with the pins that its count means, from pin q on
 abbrev pub netAt : HeldChip → ℕ → ℕ → List Item
-netAt c j q = itemAt c word.Net j ∷ run (itemAt c word.Pin) q (shownOf (getD (c .nets) j blankNet .pins) (mostPins - q))
+netAt c j q = itemAt c word.Net j ∷ run (itemAt c word.Pin) q (itemCount (getD (c .nets) j blankNet .pins) (mostPins - q))
 
 -- the lines before the nets: die, fixes, macros
 unfoldable pub blockItems : Chip → List Item

@@ -145,7 +145,7 @@ fn put_net(out: &mut [u8], at: usize, c: Chip, j: usize, q: usize) -> usize
 {
     let nets = c.nets;
     let t = net_at(nets, j);
-    let n = text_put::shown(t.pins, Pin::COUNT - q);
+    let n = model::item_count(t.pins, Pin::COUNT - q);
     let a = put_item(out, at, c, ChipWord::Net, j);
     put_run(out, a, c, ChipWord::Pin, q, n)
 }
@@ -156,7 +156,7 @@ fn put_nets(out: &mut [u8], at: usize, c: Chip) -> usize
     ensures { λ r. ⌜ Wrote (now (out .entry)) (now (out .exit)) (itemsText chipWords (netItems (chipOf c .nets))) at r ⌝ }
 {
     let nets = c.nets;
-    let n = text_put::shown(c.t, Net::COUNT);
+    let n = model::item_count(c.t, Net::COUNT);
     let mut a = at;
     let mut q: usize = 0;
     let mut j: usize = 0;
@@ -174,8 +174,8 @@ fn put_blocks(out: &mut [u8], at: usize, c: Chip) -> usize
     requires { ⌜ Whole c ⌝ }
     ensures { λ r. ⌜ Wrote (now (out .entry)) (now (out .exit)) (itemsText chipWords (blockItems (chipOf c))) at r ⌝ }
 {
-    let fixes = text_put::shown(c.k, Fix::COUNT);
-    let macs = text_put::shown(c.n, Mac::COUNT);
+    let fixes = model::item_count(c.k, Fix::COUNT);
+    let macs = model::item_count(c.n, Mac::COUNT);
     let a = put_item(out, at, c, ChipWord::Die, 0);
     let b = put_run(out, a, c, ChipWord::Fix, 0, fixes);
     put_run(out, b, c, ChipWord::Mac, 0, macs)

@@ -1,5 +1,5 @@
--- Counts and the arrays that they count in, while a chip or a record is read.
-use Prim.Native.Nat.{ℕ, _+_, _≤_}
+-- Counts and the arrays that they count in.
+use Prim.Native.Nat.{ℕ, suc, _+_, _≤_, min}
 use mathlib.Core.Path.{_≡_}
 use mathlib.Core.List.{List, [], _∷_}
 use lib.ListN.{length, getD}
@@ -15,3 +15,7 @@ pub record Holds {A : Type 0} (blank : A) (most count : ℕ) (items : List A) : 
 unfoldable pub taken : List HeldNet → ℕ
 taken [] = 0
 taken (t ∷ ts) = t .pins + taken ts
+
+-- how many items a count means, of an array of `capacity` items: all that are counted, or one more than the array holds where the count is above that
+abbrev pub itemCount : ℕ → ℕ → ℕ
+itemCount count capacity = min count (suc capacity)

@@ -3,6 +3,7 @@ ghost use mathlib.Core.Path.{_≡_};
 ghost use mathlib.Core.Bool.{_&&_};
 ghost use lib.Dec.{leb};
 ghost use Rattle.model.specs.Blocks.{blocksOf};
+ghost use Rattle.model.specs.Counted.{itemCount};
 ghost use Rattle.model.specs.Made.{meantDie, makeDie, meantFix, makeFix, meantMac, makeMac, meantNet, makeNet, meantPlace, makePlace, meantPin, makePin, remakePin, meantSpot, makeSpot};
 
 // How many bytes a text has at most.
@@ -274,6 +275,17 @@ pub struct Chip {
     pub t: usize,
     pub nets: [Net; Net::COUNT],
     pub pins: [Pin; Pin::COUNT],
+}
+
+// How many items a count means, of an array of `capacity` items: one too many where it is above that.
+pub fn item_count(count: usize, capacity: usize) -> usize
+    ensures { λ r. ⌜ r ≡ itemCount count capacity ⌝ }
+{
+    if count <= capacity {
+        count
+    } else {
+        capacity + 1
+    }
 }
 
 // The blocks of a chip, whose pairs are decided: n macros and k fixes.

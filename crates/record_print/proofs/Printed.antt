@@ -13,7 +13,7 @@ use Rattle.model.specs.declared.Record.{Record as HeldRecord}
 use Rattle.model.specs.Meaning.{Record, firstOf, blankSpot, recordOf}
 use Rattle.text_grammar.specs.Words.{itemText, itemsText}
 use Rattle.text_line.specs.Layout.{valuesAt, valuesIn}
-use Rattle.text_put.specs.Shown.{shownOf}
+use Rattle.model.specs.Counted.{itemCount}
 use Rattle.text_put.specs.Run.{run}
 use Rattle.text_put.proofs.Counted.{numbered-run}
 use Rattle.text_put.proofs.Items.{items-one, items-then, then-line, run-more}
@@ -30,7 +30,7 @@ lineOf w vs = itemText recordWords (record { word = w; values = valuesIn (form w
 abbrev pub spotItem : List Spot → ℕ → Item
 spotItem s i = atItem (suc i) (getD s i blankSpot)
 
-spots-run : (s : List Spot) (n k : ℕ) → length s ≡ 8 → k ≡ shownOf n 8 → atItems 1 (firstOf blankSpot n s) ≡ run (spotItem s) 0 k
+spots-run : (s : List Spot) (n k : ℕ) → length s ≡ 8 → k ≡ itemCount n 8 → atItems 1 (firstOf blankSpot n s) ≡ run (spotItem s) 0 k
 unfolding atItems
 spots-run s n k l e = numbered-run blankSpot s (λ q p. atItem (suc q) p) (λ q ps. atItems (suc q) ps) (λ q. refl) (λ q p ps. refl) n 0 (omega arith) ∙ rw (l, e)
 
@@ -53,5 +53,5 @@ pub none-written : (b a : List ℕ) (at r : ℕ) (x : HeldRecord) → x .outcome
 unfolding recordOf valuesAt
 none-written b a at r x e w = rw e (items-one recordWords b a noneItem at r w)
 
-pub spots-all : (b a : List ℕ) (at r : ℕ) (s : List Spot) (i k n : ℕ) → length s ≡ 8 → k ≡ shownOf n 8 → i ≤ k → k ≤ i → Wrote b a (itemsText recordWords (run (spotItem s) 0 i)) at r → Wrote b a (itemsText recordWords (atItems 1 (firstOf blankSpot n s))) at r
-spots-all b a at r s i k n l e g h w = let j : i ≡ shownOf n 8 = omega arith in rw (spots-run s n i l j) w
+pub spots-all : (b a : List ℕ) (at r : ℕ) (s : List Spot) (i k n : ℕ) → length s ≡ 8 → k ≡ itemCount n 8 → i ≤ k → k ≤ i → Wrote b a (itemsText recordWords (run (spotItem s) 0 i)) at r → Wrote b a (itemsText recordWords (atItems 1 (firstOf blankSpot n s))) at r
+spots-all b a at r s i k n l e g h w = let j : i ≡ itemCount n 8 = omega arith in rw (spots-run s n i l j) w

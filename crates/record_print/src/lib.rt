@@ -37,7 +37,7 @@ fn spot_at(spots: [Spot; Mac::COUNT], i: usize) -> Spot
 fn put_spots(out: &mut [u8], at: usize, spots: [Spot; Mac::COUNT], n: usize) -> usize
     ensures { λ k. ⌜ Wrote (now (out .entry)) (now (out .exit)) (itemsText recordWords (atItems 1 (firstOf blankSpot n spots))) at k ⌝ }
 {
-    let last = text_put::shown(n, Mac::COUNT);
+    let last = model::item_count(n, Mac::COUNT);
     let mut a = at;
     let mut i: usize = 0;
     while i < last {

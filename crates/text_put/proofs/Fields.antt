@@ -1,13 +1,12 @@
 -- The fields of a line written one after the other, in the form of the needs.
-use mathlib.Core.Path.{_≡_, refl, sym, ap, _∙_}
+use mathlib.Core.Path.{_≡_, refl, sym, _∙_}
 use mathlib.Core.Bool.{Bool, true, false, true≢false}
 use mathlib.Core.List.{List, [], _∷_, _++_, append-assoc, append-nil}
-use Prim.Native.Nat.{ℕ, zero, suc, _+_, _-_, _≤_, _<_, _^_}
+use Prim.Native.Nat.{ℕ, suc, _+_, _-_, _≤_, _<_, _^_}
 use native.Mathlib.Numerals.{add-one}
 use native.Mathlib.Omega.{arith}
-use borrow.Author.Tests.{eq-eqb, ne-eqb, le-ltb}
-use lib.IntN.{ℤ, pos, subℕ}
-use lib.ListN.{length, getD, take, drop, drop-of-length-le}
+use lib.IntN.{ℤ}
+use lib.ListN.{length, getD, drop}
 use Rattle.num_text.specs.Number.{numberText}
 use Rattle.num_text.specs.Held.{Wrote}
 use Rattle.num_text.proofs.Wrote.{wrote-none, wrote-then}
@@ -15,38 +14,9 @@ use Rattle.text_grammar.specs.Line.{comma, upTo, Value, number, string, absent,
 use Rattle.text_grammar.specs.Choice.{isAbsent, nextPlace}
 use Rattle.text_line.specs.declared.Rule.{Rule as HeldRule}
 use Rattle.text_line.specs.Held.{lowered}
-use Rattle.text_line.specs.Layout.{markOf, isNumber, ruleOf, ruleAt, mustStand, pick, formAt, placeAfter, valuesAt, formOf, valuesOf}
-use Rattle.text_grammar.proofs.Cut.{part-bytes}
-use Rattle.text_put.specs.LineText.{heldText}
+use Rattle.text_line.specs.Layout.{isNumber, ruleOf, ruleAt, mustStand, pick, formAt, placeAfter, valuesAt, formOf, valuesOf}
+use Rattle.text_field.specs.FieldText.{heldText}
 use Rattle.text_line.proofs.Ways.{form-ends, form-goes-on, values-go-on, way-taken}
-
--- ---- one field
-
-lowered-sub : (u v : ℕ) → lowered u v ≡ subℕ v u
-lowered-sub zero v = rw (le-ltb v 0 (omega arith)) (ap pos (omega arith))
-lowered-sub (suc u) v = refl
-
-module _ (t : Bool) (r : HeldRule) (s b : List ℕ) (at v : ℕ) where
-  pub field-absent : at < 2 ^ 64 → t ≡ true → Wrote b b (pick t [] (heldText s r v)) at at
-  field-absent h e = rw e (wrote-none b at (omega arith))
-
-  module _ (m a : List ℕ) (k n : ℕ) (h : length b < 2 ^ 64) (e : t ≡ false) (p : Wrote b m (markOf r) at k) where
-    pub number-written : r .letters ≡ 0 → Wrote m a (numberText (subℕ v (r .up))) k n → Wrote b a (pick t [] (heldText s r v)) at n
-    number-written z q = rw (e, eq-eqb (r .letters) 0 z, lowered-sub (r .up) v) (wrote-then b m a _ _ at k n h p q)
-
-    pub string-written : (r .letters ≡ 0 → ⊥) → Wrote m a (upTo comma (drop v s)) k n → Wrote b a (pick t [] (heldText s r v)) at n
-    string-written z q = rw (e, ne-eqb (r .letters) 0 z) (wrote-then b m a _ _ at k n h p q)
-
--- the bytes of a string
-module _ (s : List ℕ) (v : ℕ) where
-  pub no-string : (b : List ℕ) (at : ℕ) → at < 2 ^ 64 → length s < v → Wrote b b (upTo comma (drop v s)) at at
-  unfolding upTo
-  no-string b at h g = rw (drop-of-length-le s {i = v} (omega arith)) (wrote-none b at (omega arith))
-
-  pub string-bytes : (n : ℕ) → v ≤ length s → n ≡ length (upTo comma (take (length s - v) (drop v s))) → (b a : List ℕ) (at r : ℕ) → Wrote b a (take (v + n - v) (drop v s)) at r → Wrote b a (upTo comma (drop v s)) at r
-  string-bytes n g e b a at r w = rw (← part-bytes comma s v n g e) w
-
--- ---- one more field
 
 -- the text of a field that is here and of those after it, and of one that is absent, by whether it must stand here
 way-text : (must gone plain : Bool) (r : Rule) (z : ℤ) (t : List ℕ) (f g : Form) (us : List Value) → (must ≡ true → gone ≡ false) → fieldsText (pick must (one r f) (either r f g)) (pick gone absent (pick plain (number z) (string t)) ∷ us) ≡ pick gone [] (r .mark ++ valueText (pick plain (number z) (string t))) ++ fieldsText (pick gone g f) us

@@ -1,10 +1,7 @@
 -- Parts of a line written one after the other, in the form of the needs.
-use mathlib.Core.Path.{_≡_}
 use mathlib.Core.List.{List, [], _∷_}
-use Prim.Native.Nat.{ℕ, _≤_, _<_, _^_}
-use native.Mathlib.Omega.{arith}
-use lib.ListN.{length, take, length-take}
-use lib.Seq.{take-all}
+use Prim.Native.Nat.{ℕ, _<_, _^_}
+use lib.ListN.{length}
 use Rattle.num_text.specs.Held.{Wrote}
 use Rattle.num_text.proofs.Wrote.{wrote-then, wrote-length}
 use Rattle.text_grammar.specs.Line.{fieldsText, lineFeed}
@@ -13,13 +10,6 @@ use Rattle.text_line.specs.declared.Layout.{Layout}
 use Rattle.text_line.specs.Held.{textOf}
 use Rattle.text_line.specs.Layout.{formOf, valuesOf}
 use Rattle.text_put.specs.LineText.{lineText}
-
--- all of the bytes, where there are fewer than asked for
-pub all-written : (b a bytes : List ℕ) (at n size : ℕ) → length bytes < size → Wrote b a bytes at n → Wrote b a (take size bytes) at n
-all-written b a bytes at n size h w = rw (take-all size bytes (omega arith)) w
-
-pub first-long : (bytes : List ℕ) (size : ℕ) → size ≤ length bytes → size ≡ length (take size bytes)
-first-long bytes size h = rw length-take (omega arith)
 
 -- the whole line
 module _ (p : Spelling) (l : Layout) (s vs : List ℕ) where

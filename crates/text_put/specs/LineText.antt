@@ -1,16 +1,11 @@
 -- The text of a line that is written.
 use Prim.Native.Nat.{ℕ}
 use mathlib.Core.List.{List, [], _∷_, _++_}
-use Rattle.text_grammar.specs.Line.{lineFeed, valueText, fieldsText}
+use Rattle.text_grammar.specs.Line.{lineFeed, fieldsText}
 use Rattle.text_line.specs.declared.Spelling.{Spelling}
 use Rattle.text_line.specs.declared.Layout.{Layout}
-use Rattle.text_line.specs.declared.Rule.{Rule as HeldRule}
 use Rattle.text_line.specs.Held.{textOf}
-use Rattle.text_line.specs.Layout.{markOf, heldIn, formOf, valuesOf}
-
--- the field with the rule r and the value that v holds: its mark, then the value; a string stands in the bytes s
-abbrev pub heldText : List ℕ → HeldRule → ℕ → List ℕ
-heldText s r v = markOf r ++ valueText (heldIn s r v)
+use Rattle.text_line.specs.Layout.{formOf, valuesOf}
 
 -- the word, the fields of the layout with the values that vs hold, and LF
 unfoldable pub lineText : Spelling → Layout → List ℕ → List ℕ → List ℕ

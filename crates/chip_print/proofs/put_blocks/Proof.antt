@@ -3,11 +3,11 @@ use borrow.Author.Needs.{needs}
 use Rattle.chip_print.proofs.put_blocks.Statement.{statement}
 use Rattle.chip_print.proofs.put_blocks.Tie as tie
 
-shown-requires : tie.Need-shown-requires
-shown-requires c κs = search needs
+item-count-requires : tie.Need-item-count-requires
+item-count-requires c κs = search needs
 
-shown-requires-2 : tie.Need-shown-requires-2
-shown-requires-2 c κs = search needs
+item-count-requires-2 : tie.Need-item-count-requires-2
+item-count-requires-2 c κs = search needs
 
 put-item-requires : tie.Need-put-item-requires
 put-item-requires c κs = search needs
@@ -28,8 +28,8 @@ pub put-blocks-spec : {M : Type 1} → statement M
 put-blocks-spec =
     tie.close
     (tie.spec
-    shown-requires
-    shown-requires-2
+    item-count-requires
+    item-count-requires-2
     put-item-requires
     put-run-requires
     put-run-requires-2

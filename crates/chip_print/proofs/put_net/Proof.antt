@@ -6,11 +6,11 @@ use Rattle.chip_print.proofs.put_net.Tie as tie
 net-at-requires : tie.Need-net-at-requires
 net-at-requires c κs = search needs
 
-sub-shown : tie.Need-sub-shown
-sub-shown c = search needs
+sub-item-count : tie.Need-sub-item-count
+sub-item-count c = search needs
 
-shown-requires : tie.Need-shown-requires
-shown-requires c κs = search needs
+item-count-requires : tie.Need-item-count-requires
+item-count-requires c κs = search needs
 
 put-item-requires : tie.Need-put-item-requires
 put-item-requires c κs = search needs
@@ -29,8 +29,8 @@ put-net-spec =
     tie.close
     (tie.spec
     net-at-requires
-    sub-shown
-    shown-requires
+    sub-item-count
+    item-count-requires
     put-item-requires
     put-run-requires
     same-length

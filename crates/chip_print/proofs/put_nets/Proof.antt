@@ -13,8 +13,8 @@ Inv-loop out₀ at c nets n a₀ q₀ j₀ out a q j = (j ≤ n) × (q ≡ pinsT
 abbrev μ-loop : tie.MeasureT-loop
 μ-loop out₀ at c nets n a₀ q₀ j₀ out a q j = n - j
 
-shown-requires : tie.Need-shown-requires Inv-loop μ-loop
-shown-requires c κs = search needs
+item-count-requires : tie.Need-item-count-requires Inv-loop μ-loop
+item-count-requires c κs = search needs
 
 loop-holds : tie.Need-loop-holds Inv-loop μ-loop
 loop-holds c = (search needs, search pins-none, search (needs, nets-none))
@@ -49,7 +49,7 @@ put-nets-spec =
     (tie.spec
     Inv-loop
     μ-loop
-    shown-requires
+    item-count-requires
     loop-holds
     net-at-requires
     put-net-requires

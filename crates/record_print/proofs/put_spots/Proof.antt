@@ -16,8 +16,8 @@ Inv-loop out₀ at spots n last a₀ i₀ out a i = (i ≤ last) × Wrote out₀
 abbrev μ-loop : tie.MeasureT-loop
 μ-loop out₀ at spots n last a₀ i₀ out a i = last - i
 
-shown-requires : tie.Need-shown-requires Inv-loop μ-loop
-shown-requires c κs = search needs
+item-count-requires : tie.Need-item-count-requires Inv-loop μ-loop
+item-count-requires c κs = search needs
 
 loop-holds : tie.Need-loop-holds Inv-loop μ-loop
 loop-holds c = (search needs, search (needs, run-none recordWords))
@@ -52,7 +52,7 @@ put-spots-spec =
     (tie.spec
     Inv-loop
     μ-loop
-    shown-requires
+    item-count-requires
     loop-holds
     spot-at-requires
     add-m

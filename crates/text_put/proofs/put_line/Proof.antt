@@ -3,8 +3,11 @@ use borrow.Author.Needs.{needs}
 use Rattle.text_put.proofs.put_line.Statement.{statement}
 use Rattle.text_put.proofs.put_line.Tie as tie
 
-put-word-requires : tie.Need-put-word-requires
-put-word-requires c κs = search needs
+slice-aggregate-put-first : tie.Need-slice-aggregate-put-first
+slice-aggregate-put-first c = search needs
+
+put-first-requires : tie.Need-put-first-requires
+put-first-requires c κs = search needs
 
 put-fields-requires : tie.Need-put-fields-requires
 put-fields-requires c κs = search needs
@@ -25,7 +28,8 @@ pub put-line-spec : {M : Type 1} → statement M
 put-line-spec =
     tie.close
     (tie.spec
-    put-word-requires
+    slice-aggregate-put-first
+    put-first-requires
     put-fields-requires
     slice-aggregate-put-bytes
     put-bytes-requires

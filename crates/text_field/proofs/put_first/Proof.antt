@@ -1,7 +1,7 @@
-use Rattle.text_put.proofs.Joined.{all-written, first-long}
+use Rattle.text_field.proofs.OneField.{all-written, first-long}
 use borrow.Author.Needs.{needs}
-use Rattle.text_put.proofs.put_first.Statement.{statement}
-use Rattle.text_put.proofs.put_first.Tie as tie
+use Rattle.text_field.proofs.put_first.Statement.{statement}
+use Rattle.text_field.proofs.put_first.Tie as tie
 
 put-bytes-requires : tie.Need-put-bytes-requires
 put-bytes-requires c κs = search needs

@@ -1,8 +1,8 @@
 use Rattle.text_grammar.proofs.Cut.{part-end, part-end-fits}
-use Rattle.text_put.proofs.Fields.{no-string, string-bytes}
+use Rattle.text_field.proofs.OneField.{no-string, string-bytes}
 use borrow.Author.Needs.{needs}
-use Rattle.text_put.proofs.put_string.Statement.{statement}
-use Rattle.text_put.proofs.put_string.Tie as tie
+use Rattle.text_field.proofs.put_string.Statement.{statement}
+use Rattle.text_field.proofs.put_string.Tie as tie
 
 returns : tie.Need-returns
 returns c = search (needs, no-string)

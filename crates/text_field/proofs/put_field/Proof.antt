@@ -1,7 +1,7 @@
-use Rattle.text_put.proofs.Fields.{field-absent, string-written, number-written}
+use Rattle.text_field.proofs.OneField.{field-absent, string-written, number-written}
 use borrow.Author.Needs.{needs}
-use Rattle.text_put.proofs.put_field.Statement.{statement}
-use Rattle.text_put.proofs.put_field.Tie as tie
+use Rattle.text_field.proofs.put_field.Statement.{statement}
+use Rattle.text_field.proofs.put_field.Tie as tie
 
 returns : tie.Need-returns
 returns c = search (needs, field-absent)
