@@ -1,6 +1,7 @@
 // A chip solved by trying every position of every macro, in document 01's order.
 use crate::count::product;
 use crate::count::sum;
+use geometry::Box;
 use model::Chip;
 use model::Die;
 use model::Fix;
@@ -33,7 +34,7 @@ fn above(a: u64, b: u64) -> u64 {
 }
 
 // Of two boxes one is left of, right of, below or above the other.
-fn apart(a: Fix, b: Fix) -> bool {
+fn apart(a: Box, b: Box) -> bool {
     if sum(a.x, a.w) <= b.x {
         return true;
     }
@@ -46,30 +47,24 @@ fn apart(a: Fix, b: Fix) -> bool {
     sum(b.y, b.h) <= a.y
 }
 
-fn in_die(die: Die, b: Fix) -> bool {
+fn in_die(die: Die, b: Box) -> bool {
     if die.w < sum(b.x, b.w) {
         return false;
     }
     sum(b.y, b.h) <= die.h
 }
 
-// Whether a box is apart from each of the first count boxes.
-pub(crate) fn clear(b: Fix, boxes: [Fix; Fix::COUNT], count: usize) -> bool {
-    let mut i: usize = 0;
-    while i < Mac::COUNT {
-        if count <= i {
-            return true;
-        }
-        if !apart(b, boxes[i]) {
-            return false;
-        }
-        i += 1;
+fn fix_box(f: Fix) -> Box {
+    Box {
+        x: f.x,
+        y: f.y,
+        w: f.w,
+        h: f.h,
     }
-    true
 }
 
-fn box_of(m: Mac, s: Spot) -> Fix {
-    Fix {
+fn mac_box(m: Mac, s: Spot) -> Box {
+    Box {
         x: s.x,
         y: s.y,
         w: m.w,
@@ -77,54 +72,14 @@ fn box_of(m: Mac, s: Spot) -> Fix {
     }
 }
 
-fn boxes_of(macs: [Mac; Mac::COUNT], spots: [Spot; Mac::COUNT]) -> [Fix; Fix::COUNT] {
-    let mut boxes = [Fix {
-        x: 0,
-        y: 0,
-        w: 0,
-        h: 0,
-    }; Mac::COUNT];
+// Whether a box is apart from each of the first k fixes.
+fn clear_of_fixes(b: Box, fixes: [Fix; Fix::COUNT], k: usize) -> bool {
     let mut i: usize = 0;
-    while i < Mac::COUNT {
-        boxes[i] = box_of(macs[i], spots[i]);
-        i += 1;
-    }
-    boxes
-}
-
-fn legal_box(
-    die: Die,
-    fixes: [Fix; Fix::COUNT],
-    k: usize,
-    boxes: [Fix; Fix::COUNT],
-    i: usize,
-) -> bool {
-    if Mac::COUNT <= i {
-        return true;
-    }
-    let b = boxes[i];
-    if !in_die(die, b) {
-        return false;
-    }
-    if !clear(b, fixes, k) {
-        return false;
-    }
-    clear(b, boxes, i)
-}
-
-fn legal_boxes(
-    die: Die,
-    fixes: [Fix; Fix::COUNT],
-    k: usize,
-    boxes: [Fix; Fix::COUNT],
-    n: usize,
-) -> bool {
-    let mut i: usize = 0;
-    while i < Mac::COUNT {
-        if n <= i {
+    while i < Fix::COUNT {
+        if k <= i {
             return true;
         }
-        if !legal_box(die, fixes, k, boxes, i) {
+        if !apart(b, fix_box(fixes[i])) {
             return false;
         }
         i += 1;
@@ -132,11 +87,57 @@ fn legal_boxes(
     true
 }
 
-fn legal(c: Chip, spots: [Spot; Mac::COUNT]) -> bool {
-    let die = c.die;
-    let fixes = c.fixes;
+// Whether a fix is apart from each of the first k fixes.
+pub(crate) fn clear(f: Fix, fixes: [Fix; Fix::COUNT], k: usize) -> bool {
+    clear_of_fixes(fix_box(f), fixes, k)
+}
+
+// Whether macro j at its corner is apart from each of the macros before it.
+fn clear_of_macs(c: Chip, spots: [Spot; Mac::COUNT], j: usize) -> bool {
     let macs = c.macs;
-    legal_boxes(die, fixes, c.k, boxes_of(macs, spots), c.n)
+    if Mac::COUNT <= j {
+        return true;
+    }
+    let b = mac_box(macs[j], spots[j]);
+    let mut i: usize = 0;
+    while i < j {
+        if !apart(b, mac_box(macs[i], spots[i])) {
+            return false;
+        }
+        i += 1;
+    }
+    true
+}
+
+// Whether macro j lies in the die, and is apart from the fixes and from the macros before it.
+fn legal_macro(c: Chip, spots: [Spot; Mac::COUNT], j: usize) -> bool {
+    let macs = c.macs;
+    let fixes = c.fixes;
+    if Mac::COUNT <= j {
+        return true;
+    }
+    let b = mac_box(macs[j], spots[j]);
+    if !in_die(c.die, b) {
+        return false;
+    }
+    if !clear_of_fixes(b, fixes, c.k) {
+        return false;
+    }
+    clear_of_macs(c, spots, j)
+}
+
+fn legal(c: Chip, spots: [Spot; Mac::COUNT]) -> bool {
+    let mut j: usize = 0;
+    while j < Mac::COUNT {
+        if c.n <= j {
+            return true;
+        }
+        if !legal_macro(c, spots, j) {
+            return false;
+        }
+        j += 1;
+    }
+    true
 }
 
 // Where a pin lies, 4,096 higher.

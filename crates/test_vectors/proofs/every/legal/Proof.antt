@@ -1,13 +1,13 @@
-use Prim.Native.Nat.{_≤_, _-_}
 use borrow.Author.Needs.{needs}
-use Rattle.test_vectors.proofs.every.legal_boxes.Statement.{statement}
-use Rattle.test_vectors.proofs.every.legal_boxes.Tie as tie
+use Prim.Native.Nat.{_≤_, _-_}
+use Rattle.test_vectors.proofs.every.legal.Statement.{statement}
+use Rattle.test_vectors.proofs.every.legal.Tie as tie
 
 abbrev Inv-loop : tie.InvT-loop
-Inv-loop die fixes k boxes n i₀ i = i ≤ 8
+Inv-loop c spots j₀ j = j ≤ 8
 
 abbrev μ-loop : tie.MeasureT-loop
-μ-loop die fixes k boxes n i₀ i = 8 - i
+μ-loop c spots j₀ j = 8 - j
 
 loop-holds : tie.Need-loop-holds Inv-loop μ-loop
 loop-holds c = search needs
@@ -15,14 +15,14 @@ loop-holds c = search needs
 returns : tie.Need-returns Inv-loop μ-loop
 returns c = search needs
 
-legal-box-requires : tie.Need-legal-box-requires Inv-loop μ-loop
-legal-box-requires c κs = search needs
+legal-macro-requires : tie.Need-legal-macro-requires Inv-loop μ-loop
+legal-macro-requires c κs = search needs
 
 returns-2 : tie.Need-returns-2 Inv-loop μ-loop
 returns-2 c = search needs
 
-add-i : tie.Need-add-i Inv-loop μ-loop
-add-i c = search needs
+add-j : tie.Need-add-j Inv-loop μ-loop
+add-j c = search needs
 
 loop-less : tie.Need-loop-less Inv-loop μ-loop
 loop-less c = search needs
@@ -33,17 +33,17 @@ loop-again c = search needs
 returns-3 : tie.Need-returns-3 Inv-loop μ-loop
 returns-3 c = search needs
 
-pub legal-boxes-spec : {M : Type 1} → statement M
-legal-boxes-spec =
+pub legal-spec : {M : Type 1} → statement M
+legal-spec =
     tie.close
     (tie.spec
     Inv-loop
     μ-loop
     loop-holds
     returns
-    legal-box-requires
+    legal-macro-requires
     returns-2
-    add-i
+    add-j
     loop-less
     loop-again
     returns-3)
