@@ -19,7 +19,7 @@ use Rattle.axis_bounds.proofs.Idle.{past-end}
 use Rattle.axis_graph.specs.declared.Graph.{Graph}
 use Rattle.axis_graph.specs.Limits.{nodeRoom, slotRoom}
 use Rattle.axis_graph.specs.Graph.{at, GraphWithin, Holds, CloseValues, Leads, Net}
-use Rattle.axis_graph.specs.Build.{slotsFrom, dieGraph, macroGraph, wholeGraph}
+use Rattle.axis_graph.specs.Build.{slotsFrom, dieGraph, wholeGraph}
 use Rattle.axis_graph.proofs.Ways.{leads-slot, leads-on}
 
 -- ---- an array that holds the slots of a list
@@ -139,9 +139,6 @@ module _ (b : Axis) (fine : FineAxis b) where
 
   pub die-fine : GraphWithin (dieGraph b)
   die-fine = fine-array dies few-dies (length (macroSlots b)) (suc (length (b .sizes))) few-macros (let e = fine .macs in omega arith) (omega arith) (subst (Each (FineOn (suc (length (b .sizes))))) bare-is (macro-fine (bare b) fine-bare))
-
-  pub macros-fine : GraphWithin (macroGraph b)
-  macros-fine = fine-array (macroSlots b) few-macros (length (macroSlots b)) (suc (length (b .sizes))) few-macros (let e = fine .macs in omega arith) (omega arith) (macro-fine b fine)
 
   pub whole-fine : GraphWithin (wholeGraph b)
   whole-fine = fine-array (graphSlots b) (few-slots b fine) (length (graphSlots b)) (nodeCount b) (few-slots b fine) (let e = few-nodes b fine in omega arith) (omega arith) (graph-fine b fine)

@@ -1,11 +1,11 @@
 -- The step of one line: what the walk tells of it, and what its fields add.
-use mathlib.Core.Path.{_≡_, refl, sym, _∙_}
+use mathlib.Core.Path.{_≡_, refl, _∙_}
 use mathlib.Core.List.{List}
 use Prim.Native.Nat.{ℕ, _-_}
 use lib.ListN.{length, getD, take, drop}
 use Rattle.model.specs.declared.Refusal.{Refusal}
-use Rattle.model.specs.Step.{Step, next, fault as faultBy, onNext}
-use Rattle.text_grammar.specs.Line.{Line, Value, fields}
+use Rattle.model.specs.Step.{next, onNext}
+use Rattle.text_grammar.specs.Line.{Line, fields}
 use Rattle.text_grammar.specs.Reading.{stepLine}
 use Rattle.text_grammar.specs.Steps.{Entered, ReadAs}
 use Rattle.text_line.specs.declared.Spelling.{Spelling}
@@ -22,7 +22,7 @@ use Rattle.text_walk.proofs.Means.{TableOf, FaultsOf, walked-stops, walked-ente
 use Rattle.chip_text.specs.declared.ChipWord.{ChipWord}
 use Rattle.chip_text.specs.declared.ChipWord.the-variants as word
 use Rattle.chip_text.specs.Words.{form, chipWords}
-use Rattle.chip_text.specs.Kind.{Part, chipKind, add}
+use Rattle.chip_text.specs.Kind.{chipKind, add}
 use Rattle.chip_text.specs.Tests.{lastOf}
 use Rattle.chip_words.specs.Meant.{chipSpellings, chipTests}
 use Rattle.chip_words.proofs.Table.{table-of, faults-of}

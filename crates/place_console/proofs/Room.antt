@@ -8,7 +8,7 @@ use lib.Seq.{length-take-le}
 use Rattle.model.specs.declared.Refusal.{Refusal}
 use Rattle.model.specs.declared.WriteAnswer.{WriteAnswer}
 use Rattle.model.specs.declared.WriteAnswer.the-variants as write
-use Rattle.text_grammar.specs.Writing.{Written, Answer, wrote, notWritten, answerOf}
+use Rattle.text_grammar.specs.Writing.{Written, wrote, answerOf}
 use Rattle.place_print.specs.Printed.{printed, printText}
 use Rattle.place_print.proofs.PrintedShort.{print-fits}
 

@@ -6,7 +6,6 @@ use mathlib.Core.List.{List}
 use mathlib.Core.Logic.{_⊎_, inl, inr}
 use Rattle.model.specs.Meaning.{Chip, none}
 use Rattle.text_grammar.specs.Writing.{wrote}
-use Rattle.placement.specs.Legal.{legal}
 use Rattle.placement.specs.Least.{Best, nothing, found, earliestLeast, bestRecord, chipRecord}
 use Rattle.placement.specs.Integers.{Corner, legalZ, integers}
 use Rattle.placement.proofs.Demand.{earliest-least-integers, nothing-legal-integers}

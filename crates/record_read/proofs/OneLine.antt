@@ -4,8 +4,8 @@ use mathlib.Core.List.{List}
 use Prim.Native.Nat.{ℕ, _-_}
 use lib.ListN.{length, getD, take, drop}
 use Rattle.model.specs.declared.Refusal.{Refusal}
-use Rattle.model.specs.Step.{Step, next, fault as faultBy, onNext}
-use Rattle.text_grammar.specs.Line.{Line, Value, fields}
+use Rattle.model.specs.Step.{next, onNext}
+use Rattle.text_grammar.specs.Line.{Line, fields}
 use Rattle.text_grammar.specs.Reading.{stepLine}
 use Rattle.text_grammar.specs.Steps.{Entered, ReadAs}
 use Rattle.text_line.specs.declared.Spelling.{Spelling}
@@ -22,7 +22,7 @@ use Rattle.text_walk.proofs.Means.{TableOf, FaultsOf, walked-stops, walked-ente
 use Rattle.record_text.specs.declared.RecordWord.{RecordWord}
 use Rattle.record_text.specs.declared.RecordWord.the-variants as word
 use Rattle.record_text.specs.Words.{form, recordWords}
-use Rattle.record_text.specs.Kind.{Part, recordKind, add}
+use Rattle.record_text.specs.Kind.{recordKind, add}
 use Rattle.record_text.specs.Tests.{lastOf}
 use Rattle.record_words.specs.Meant.{recordSpellings, recordTests}
 use Rattle.record_words.proofs.Table.{table-of, faults-of}

@@ -1,5 +1,4 @@
 -- What the record reader's answer means.
-use Rattle.model.specs.declared.Outcome.the-variants as outcome
 use Rattle.model.specs.declared.Record.{Record as HeldRecord}
 use Rattle.model.specs.Meaning.{Record, none, recordOf}
 use Rattle.model.specs.Held.{heldRecord}

@@ -8,7 +8,6 @@ use mathlib.Core.Bool.{true, _&&_}
 use lib.Dec.{leb}
 use lib.ListN.{length, length-append}
 use borrow.Author.Tests.{leb-true}
-use Rattle.num_text.specs.Number.{digits}
 use Rattle.model.specs.declared.Spot.{Spot}
 use Rattle.model.specs.Meaning.{Record, none, least}
 use Rattle.text_grammar.specs.Line.{fieldsText}

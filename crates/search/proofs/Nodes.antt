@@ -72,9 +72,6 @@ other-nothing (suc (suc (suc zero))) h horizontal n = refl
 other-nothing (suc (suc (suc zero))) h vertical n = absurd (n refl)
 other-nothing (suc (suc (suc (suc i)))) h d n = absurd (omega arith)
 
-pub place-small : (c : HeldChip) (p : ℕ) (node : Node) (s : ℕ) → NodeOk c p node → Open c p node s → s < 120
-place-small c p node s at free = let q = free .place in let f = at .letters .few in omega arith
-
 module _ (c : HeldChip) (p : ℕ) (node : Node) (t : Left) (b : HeldRecord) (s i : ℕ) (u : Slot) (ok : Passed c) (at : NodeOk c p node) (free : Open c p node s) (asks : Asks c s i u) (okay : LeftOk c p node s 4 t b) (some : bestOf (childAt (childList t) i) ≡ nothing → ⊥) where
   abbrev C : Chip
   C = chipOf c

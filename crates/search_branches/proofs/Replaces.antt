@@ -70,15 +70,6 @@ module _ (l : ℕ) (ps : List Spot) (m : ℕ) (qs : List Spot) where
         by (no n) (no o) (inr (inl e)) = inr (inl (says-replaces l ps m qs (inr (omega arith, e))))
         by (no n) (no o) (inr (inr e)) = inr (inr (says-replaces m qs l ps (inr (omega arith, e))))
 
-    -- neither replaces the other: they are equal
-    pub replaces-tie : replaces l ps m qs ≡ false → replaces m qs l ps ≡ false → (l ≡ m) × (ps ≡ qs)
-    replaces-tie e f = by replaces-total
-      where
-        by : OneReplaces → (l ≡ m) × (ps ≡ qs)
-        by (inl g) = g
-        by (inr (inl g)) = absurd (true-false (replaces l ps m qs) g e)
-        by (inr (inr g)) = absurd (true-false (replaces m qs l ps) g f)
-
 module _ (k : ℕ) (os : List Spot) (l : ℕ) (ps : List Spot) (m : ℕ) (qs : List Spot) (h : length ps ≡ length qs) where
   -- what does not replace the second, where the second does not replace the third, does not replace the third
   pub still-stands : replaces k os l ps ≡ false → replaces l ps m qs ≡ false → replaces k os m qs ≡ false

@@ -18,7 +18,7 @@ use Rattle.placement.specs.Least.{Best, nothing, found, firstLeast, placements,
 use Rattle.placement.proofs.OrderLaws.{before-irreflexive, before-transitive}
 use Rattle.placement.specs.Demand.{EarliestLeast}
 use Rattle.placement.proofs.Demand.{within-in-corners, placements-long, found-earliest-least, found-nothing}
-use Rattle.search_branches.specs.Branch.{replaces, better}
+use Rattle.search_branches.specs.Branch.{replaces}
 use Rattle.search_branches.proofs.Replaces.{Sooner, true-false, not-true-false, replaces-says}
 use Rattle.search_branches.proofs.Betters.{Sized}
 

@@ -48,11 +48,6 @@ module _ (l r d u x y f m far g : ℕ) (hl : l ≤ 2048) (hd : d ≤ 2048) (ex :
   pub least-fits : Fits w64 (f * g)
   least-fits = let p : f ≤ 2048 = omega arith in let q : g ≤ 2048 = omega arith in let z : f * g ≤ 2048 * 2048 = mul-le-mul p q in omega arith
 
--- ---- the weight
-
-pub lesser-small : (w v r : ℕ) → w ≤ 32000 → r ≡ min w v → r ≤ 32000
-lesser-small w v r s e = omega arith
-
 -- ---- the pair at hand
 
 module _ (blocks : Blocks) (spots : List Spot) (at : Cursor) (a b : Box) (ea : a ≡ macBox blocks spots (at .i)) (eb : b ≡ secondOf blocks spots (at .fix) (at .j)) (r : Bool) (e : r ≡ apart 0 a b) where

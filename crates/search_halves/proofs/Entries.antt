@@ -9,7 +9,6 @@ use Rattle.num_laws.proofs.Spreads.{top, bottom, top-bottom, each-le-top, botto
 use Rattle.axis_bounds.specs.declared.AxisPin.{AxisPin}
 use Rattle.axis_bounds.specs.Axis.{noPin, valueAt, places}
 use Rattle.axis_bounds.proofs.Places.{length-places, place-at}
-use Rattle.search_halves.specs.Half.{half}
 
 -- one of the pins is on the node of p, and its place is not less than that of p
 pub record Over (qs : List AxisPin) (p : AxisPin) : Type 0 where

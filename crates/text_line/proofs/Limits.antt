@@ -61,8 +61,5 @@ module _ (bytes : List ℕ) (size : ℕ) (l : length bytes ≡ 5) where
   pub whole-spelling : (s : List ℕ) (r : Bool) → 5 < size → r ≡ same bytes s → r ≡ same (take size bytes) s
   whole-spelling s r h e = rw (take-all size bytes (omega arith)) e
 
-  pub spelling-few : size ≤ 5 → size ≤ length bytes
-  spelling-few h = omega arith
-
   pub spelling-long : size ≤ 5 → size ≡ length (take size bytes)
   spelling-long h = rw length-take (omega arith)

@@ -1,5 +1,5 @@
 -- The fields of a line by the layout of its form, read from the bytes b after the first n, those of its word: in the form of the needs of a reader.
-use mathlib.Core.Path.{_≡_, refl, ap, subst, _∙_}
+use mathlib.Core.Path.{_≡_, _∙_}
 use mathlib.Core.List.{List}
 use Prim.Native.Nat.{ℕ, _-_}
 use native.Mathlib.Omega.{arith}
@@ -8,7 +8,7 @@ use lib.Seq.{take-all}
 use Rattle.model.specs.declared.Refusal.{Refusal}
 use Rattle.model.specs.Step.{Step, next, fault}
 use Rattle.text_grammar.specs.Line.{Form, Value, fields}
-use Rattle.text_grammar.specs.Reading.{Reading, accepted, refused}
+use Rattle.text_grammar.specs.Reading.{accepted, refused}
 use Rattle.text_line.specs.declared.Layout.{Layout}
 use Rattle.text_line.specs.declared.Fields.the-variants as held
 use Rattle.text_line.specs.declared.FieldsRead.{FieldsRead}

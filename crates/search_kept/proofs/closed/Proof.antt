@@ -4,11 +4,6 @@ use Rattle.search_kept.specs.Differences.{Starts}
 use Rattle.search_kept.proofs.Adding.{starts-none, starts-more}
 use Rattle.search_kept.proofs.closed.Statement.{statement}
 use Rattle.search_kept.proofs.closed.Tie as tie
-use Rattle.search_kept.proofs.closed.Reads as reads
-use Rattle.search_kept.proofs.closed.Lts as lts
-use Rattle.search_kept.proofs.bound.Reads as bound-reads
-use Rattle.search_kept.proofs.raise.Reads as raise-reads
-use Rattle.search_kept.proofs.raise_row.Reads as raise-row-reads
 
 abbrev Inv-loop : tie.InvT-loop
 Inv-loop r₀ u₀ r u = (u ≤ 9) × Starts r₀ r

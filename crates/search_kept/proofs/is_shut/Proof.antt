@@ -2,9 +2,6 @@ use borrow.Author.Needs.{needs}
 use Rattle.search_kept.proofs.Adding.{shut-is}
 use Rattle.search_kept.proofs.is_shut.Statement.{statement}
 use Rattle.search_kept.proofs.is_shut.Tie as tie
-use Rattle.search_kept.proofs.is_shut.Reads as reads
-use Rattle.search_kept.proofs.is_shut.Lts as lts
-use Rattle.search_kept.proofs.bound.Reads as bound-reads
 
 -- src/lib.rt:110:14
 bound-requires : tie.Need-bound-requires

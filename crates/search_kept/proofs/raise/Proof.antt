@@ -2,9 +2,6 @@ use Rattle.search_kept.proofs.Raising.{raise-low, raise-far, raise-set}
 use borrow.Author.Needs.{needs}
 use Rattle.search_kept.proofs.raise.Statement.{statement}
 use Rattle.search_kept.proofs.raise.Tie as tie
-use Rattle.search_kept.proofs.raise.Reads as reads
-use Rattle.search_kept.proofs.raise.Lts as lts
-use Rattle.search_kept.proofs.bound.Reads as bound-reads
 
 bound-requires : tie.Need-bound-requires
 bound-requires c κs = search needs

@@ -4,9 +4,6 @@ use Rattle.search_kept.specs.Differences.{Follows}
 use Rattle.search_kept.proofs.Adding.{follows-none, follows-more}
 use Rattle.search_kept.proofs.raise_all.Statement.{statement}
 use Rattle.search_kept.proofs.raise_all.Tie as tie
-use Rattle.search_kept.proofs.raise_all.Reads as reads
-use Rattle.search_kept.proofs.raise_all.Lts as lts
-use Rattle.search_kept.proofs.raise_from.Reads as raise-from-reads
 
 abbrev Inv-loop : tie.InvT-loop
 Inv-loop e₀ u v b p₀ e p = (p ≤ 9) × Follows e₀ u v b e

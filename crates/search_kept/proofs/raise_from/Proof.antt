@@ -2,10 +2,6 @@ use Rattle.search_kept.proofs.Adding.{from-more}
 use borrow.Author.Needs.{needs}
 use Rattle.search_kept.proofs.raise_from.Statement.{statement}
 use Rattle.search_kept.proofs.raise_from.Tie as tie
-use Rattle.search_kept.proofs.raise_from.Reads as reads
-use Rattle.search_kept.proofs.raise_from.Lts as lts
-use Rattle.search_kept.proofs.bound.Reads as bound-reads
-use Rattle.search_kept.proofs.raise_row.Reads as raise-row-reads
 
 mul-bound : tie.Need-mul-bound
 mul-bound c = search needs

@@ -4,10 +4,6 @@ use Rattle.search_kept.specs.Differences.{Follows}
 use Rattle.search_kept.proofs.Adding.{follows-none, row-next}
 use Rattle.search_kept.proofs.raise_row.Statement.{statement}
 use Rattle.search_kept.proofs.raise_row.Tie as tie
-use Rattle.search_kept.proofs.raise_row.Reads as reads
-use Rattle.search_kept.proofs.raise_row.Lts as lts
-use Rattle.search_kept.proofs.bound.Reads as bound-reads
-use Rattle.search_kept.proofs.raise.Reads as raise-reads
 
 abbrev Inv-loop : tie.InvT-loop
 Inv-loop e₀ p v t q₀ e q = (q ≤ 9) × Follows e₀ p v t e

@@ -1,4 +1,3 @@
-use borrow.Author.Needs.{needs}
 use Rattle.text_line.proofs.Limits.{long-name, high-shift, top-left}
 use Rattle.text_line.proofs.is_sane.Statement.{statement}
 use Rattle.text_line.proofs.is_sane.Tie as tie

@@ -1,4 +1,4 @@
-use Rattle.text_line.proofs.Limits.{whole-spelling, spelling-few, spelling-long}
+use Rattle.text_line.proofs.Limits.{whole-spelling, spelling-long}
 use borrow.Author.Needs.{needs}
 use Rattle.text_line.proofs.spells.Statement.{statement}
 use Rattle.text_line.proofs.spells.Tie as tie

@@ -1,5 +1,4 @@
 use Rattle.axis_graph.proofs.Fining.{ends-tail, ends-head, ends-plus, ends-minus, ends-yes}
-use borrow.Author.Needs.{needs}
 use Rattle.axis_graph.proofs.fine.fine_slot.Statement.{statement}
 use Rattle.axis_graph.proofs.fine.fine_slot.Tie as tie
 

@@ -1,5 +1,4 @@
 use Rattle.model.proofs.Tests.{over, up-to, first-fails, second-fails, both-hold, outside, inside}
-use borrow.Author.Needs.{needs}
 use Rattle.model.proofs.Spot.new.Statement.{statement}
 use Rattle.model.proofs.Spot.new.Tie as tie
 
