@@ -59,7 +59,7 @@ static void fit(const uint8_t *text, size_t length, const char *letters)
     uint64_t number = jizdovel_fit(text, length, (const uint8_t *)letters, strlen(letters),
                                    slots, JIZDOVEL_SLOTS, positions, JIZDOVEL_POSITIONS, &value);
 
-    printf("letters %s, ", letters);
+    printf("letters '%s', ", letters);
     tell("fit", number, value);
     if (number == JIZDOVEL_YES)
         printf("macro 1 at %" PRIu64 ",%" PRIu64 ", macro 2 at %" PRIu64 ",%" PRIu64 "\n",
@@ -82,5 +82,7 @@ int main(void)
     fit(text, length, "ALL");
     fit(text, length, "LLL");
     fit(text, length, "AL");
+    fit(text, length, "...");
+    fit(text, length, "");
     return 0;
 }

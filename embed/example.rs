@@ -42,7 +42,7 @@ fn fit(text: &[u8], letters: &str) {
     let mut slots = [0; jizdovel::SLOTS];
     let mut at = [0; jizdovel::POSITIONS];
     let answer = jizdovel::fit(text, letters.as_bytes(), &mut slots, &mut at);
-    print!("letters {letters}, ");
+    print!("letters '{letters}', ");
     tell("fit", answer);
     if let Answer::Yes(_) = answer {
         println!("macro 1 at {},{}, macro 2 at {},{}", at[0], at[1], at[2], at[3]);
@@ -59,4 +59,6 @@ fn main() {
     fit(text, "ALL");
     fit(text, "LLL");
     fit(text, "AL");
+    fit(text, "...");
+    fit(text, "");
 }

@@ -37,7 +37,7 @@ extern "C" {
 #define JIZDOVEL_NO 255
 
 /* Enough for every chip: bytes of a record (it has at most 192, by theorem: `chip-record-short` in
- * crates/printed/proofs/RecordShort.antt), slots of a fit, numbers of a position list. */
+ * crates/place_print/proofs/PrintedShort.antt), slots of a fit, numbers of a position list. */
 #define JIZDOVEL_RECORD_BYTES 256
 #define JIZDOVEL_SLOTS 728
 #define JIZDOVEL_POSITIONS 16
@@ -62,12 +62,14 @@ uint64_t jizdovel_measure(const uint8_t *text, size_t text_length,
                           const uint64_t *positions, size_t positions_length,
                           uint64_t *value);
 
-/* The fit of a letter string, one of `LRBA.` for each pair, to the chip of a text. YES: `value` is
- * the wirelength, `positions` begins with x1, y1, x2, y2 .. and `slots` with the amounts of a flow.
- * NO: no fit, `value` is 0, `slots` begins with a closed chain, `positions` is not touched. With n
- * macros, p pairs and q pins there are 2 (2n + p + 2q) slots and 2n numbers; what follows them in
- * the lists is not touched. Refusals: those of reading a chip, then 11, 12, then 15 where `slots`
- * or `positions` is too short. */
+/* The fit of a letter string, one of `LRBA.` for each pair, to the chip of a text; the empty string
+ * (`letters_length` 0) stands for a `.` on each pair. YES: `value` is the wirelength, `positions`
+ * begins with x1, y1, x2, y2 .. and `slots` with the amounts of a flow. NO: no fit, `value` is 0,
+ * `slots` begins with a closed chain, `positions` is not touched. With n macros, p pairs and q pins
+ * there are 2 (2n + p + 2q) slots and 2n numbers, for the empty string too; what follows them in
+ * the lists is not touched. Refusals: those of reading a chip, then 11 where the string is not
+ * empty and has not one letter for each pair, then 12, then 15 where `slots` or `positions` is too
+ * short. */
 uint64_t jizdovel_fit(const uint8_t *text, size_t text_length,
                       const uint8_t *letters, size_t letters_length,
                       uint16_t *slots, size_t slots_length,

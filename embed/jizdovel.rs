@@ -73,7 +73,7 @@ pub fn measure(text: &[u8], positions: &[u64]) -> Answer {
     answer(number, value)
 }
 
-/// The fit of a letter string: yes with its wirelength, or no where there is no fit.
+/// The fit of a letter string, the empty one standing for a dot on each pair: yes with its wirelength, or no where there is no fit.
 pub fn fit(text: &[u8], letters: &[u8], slots: &mut [u16], positions: &mut [u64]) -> Answer {
     let mut value = 0;
     let number = unsafe {

@@ -44,6 +44,36 @@ pub fn fits(random: &mut Random, count: usize) -> Result<Tally, Difference> {
     Ok(tally)
 }
 
+/// Fits of the empty string: as the comparison's own, and as the library's fit of a string of dots.
+pub fn of_empty_string(random: &mut Random, count: usize) -> Result<Tally, Difference> {
+    let mut tally = Tally::new("fits of the empty string", "fit", "no fit");
+    for _ in 0..count {
+        let bounds = random.pick(&[SMALL, SMALL, MIDDLE, LARGE]);
+        let chip = generating::chip(random, &bounds);
+        let call = Call { letters: Vec::new(), ..random_call(random, &chip) };
+        let found = compare(&call, &mut tally)?;
+        compare_with_dots(call, &found)?;
+        tally.see(if chip.pairs().is_empty() { "without pairs" } else { "with pairs" });
+    }
+    Ok(tally)
+}
+
+/// Compares the answer of the empty string and the positions with those of a string of dots.
+fn compare_with_dots(call: Call, found: &Found) -> Result<(), Difference> {
+    let Ok(chip) = read_chip(&call.text) else { return Ok(()) };
+    let dots = Call { letters: vec![b'.'; chip.pairs().len()], ..call };
+    let of_dots = called(&dots);
+    if found.answer == of_dots.answer && found.positions == of_dots.positions {
+        return Ok(());
+    }
+    Err(Difference {
+        service: "fits of the empty string",
+        input: format!("{}, {} slots, {} positions", shown(&dots.text), dots.slots, dots.positions),
+        library: format!("{}, positions {:?}", found.answer, found.positions),
+        expected: format!("as for dots: {}, positions {:?}", of_dots.answer, of_dots.positions),
+    })
+}
+
 /// A call that is right in most cases, with one or more faults in the others.
 fn random_call(random: &mut Random, chip: &Chip) -> Call {
     let mut call = Call {
@@ -86,11 +116,15 @@ fn spoil_letters(random: &mut Random, letters: &mut [u8]) {
     letters[place] = random.pick(&[0, b'\n', b' ', b'l', b'a', b',', b'/', b'-', b'C', 255, any]);
 }
 
-pub fn compare(call: &Call, tally: &mut Tally) -> Result<Found, Difference> {
+fn called(call: &Call) -> Found {
     let mut slots = blank_slots(call.slots);
     let mut positions = blank_numbers(call.positions);
     let answer = library::fit(&call.text, &call.letters, &mut slots, &mut positions);
-    let found = Found { answer, slots, positions };
+    Found { answer, slots, positions }
+}
+
+pub fn compare(call: &Call, tally: &mut Tally) -> Result<Found, Difference> {
+    let found = called(call);
     if let Err(expected) = check(call, &found) {
         return Err(Difference {
             service: "fits",
@@ -127,16 +161,25 @@ fn note(call: &Call, found: &Found, tally: &mut Tally) {
 /// The chip of a call that is not refused, or the refusal.
 pub fn accepted(call: &Call) -> Result<Chip, Answer> {
     let chip = read_chip(&call.text).map_err(Answer::refused)?;
-    if call.letters.len() != chip.pairs().len() {
+    let letters = undecided_or(&call.letters, &chip);
+    if letters.len() != chip.pairs().len() {
         return Err(Answer::new(11, 0));
     }
-    if call.letters.iter().any(|letter| !b"LRBA.".contains(letter)) {
+    if letters.iter().any(|letter| !b"LRBA.".contains(letter)) {
         return Err(Answer::new(12, 0));
     }
     if call.slots < chip.slot_count() || call.positions < 2 * chip.macros.len() {
         return Err(Answer::new(15, 0));
     }
     Ok(chip)
+}
+
+/// Document 02, Card 12: for the fit the empty string means that every pair is undecided.
+fn undecided_or(letters: &[u8], chip: &Chip) -> Vec<u8> {
+    if letters.is_empty() {
+        return vec![b'.'; chip.pairs().len()];
+    }
+    letters.to_vec()
 }
 
 /// Compares what a call left with what it should; the fault says what was expected.
@@ -148,15 +191,16 @@ fn check(call: &Call, found: &Found) -> Result<(), String> {
         }
         Ok(chip) => {
             let (slots, numbers) = (chip.slot_count(), 2 * chip.macros.len());
-            let Some(placed) = fit(&chip, &call.letters) else {
+            let letters = undecided_or(&call.letters, &chip);
+            let Some(placed) = fit(&chip, &letters) else {
                 check_answer(found, Answer::new(NO, 0))?;
                 check_rest(found, slots, 0)?;
-                return count_chain(&chip, &call.letters, &found.slots[..slots]);
+                return count_chain(&chip, &letters, &found.slots[..slots]);
             };
             check_answer(found, Answer::new(YES, placed.length as u64))?;
             check_rest(found, slots, numbers)?;
             check_spots(&found.positions[..numbers], &placed.spots)?;
-            count_flow(&chip, &call.letters, &found.slots[..slots], placed.length)
+            count_flow(&chip, &letters, &found.slots[..slots], placed.length)
         }
     }
 }

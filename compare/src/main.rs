@@ -69,6 +69,7 @@ fn compare(random: &mut Random) -> Result<u64, String> {
         + finish(texts::records(random, 40_000), &[YES, 1, 2, 3, 4, 5, 6, 8])?
         + finish(measures::measures(random, 10_000), &[YES, NO, 2, 13, 14])?
         + finish(fits::fits(random, 20_000), &[YES, NO, 2, 11, 12, 15])?
+        + finish(fits::of_empty_string(random, 5_000), &[YES, NO, 2, 15])?
         + finish(placing::small(random, 4_000), &[YES, 15])?
         + finish(placing::large(random, 1_000), &[YES, 15])?
         + finish(placing::refused(random, 2_000), &chip_refusals)?

@@ -37,13 +37,14 @@ const RECORDS: [(&str, &str); 7] = [
 /// Length and corners of a fit.
 type Fit = Option<(i64, [Spot; 2])>;
 
-/// Cases 2 to 6, on the example.
-const FITS: [(&str, Fit); 5] = [
+/// Cases 2 to 6, on the example, and case 6 with the empty string (document 02, Card 12).
+const FITS: [(&str, Fit); 6] = [
     ("ALL", Some((3, [[0, 1], [0, 0]]))),
     ("BLL", Some((6, [[0, 0], [0, 2]]))),
     ("LLR", Some((9, [[0, 0], [3, 0]]))),
     ("LLL", None),
     ("...", Some((0, [[0, 0], [0, 0]]))),
+    ("", Some((0, [[0, 0], [0, 0]]))),
 ];
 
 /// Rows 2 to 10 of the refusal table: text, number, line.
@@ -127,7 +128,7 @@ fn compare_refusal(
 
 /// Rows 11 to 15, on the example chip.
 fn compare_late_refusals(tally: &mut Tally) -> Result<(), Difference> {
-    for (letters, number) in [("AL", 11), ("AxL", 12)] {
+    for (letters, number) in [("AL", 11), ("..", 11), ("....", 11), ("AxL", 12)] {
         let own = fits::accepted(&call(letters)).map_or_else(|refusal| refusal.number, |_| YES);
         hold(letters, own.to_string(), number.to_string())?;
         fits::compare(&call(letters), tally)?;

@@ -4,19 +4,22 @@ use fit_axes::solve_on;
 use fit_lists::is_solved;
 use fit_lists::put_slots;
 use fit_lists::spots_at;
+use fit_pairs::all_dots;
+use fit_pairs::letter_count;
 use fit_slots::Direction;
 use fit_tests::Entry;
 use model::Chip;
 use model::Mac;
 use model::Refusal;
 use model::Spot;
+ghost use Prim.Native.Nat.{_+_, _≤_};
 ghost use mathlib.Core.Path.{_≡_};
 ghost use mathlib.Core.List.{[]};
 ghost use lib.ListN.{length};
 ghost use Rattle.model.specs.Meaning.{chipOf, blankSpot};
 ghost use Rattle.model.specs.Limits.{mostMacs};
 ghost use Rattle.model.specs.Held.{filled};
-ghost use Rattle.fit_slots.specs.Fit.{fitLetters, Filled};
+ghost use Rattle.fit_slots.specs.Fit.{stringFor, fitLetters, Filled};
 ghost use Rattle.fit_axes.specs.Axes.{SolvedBy, Directed};
 ghost use Rattle.fit_tests.specs.Entry.{Asking, fitting, Ready};
 ghost use Rattle.fit.specs.Answer.{answerFor};
@@ -100,9 +103,10 @@ fn second(c: Chip, letters: &[u8], a: Solution) -> Solution
     solve_on(c, letters, Direction::Vertical)
 }
 
-// A chip and letters that pass every test, and room for m slots of each direction.
-fn fit_ready(c: Chip, letters: &[u8], m: usize, flow: &mut [u16]) -> FitAnswer
-    requires { ⌜ Ready c (now letters) (length (now flow)) m ⌝ }
+// A chip and one letter for each pair, and room for m slots of each direction.
+fn fit_each(c: Chip, letters: &[u8], m: usize, flow: &mut [u16]) -> FitAnswer
+    requires { ⌜ Asking c (now letters) m ⌝ }
+    requires { ⌜ m + m ≤ length (now flow) ⌝ }
     ensures { λ r. ⌜ Answered c (now (letters .entry)) (fitting c (now (letters .entry))) r (now (flow .entry)) (now (flow .exit)) ⌝ }
 {
     let a = solve_on(c, letters, Direction::Horizontal);
@@ -111,10 +115,23 @@ fn fit_ready(c: Chip, letters: &[u8], m: usize, flow: &mut [u16]) -> FitAnswer
     answer_of(c, letters, a, b, m)
 }
 
+// A chip and a string that pass every test: the fit of the letters that the string stands for.
+fn fit_ready(c: Chip, letters: &[u8], m: usize, flow: &mut [u16]) -> FitAnswer
+    requires { ⌜ Ready c (now letters) (length (now flow)) m ⌝ }
+    ensures { λ r. ⌜ Answered c (stringFor (chipOf c) (now (letters .entry))) (fitting c (stringFor (chipOf c) (now (letters .entry)))) r (now (flow .entry)) (now (flow .exit)) ⌝ }
+{
+    if letters.len() != 0 {
+        return fit_each(c, letters, m, flow);
+    }
+    let dots = all_dots();
+    let p = letter_count(c.n, c.k);
+    fit_each(c, &dots[..p], m, flow)
+}
+
 // The fit of a chip and a letter string; the flow or the chain goes into the lent list.
 pub fn fit_letters(c: Chip, letters: &[u8], flow: &mut [u16]) -> FitAnswer
     ensures { λ r. ⌜ r ≡ answerFor (fitLetters (chipOf c) (now (letters .entry)) (length (now (flow .entry)))) ⌝ }
-    ensures { λ r. ⌜ Filled (chipOf c) (now (letters .entry)) (fitLetters (chipOf c) (now (letters .entry)) (length (now (flow .entry)))) (now (flow .entry)) (now (flow .exit)) ⌝ }
+    ensures { λ r. ⌜ Filled (chipOf c) (stringFor (chipOf c) (now (letters .entry))) (fitLetters (chipOf c) (now (letters .entry)) (length (now (flow .entry)))) (now (flow .entry)) (now (flow .exit)) ⌝ }
 {
     let entry = fit_tests::test_letters(c, letters, flow.len());
     match entry {

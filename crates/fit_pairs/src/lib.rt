@@ -2,8 +2,12 @@
 use model::Fix;
 use model::Mac;
 ghost use mathlib.Core.Path.{_≡_};
+ghost use Rattle.fit_slots.specs.Fit.{dots};
 ghost use Rattle.fit_pairs.specs.Order.{First, firstPair, isOn, nextOf};
 ghost use Rattle.fit_pairs.specs.Count.{letterTotal};
+
+// Room for the letters of a chip: at most 92 today, and 120 with 12 more fixes.
+pub const LETTERS: usize = 120;
 
 // A pair in the order of letters: macros i and j, or macro i and fix j, counted from 0.
 pub struct Cursor {
@@ -101,4 +105,11 @@ pub fn letter_count(n: usize, k: usize) -> usize
         return 0;
     }
     n * (n - 1) / 2 + n * k
+}
+
+// A dot for each pair.
+pub fn all_dots() -> [u8; LETTERS]
+    ensures { λ r. ⌜ r ≡ dots 120 ⌝ }
+{
+    [46; LETTERS]
 }

@@ -1,16 +1,18 @@
 -- How many letters and slots a chip has.
 use Prim.Native.Nat.{ℕ, zero, suc, _+_, _-_, _*_, _/_, _≤_}
-use mathlib.Core.Path.{_≡_, refl, _∙_}
+use mathlib.Core.Path.{_≡_, refl, ap, _∙_}
 use mathlib.Core.List.{List, [], _∷_, map}
 use native.Mathlib.Nat.{mul-le-mul}
 use native.Mathlib.Omega.{arith}
 use lib.ListN.{length, length-map, length-append}
 use Rattle.model.specs.declared.Fix.{Fix}
 use Rattle.model.specs.declared.Mac.{Mac}
+use Rattle.model.specs.declared.Spot.{Spot}
 use Rattle.model.specs.Meaning.{Net, Chip}
 use Rattle.chip_text.specs.Kind.{pinCount}
 use Rattle.chip_text.specs.Valid.{Valid}
 use Rattle.placement.specs.Letters.{Letter}
+use Rattle.placement.specs.Pairs.{Pair, pairs}
 use Rattle.axis_bounds.specs.Axis as bounds
 use Rattle.axis_bounds.specs.Listed.{listed}
 use Rattle.axis_bounds.proofs.Counts.{length-listed}
@@ -18,6 +20,7 @@ use Rattle.fit_slots.specs.declared.Direction.{Direction}
 use Rattle.fit_slots.specs.Slots.{macSide, Couple, macFix, couplesWith, macCouples, fixCouples, couplesOf, couples, slotsOn}
 use Rattle.fit_slots.specs.Fit.{lettersFor, letterCount}
 use Rattle.fit_slots.specs.Axes.{axisPin, axisNet, heldSlots, axisFor}
+use Rattle.fit_slots.proofs.Pairs.{pairOf, pairs-couples}
 use Rattle.fit_slots.proofs.Matches.{same-slots, same-length}
 
 pub with-count : (i : ℕ) (a : Mac) (j : ℕ) (ms : List Mac) → length (couplesWith i a j ms) ≡ length ms
@@ -54,6 +57,10 @@ letters-count c =
     let q = half (length (c .macs)) (length (macCouples 1 (c .macs))) (mac-count 1 (c .macs)) in
     let r = fix-count 1 (c .macs) (c .fixes) in
     omega arith
+
+-- a placement has as many pairs
+pub pairs-count : (c : Chip) (ps : List Spot) → length ps ≡ length (c .macs) → length (pairs c ps) ≡ letterCount c
+pairs-count c ps l = ap (λ (t : List Pair). length t) (pairs-couples c ps l) ∙ (length-map (couples c) (pairOf ps) ∙ letters-count c)
 
 -- 8 macros and 8 fixes have 92 letters
 module _ (n : ℕ) (h : n ≤ 8) where

@@ -11,3 +11,4 @@ pub mod Fineness
 pub mod Whole
 pub mod Smallest
 pub mod Shown
+pub mod Strings

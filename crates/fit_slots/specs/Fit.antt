@@ -5,7 +5,7 @@ use mathlib.Core.Path.{_≡_}
 use mathlib.Core.List.{List, [], _∷_, map}
 use mathlib.Core.Bool.{Bool, _||_, cond}
 use lib.Dec.{leb, eqb}
-use lib.ListN.{length, take, drop}
+use lib.ListN.{length, take, drop, replicate}
 use Rattle.num_text.specs.Number.{allOf}
 use Rattle.model.specs.declared.Spot.{Spot}
 use Rattle.model.specs.Meaning.{Chip}
@@ -47,6 +47,20 @@ lettersFor n k = n * (n - 1) / 2 + n * k
 abbrev pub letterCount : Chip → ℕ
 letterCount c = lettersFor (length (c .macs)) (length (c .fixes))
 
+-- p dots
+abbrev pub dots : ℕ → List ℕ
+dots p = replicate p 46
+
+-- the letters that a string stands for where there are p pairs: its own. Document 02, Card 12: "For the fit the empty string now means that every pair
+-- is undecided, equal to a string of dots."
+abbrev pub standsFor : ℕ → List ℕ → List ℕ
+standsFor p [] = dots p
+standsFor p (b ∷ s) = b ∷ s
+
+-- the same where the pairs are those of a chip
+abbrev pub stringFor : Chip → List ℕ → List ℕ
+stringFor c s = standsFor (letterCount c) s
+
 -- 2n + p + 2q slots for each of the two directions
 abbrev pub slotCount : Chip → ℕ
 slotCount c = 2 * (2 * length (c .macs) + letterCount c + 2 * pinCount (c .nets))
@@ -73,11 +87,11 @@ abbrev pub fitChip : Reading Chip → List ℕ → ℕ → Fit
 fitChip (refused number line) s room = refusedBy number line
 fitChip (accepted c) s room = unlessFailed refusedBy (firstFailed (fitTests c s room)) (bestFit (slotCount c) (fitOf c (lettersOf s)))
 
--- the fit of a chip and a letter string, with a list of that many slots lent
+-- the fit of a chip and a letter string, by the letters that it stands for, with a list of that many slots lent
 unfoldable pub fitLetters : Chip → List ℕ → ℕ → Fit
-fitLetters c s room = fitChip (readChip (chipText c)) s room
+fitLetters c s room = fitChip (readChip (chipText c)) (stringFor c s) room
 
--- ---- what the lent list holds: before was in it at entry, after at exit
+-- ---- what the lent list holds for letters: before was in it at entry, after at exit
 
 -- the slots past the last are not touched
 pub record Kept (count : ℕ) (before after : List ℕ) : Type 0 where

@@ -19,7 +19,7 @@ use Rattle.chip_text.specs.Text.{readChip, chipText}
 use Rattle.chip_text.specs.Valid.{pinsBefore}
 use Rattle.chip_text.specs.Passed.{Passed}
 use Rattle.chip_text.proofs.Passing.{Whole}
-use Rattle.fit_slots.specs.Fit.{refusedBy, slotCount, fitTests, fitChip, fitLetters, testsBy}
+use Rattle.fit_slots.specs.Fit.{refusedBy, slotCount, fitTests, standsFor, stringFor, fitChip, fitLetters, testsBy}
 use Rattle.fit_pairs.specs.Count.{letterTotal}
 use Rattle.fit_pairs.proofs.Counts.{chip-letters, chip-few}
 use Rattle.fit_tests.specs.Entry.{SlotsEach, fitting, Ready}
@@ -47,17 +47,20 @@ slots-double c m e = omega (arith, e .few)
 
 -- ---- the fit, by the first test that fails
 
-module _ (c : HeldChip) (pass : Passed c) (s : List ℕ) (m : ℕ) (e : SlotsEach c m) (p : ℕ) (ep : p ≡ letterTotal (c .n) (c .k)) (room no : ℕ) (q : no ≡ firstFailed (testsBy p (m + m) s room)) where
+module _ (c : HeldChip) (pass : Passed c) (s : List ℕ) (m : ℕ) (e : SlotsEach c m) (p : ℕ) (ep : p ≡ letterTotal (c .n) (c .k)) (room no : ℕ) (q : no ≡ firstFailed (testsBy p (m + m) (standsFor p s) room)) where
+  abbrev t : List ℕ
+  t = stringFor (chipOf c) s
+
   -- the tests are those of the chip
-  first : no ≡ firstFailed (fitTests (chipOf c) s room)
+  first : no ≡ firstFailed (fitTests (chipOf c) t room)
   first = q ∙ rw (chip-letters c pass p ep, e .both)
 
-  fit-as : fitLetters (chipOf c) s room ≡ unlessFailed refusedBy no (fitting c s)
+  fit-as : fitLetters (chipOf c) s room ≡ unlessFailed refusedBy no (fitting c t)
   unfolding fitLetters
-  fit-as = ap (λ (t : Reading Chip). fitChip t s room) (sym (pass .read)) ∙ ap (λ (k : ℕ). unlessFailed refusedBy k (fitting c s)) (sym first)
+  fit-as = ap (λ (r : Reading Chip). fitChip r t room) (sym (pass .read)) ∙ ap (λ (k : ℕ). unlessFailed refusedBy k (fitting c t)) (sym first)
 
   pub told-refused : (no ≡ 0 → ⊥) → fitLetters (chipOf c) s room ≡ refusedBy no 0
-  told-refused h = fit-as ∙ sym (number-refused refusedBy (fitting c s) no h)
+  told-refused h = fit-as ∙ sym (number-refused refusedBy (fitting c t) no h)
 
   pub told-ready : Whole c → no ≡ 0 → Ready c s room m
   told-ready w z =
@@ -67,11 +70,11 @@ module _ (c : HeldChip) (pass : Passed c) (s : List ℕ) (m : ℕ) (e : SlotsEac
       record {
         asking = record { passed = pass; whole = w; letters = eqb-true _ _ (first-passes 10 _ _ a); slots = e };
         enough = omega (arith, e .both, leb-true (slotCount (chipOf c)) room (first-passes 14 _ _ d));
-        fits = fit-as ∙ sym (number-none refusedBy (fitting c s) no z);
+        fits = fit-as ∙ sym (number-none refusedBy (fitting c t) no z);
       }
 
 -- ---- the test of the chip
 
 pub test-refused : (c : HeldChip) (s : List ℕ) (room : ℕ) (t : Tested) → testedAs (chipOf c) t ≡ readChip (chipText (chipOf c)) → (f : Refusal) → t ≡ tested.Refused f → fitLetters (chipOf c) s room ≡ refusedBy (f .no) (f .line)
 unfolding fitLetters
-test-refused c s room t e f q = ap (λ (r : Reading Chip). fitChip r s room) (sym (ap (testedAs (chipOf c)) (sym q) ∙ e))
+test-refused c s room t e f q = ap (λ (r : Reading Chip). fitChip r (stringFor (chipOf c) s) room) (sym (ap (testedAs (chipOf c)) (sym q) ∙ e))

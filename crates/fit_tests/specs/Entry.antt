@@ -8,7 +8,7 @@ use Rattle.model.specs.Meaning.{chipOf}
 use Rattle.chip_text.specs.Passed.{Passed}
 use Rattle.chip_text.proofs.Passing.{Whole}
 use Rattle.placement.specs.Least.{fitOf}
-use Rattle.fit_slots.specs.Fit.{Fit, refusedBy, lettersOf, letterCount, slotCount, bestFit, fitLetters}
+use Rattle.fit_slots.specs.Fit.{Fit, refusedBy, lettersOf, letterCount, slotCount, bestFit, stringFor, fitLetters}
 use Rattle.fit_tests.specs.declared.Entry.{Entry}
 use Rattle.fit_tests.specs.declared.Entry.the-variants as entry
 
@@ -28,11 +28,11 @@ pub record Asking (c : HeldChip) (s : List ℕ) (m : ℕ) : Type 0 where
 abbrev pub fitting : HeldChip → List ℕ → Fit
 fitting c s = bestFit (slotCount (chipOf c)) (fitOf (chipOf c) (lettersOf s))
 
--- the fit is not refused: there is room for m slots of each direction
+-- the fit is not refused: it is that of the letters that the string stands for, and there is room for m slots of each direction
 pub record Ready (c : HeldChip) (s : List ℕ) (room m : ℕ) : Type 0 where
-  pub asking : Asking c s m
+  pub asking : Asking c (stringFor (chipOf c) s) m
   pub enough : m + m ≤ room
-  pub fits : fitLetters (chipOf c) s room ≡ fitting c s
+  pub fits : fitLetters (chipOf c) s room ≡ fitting c (stringFor (chipOf c) s)
 
 abbrev pub Entered : HeldChip → List ℕ → ℕ → Entry → Type 0
 Entered c s room (entry.Refused f) = fitLetters (chipOf c) s room ≡ refusedBy (f .no) (f .line)

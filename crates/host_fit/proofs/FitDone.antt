@@ -21,7 +21,7 @@ use Rattle.chip_text.specs.Passed.{Passed}
 use Rattle.placement.proofs.OrderLaws.{length-keys}
 use Rattle.placement.specs.Order.{keys}
 use Rattle.placement.specs.Least.{Best, nothing, found, fitOf}
-use Rattle.fit_slots.specs.Fit.{Fit, refusedBy, noFit, placed, areLetters, lettersOf, letterCount, slotCount, bestFit, fitTests, fitChip, fitLetters, Filled}
+use Rattle.fit_slots.specs.Fit.{Fit, refusedBy, noFit, placed, areLetters, lettersOf, letterCount, slotCount, bestFit, stringFor, fitTests, fitChip, fitLetters, Filled}
 use Rattle.search_branches.proofs.Betters.{Sized}
 use Rattle.search_branches.proofs.Closing.{fit-sized}
 use Rattle.fit.specs.declared.Fitted.{Fitted}
@@ -63,19 +63,23 @@ module _ (c : HeldChip) (ok : Passed c) (s : List ℕ) where
   twice : c .n + c .n ≡ 2 * length (C .macs)
   twice = let e = ok .macs in omega arith
 
+  -- the letters that the string stands for
+  abbrev t : List ℕ
+  t = stringFor C s
+
   -- the first of a fit's tests that fails, or the fit
   abbrev unless : ℕ → Fit
-  unless number = unlessFailed refusedBy number (bestFit (slotCount C) (fitOf C (lettersOf s)))
+  unless number = unlessFailed refusedBy number (bestFit (slotCount C) (fitOf C (lettersOf t)))
 
-  fit-is : (room : ℕ) → fitLetters C s room ≡ unless (firstFailed (fitTests C s room))
+  fit-is : (room : ℕ) → fitLetters C s room ≡ unless (firstFailed (fitTests C t room))
   unfolding fitLetters
-  fit-is room = ap (λ (t : Reading Chip). fitChip t s room) (sym (ok .read))
+  fit-is room = ap (λ (r : Reading Chip). fitChip r t room) (sym (ok .read))
 
   fit-placed-sized : (room : ℕ) → SizedFit (length (C .macs)) (fitLetters C s room)
   fit-placed-sized room =
       let n = length (C .macs) in
       subst (SizedFit n) (sym (fit-is room))
-      (sized-unless n (firstFailed (fitTests C s room)) (bestFit (slotCount C) (fitOf C (lettersOf s))) (sized-best n (slotCount C) (fitOf C (lettersOf s)) (fit-sized C (lettersOf s))))
+      (sized-unless n (firstFailed (fitTests C t room)) (bestFit (slotCount C) (fitOf C (lettersOf t))) (sized-best n (slotCount C) (fitOf C (lettersOf t)) (fit-sized C (lettersOf t))))
 
   -- ---- the list of positions is too short
 
@@ -93,20 +97,20 @@ module _ (c : HeldChip) (ok : Passed c) (s : List ℕ) where
 
   module _ (room : ℕ) (h : room < c .n + c .n) where
     abbrev first : ℕ
-    first = firstFailed (failing (eqb (length s) (letterCount C)) (areLetters s))
+    first = firstFailed (failing (eqb (length t) (letterCount C)) (areLetters t))
 
     one-slot : fitLetters C s 1 ≡ unless first
     one-slot =
         let many : 1 < slotCount C = let e = twice in omega arith in
-        fit-is 1 ∙ ap (λ (b : Bool). unless (firstFailed (test 11 (eqb (length s) (letterCount C)) ∷ test 12 (areLetters s) ∷ test 15 b ∷ []))) (lt-leb (slotCount C) 1 many)
+        fit-is 1 ∙ ap (λ (b : Bool). unless (firstFailed (test 11 (eqb (length t) (letterCount C)) ∷ test 12 (areLetters t) ∷ test 15 b ∷ []))) (lt-leb (slotCount C) 1 many)
 
     too-short : (slots : ℕ) → fitRead (accepted C) s slots room ≡ unless first
     too-short slots =
-        ap (λ (b : Bool). unless (firstFailed (fitTests C s slots ++ (test 15 b ∷ [])))) (lt-leb (2 * length (C .macs)) room (let e = twice in omega arith))
-        ∙ ap unless (either (eqb (length s) (letterCount C)) (areLetters s) (leb (slotCount C) slots))
+        ap (λ (b : Bool). unless (firstFailed (fitTests C t slots ++ (test 15 b ∷ [])))) (lt-leb (2 * length (C .macs)) room (let e = twice in omega arith))
+        ∙ ap unless (either (eqb (length t) (letterCount C)) (areLetters t) (leb (slotCount C) slots))
 
     -- a refusal leaves both lists
-    slots-stay : (a b : Bool) (l : List ℕ) → Filled C s (unless (firstFailed (failing a b))) l l
+    slots-stay : (a b : Bool) (l : List ℕ) → Filled C t (unless (firstFailed (failing a b))) l l
     unfolding firstFailed
     slots-stay true true l = refl
     slots-stay true false l = refl
@@ -129,8 +133,8 @@ module _ (c : HeldChip) (ok : Passed c) (s : List ℕ) where
             let same : fitRead (accepted C) s (length slots) (length places) ≡ unless first = ap (fitRead (accepted C) s (length slots)) l ∙ too-short (length slots) in
             record {
               answer = e ∙ (ap (λ (t : FitOutcome). code (ofOutcome t)) told ∙ (ap code (outcome-fit (fitLetters C s 1)) ∙ ap (λ (f : Fit). code (ofFit f)) (one-slot ∙ sym same)));
-              filled = subst (λ (f : Fit). Filled C s f slots slots) (sym same) (slots-stay (eqb (length s) (letterCount C)) (areLetters s) slots);
-              corners = places-stay (eqb (length s) (letterCount C)) (areLetters s) places ∙ ap (λ (f : Fit). placesAfter f places) (sym same);
+              filled = subst (λ (f : Fit). Filled C t f slots slots) (sym same) (slots-stay (eqb (length t) (letterCount C)) (areLetters t) slots);
+              corners = places-stay (eqb (length t) (letterCount C)) (areLetters t) places ∙ ap (λ (f : Fit). placesAfter f places) (sym same);
             }
 
   pub short-done : (room one : ℕ) → one ≡ 1 → (a : FitAnswer) → a ≡ answerFor (fitLetters C s one) → (r : Code) → r ≡ code (ofOutcome (a .outcome)) → Refusing c s room r
@@ -138,13 +142,13 @@ module _ (c : HeldChip) (ok : Passed c) (s : List ℕ) where
 
   -- ---- there is room for the positions
 
-  module _ (slots slotsAfter places : List ℕ) (h : c .n + c .n ≤ length places) (a : FitAnswer) (q : a ≡ answerFor (fitLetters C s (length slots))) (w : Filled C s (fitLetters C s (length slots)) slots slotsAfter) (r : Code) where
+  module _ (slots slotsAfter places : List ℕ) (h : c .n + c .n ≤ length places) (a : FitAnswer) (q : a ≡ answerFor (fitLetters C s (length slots))) (w : Filled C t (fitLetters C s (length slots)) slots slotsAfter) (r : Code) where
     abbrev F : Fit
     F = fitLetters C s (length slots)
 
     same-fit : fitRead (accepted C) s (length slots) (length places) ≡ F
     same-fit =
-        ap unless (passes-last (fitTests C s (length slots)) 15 (leb (2 * length (C .macs)) (length places)) (le-leb (2 * length (C .macs)) (length places) (let e = twice in omega arith)))
+        ap unless (passes-last (fitTests C t (length slots)) 15 (leb (2 * length (C .macs)) (length places)) (le-leb (2 * length (C .macs)) (length places) (let e = twice in omega arith)))
         ∙ sym (fit-is (length slots))
 
     outcome-is : a .outcome ≡ outcomeOf F
@@ -153,7 +157,7 @@ module _ (c : HeldChip) (ok : Passed c) (s : List ℕ) where
     done-by : (placesThen : List ℕ) → r ≡ code (ofFit F) → placesThen ≡ placesAfter F places → FitDone (accepted C) s r slots slotsAfter places placesThen
     done-by placesThen e p = record {
       answer = e ∙ ap (λ (f : Fit). code (ofFit f)) (sym same-fit);
-      filled = subst (λ (f : Fit). Filled C s f slots slotsAfter) (sym same-fit) w;
+      filled = subst (λ (f : Fit). Filled C t f slots slotsAfter) (sym same-fit) w;
       corners = p ∙ ap (λ (f : Fit). placesAfter f places) (sym same-fit);
     }
 

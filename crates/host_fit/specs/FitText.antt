@@ -10,18 +10,19 @@ use Rattle.text_grammar.specs.Reading.{Reading, accepted, refused}
 use Rattle.chip_text.specs.Text.{readChip}
 use Rattle.placement.specs.Order.{keys}
 use Rattle.placement.specs.Least.{fitOf}
-use Rattle.fit_slots.specs.Fit.{Fit, refusedBy, noFit, placed, lettersOf, slotCount, bestFit, fitTests, Filled}
+use Rattle.fit_slots.specs.Fit.{Fit, refusedBy, noFit, placed, lettersOf, slotCount, bestFit, stringFor, fitTests, Filled}
 use Rattle.host_codes.specs.declared.Code.{Code}
 use Rattle.fit.specs.declared.FitOutcome.{FitOutcome}
 use Rattle.fit.specs.declared.FitOutcome.the-variants as outcome
 use Rattle.host_codes.specs.Code.{Outcome, granted, denied, code, ofFit}
 use Rattle.host_codes.specs.Code as coded
 
--- the text is read first; then the tests of a fit, the last being 15 for the slots, and 15 for the positions, by the lengths of the two lists
+-- the text is read first; then the tests of a fit of the letters that the string stands for, the last being 15 for the slots, and 15 for the
+-- positions, by the lengths of the two lists
 abbrev pub fitRead : Reading Chip → List ℕ → ℕ → ℕ → Fit
 fitRead (accepted c) s slots places =
-    unlessFailed refusedBy (firstFailed (fitTests c s slots ++ (test 15 (leb (2 * length (c .macs)) places) ∷ [])))
-    (bestFit (slotCount c) (fitOf c (lettersOf s)))
+    unlessFailed refusedBy (firstFailed (fitTests c (stringFor c s) slots ++ (test 15 (leb (2 * length (c .macs)) places) ∷ [])))
+    (bestFit (slotCount c) (fitOf c (lettersOf (stringFor c s))))
 fitRead (refused number line) s slots places = refusedBy number line
 
 abbrev pub fitText : List ℕ → List ℕ → ℕ → ℕ → Fit
@@ -35,7 +36,7 @@ ofOutcome (outcome.Refused f) = coded.refused (f .no) (f .line)
 
 -- the list of slots: before was in it at entry, after at exit
 abbrev pub SlotsFilled : Reading Chip → List ℕ → Fit → List ℕ → List ℕ → Type 0
-SlotsFilled (accepted c) s f before after = Filled c s f before after
+SlotsFilled (accepted c) s f before after = Filled c (stringFor c s) f before after
 SlotsFilled (refused number line) s f before after = after ≡ before
 
 -- numbers at the front of a list, the rest as it was

@@ -11,7 +11,7 @@ use Rattle.chip_text.specs.Text.{readChip}
 use Rattle.placement.specs.Least.{fitOf}
 use Rattle.measure_held.specs.Answer.{refused as notMeasured}
 use Rattle.measure.specs.Measuring.{measurePassed}
-use Rattle.fit_slots.specs.Fit.{refusedBy, lettersOf, slotCount, fitTests}
+use Rattle.fit_slots.specs.Fit.{refusedBy, lettersOf, slotCount, stringFor, fitTests}
 use Rattle.text_grammar.proofs.Numbers.{Numbered}
 use Rattle.chip_text.proofs.Numbers.{chip-number}
 use Rattle.place_print.proofs.Refusals.{wider, tabled, first-told, measured-told, passed-told, fit-told}
@@ -23,7 +23,7 @@ abbrev counted : Chip → List ℕ → List Test
 counted c list = test 13 (eqb (length list) (2 * length (c .macs))) ∷ []
 
 abbrev roomy : Chip → List ℕ → ℕ → ℕ → List Test
-roomy c s slots places = fitTests c s slots ++ (test 15 (leb (2 * length (c .macs)) places) ∷ [])
+roomy c s slots places = fitTests c (stringFor c s) slots ++ (test 15 (leb (2 * length (c .macs)) places) ∷ [])
 
 pub measure-text-number : (text list : List ℕ) (n l : ℕ) → measureText text list ≡ notMeasured n l → Numbered 15 n
 unfolding tabled
@@ -38,5 +38,5 @@ unfolding tabled
 fit-text-number text s slots places n l e = by (readChip text) refl e (λ c. first-told (roomy c s slots places) refl)
   where
     by : (r : Reading Chip) → readChip text ≡ r → fitRead r s slots places ≡ refusedBy n l → ((c : Chip) (j : ℕ) → firstFailed (roomy c s slots places) ≡ suc j → Numbered 15 (suc j)) → Numbered 15 n
-    by (accepted c) t q told = fit-told (firstFailed (roomy c s slots places)) (told c) (slotCount c) (fitOf c (lettersOf s)) n l q
+    by (accepted c) t q told = fit-told (firstFailed (roomy c s slots places)) (told c) (slotCount c) (fitOf c (lettersOf (stringFor c s))) n l q
     by (refused k m) t q told = wider k n (chip-number text k m t) cc

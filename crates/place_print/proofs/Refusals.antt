@@ -20,7 +20,7 @@ use Rattle.placement.specs.Least.{Best, nothing, found, fitOf, chipRecord}
 use Rattle.measure_tests.specs.Positions.{measureTests}
 use Rattle.measure_held.specs.Answer.{Measure, measured, refused as notMeasured}
 use Rattle.measure.specs.Measuring.{afterReading, measurePassed, measurePositions}
-use Rattle.fit_slots.specs.Fit.{refusedBy, lettersOf, slotCount, bestFit, fitTests, fitChip, fitLetters}
+use Rattle.fit_slots.specs.Fit.{refusedBy, lettersOf, slotCount, bestFit, stringFor, fitTests, fitChip, fitLetters}
 use Rattle.search.specs.Place.{searchChip, placeRead, placeText}
 use Rattle.place_print.specs.Printed.{printed, printText}
 use Rattle.text_grammar.proofs.Numbers.{Numbered}
@@ -116,8 +116,8 @@ fit-told (suc j) t slots b n l e = let q : n ≡ suc j = cc in rw q (t j refl)
 
 pub fit-number : (c : Chip) (s : List ℕ) (room n l : ℕ) → fitLetters c s room ≡ refusedBy n l → Numbered 15 n
 unfolding fitLetters tabled
-fit-number c s room n l e = by (readChip (chipText c)) refl e (λ a. first-told (fitTests a s room) refl)
+fit-number c s room n l e = by (stringFor c s) (readChip (chipText c)) refl e (λ a. first-told (fitTests a (stringFor c s) room) refl)
   where
-    by : (r : Reading Chip) → readChip (chipText c) ≡ r → fitChip r s room ≡ refusedBy n l → ((a : Chip) (j : ℕ) → firstFailed (fitTests a s room) ≡ suc j → Numbered 15 (suc j)) → Numbered 15 n
-    by (accepted a) t q told = fit-told (firstFailed (fitTests a s room)) (told a) (slotCount a) (fitOf a (lettersOf s)) n l q
-    by (refused k m) t q told = wider k n (chip-number (chipText c) k m t) cc
+    by : (u : List ℕ) (r : Reading Chip) → readChip (chipText c) ≡ r → fitChip r u room ≡ refusedBy n l → ((a : Chip) (j : ℕ) → firstFailed (fitTests a u room) ≡ suc j → Numbered 15 (suc j)) → Numbered 15 n
+    by u (accepted a) t q told = fit-told (firstFailed (fitTests a u room)) (told a) (slotCount a) (fitOf a (lettersOf u)) n l q
+    by u (refused k m) t q told = wider k n (chip-number (chipText c) k m t) cc

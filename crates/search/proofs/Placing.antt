@@ -5,7 +5,7 @@ use mathlib.Core.Path.{_≡_, refl, sym, ap, subst, _∙_}
 use mathlib.Core.Bool.{true}
 use mathlib.Core.List.{List}
 use native.Mathlib.Omega.{arith}
-use lib.ListN.{length, replicate, length-map}
+use lib.ListN.{length, replicate}
 use Rattle.model.specs.declared.Spot.{Spot}
 use Rattle.model.specs.declared.Chip.{Chip as HeldChip}
 use Rattle.model.specs.declared.Record.{Record as HeldRecord}
@@ -26,10 +26,9 @@ use Rattle.placement.specs.Pairs.{pairs}
 use Rattle.placement.specs.Least.{earliestLeast, bestRecord, chipRecord}
 use Rattle.fit_slots.specs.declared.Direction.{Direction}
 use Rattle.fit_slots.specs.declared.Direction.the-variants.{Horizontal as horizontal, Vertical as vertical}
-use Rattle.fit_slots.specs.Slots.{couples}
-use Rattle.fit_slots.specs.Fit.{letterCount}
-use Rattle.fit_slots.proofs.Counting.{letters-count}
-use Rattle.fit_slots.proofs.Pairs.{pairOf, pairs-couples}
+use Rattle.fit_slots.specs.Fit.{areLetters, letterCount, dots}
+use Rattle.fit_slots.proofs.Counting.{pairs-count}
+use Rattle.fit_slots.proofs.Strings.{dots-are, take-dots}
 use Rattle.fit_pairs.specs.Count.{letterTotal}
 use Rattle.fit_pairs.proofs.Counts.{chip-letters, chip-few}
 use Rattle.placement.proofs.Demand.{earliest-least-found}
@@ -46,7 +45,7 @@ use Rattle.search_close.specs.Step.{Searched}
 use Rattle.search.specs.Search.{RootOk}
 use Rattle.search_node.specs.declared.Node.{Node}
 use Rattle.search.specs.Place.{searchChip, placeText, placeRead}
-use Rattle.search_node.proofs.Lettering.{dots-are, dots-in}
+use Rattle.search_node.proofs.Lettering.{dots-in}
 use Rattle.search_node.proofs.Records.{no-best, none-counted}
 use Rattle.search.proofs.RecordsRead.{chip-record-read}
 
@@ -59,11 +58,11 @@ module _ (c : HeldChip) (p : ℕ) (ok : Passed c) (e : p ≡ letterTotal (c .n) 
   few : p ≤ 120
   few = let f = chip-few c ok p e in omega arith
 
-  pub dots-lettered : Lettered c (replicate 120 46) p
-  dots-lettered = record { count = count; few = few; bytes = dots-are 120 p }
+  pub dots-lettered : Lettered c (dots 120) p
+  dots-lettered = record { count = count; few = few; bytes = ap areLetters (take-dots 120 p few) ∙ dots-are p }
 
   pub many : (ps : List Spot) → length ps ≡ length (chipOf c .macs) → length (pairs (chipOf c) ps) ≡ p
-  many ps l = ap (λ (t : List _). length t) (pairs-couples (chipOf c) ps l) ∙ (length-map (couples (chipOf c)) (pairOf ps) ∙ (letters-count (chipOf c) ∙ sym count))
+  many ps l = pairs-count (chipOf c) ps l ∙ sym count
 
   best-is : (r : Record) → bestRecord (resultOf r) ≡ r
   best-is none = refl
@@ -80,13 +79,13 @@ module _ (c : HeldChip) (p : ℕ) (ok : Passed c) (e : p ≡ letterTotal (c .n) 
       start : Real C (bestOf o)
       start = subst (Real C) (sym (ap bestOf q ∙ no-best)) tt
 
-      dots : lettersIn (node .letters) p ≡ replicate p dot
-      dots = ap (λ (t : List ℕ). lettersIn t p) (root .letters) ∙ dots-in 120 p few
+      are-dots : lettersIn (node .letters) p ≡ replicate p dot
+      are-dots = ap (λ (t : List ℕ). lettersIn t p) (root .letters) ∙ dots-in 120 p few
 
       all : bestOf r ≡ earliestLeast C
       all = real-answer C (bestOf r) (w .real start) (λ l ps e.
           let f = earliest-least-found C l ps e in
-          w .covers ps (subst (λ (t : List Letter). inBranch C t ps ≡ true) (sym dots) (dots-branch C p many ps (f .passed)))
+          w .covers ps (subst (λ (t : List Letter). inBranch C t ps ≡ true) (sym are-dots) (dots-branch C p many ps (f .passed)))
           (root .keeps ps (f .passed) (record { le = λ i j h a. equal-macros C (ok .valid) l ps f i j h a })))
 
 -- the arrays of a chip whose test is passed

@@ -19,6 +19,7 @@ use Rattle.axis_bounds.specs.Axis.{Keeps, valueAt, lengthOn, netsLength}
 use Rattle.fit_slots.specs.declared.Direction.{Direction}
 use Rattle.fit_slots.specs.declared.Direction.the-variants.{Horizontal as horizontal, Vertical as vertical}
 use Rattle.fit_slots.specs.Axes.{axisNet, axisFor, cornersOn}
+use Rattle.fit_slots.specs.Fit.{dots}
 use Rattle.fit_slots.proofs.Keeping.{keeps-splits}
 use Rattle.fit_pairs.specs.Count.{letterTotal}
 use Rattle.search_branches.specs.Branch.{inBranch}
@@ -36,7 +37,7 @@ use Rattle.search_tables.proofs.Padding.{padded-value, take-nets}
 use Rattle.half_fit.specs.Answer.{Answers}
 use Rattle.half_fit.specs.declared.service.HalfFit.{HalfFit}
 use Rattle.search_best.specs.Best.{bestOf}
-use Rattle.search_node.specs.Letters.{lettersIn, Lettered, dots}
+use Rattle.search_node.specs.Letters.{lettersIn, Lettered}
 use Rattle.search_node.specs.Node.{FitHeld}
 use Rattle.search_join.specs.Joined.{HalfSaid}
 use Rattle.search_order.specs.Order.{OrderKept}
@@ -68,9 +69,9 @@ module _ (c : HeldChip) (p : ℕ) (ok : Passed c) (e : p ≡ letterTotal (c .n) 
   C = chipOf c
 
   abbrev ls : List Letter
-  ls = lettersIn dots p
+  ls = lettersIn (dots 120) p
 
-  lettered : Lettered c dots p
+  lettered : Lettered c (dots 120) p
   lettered = dots-lettered c p ok e
 
   are-dots : ls ≡ replicate p dot
@@ -93,7 +94,7 @@ module _ (c : HeldChip) (p : ℕ) (ok : Passed c) (e : p ≡ letterTotal (c .n) 
         keeps = branch-keeps C ls ps (subst (λ (t : List Letter). inBranch C t ps ≡ true) (sym are-dots) (dots-branch C p (many c p ok e) ps g))
 
     -- the length of the nets at the fit's corners is that of its half
-    half-long : (here : HeldRecord) → FitHeld c dots p here → (xs : List ℕ) → xs ≡ cornersOn d (here .spots) → (m : ℕ) → m ≡ netsLength (limited xs) (netsFrom tab 0 32) → (l : ℕ) (ps : List Spot) → bestOf here ≡ found l ps → m ≡ lengthOn (axisFor d C ls) (cornersOn d ps)
+    half-long : (here : HeldRecord) → FitHeld c (dots 120) p here → (xs : List ℕ) → xs ≡ cornersOn d (here .spots) → (m : ℕ) → m ≡ netsLength (limited xs) (netsFrom tab 0 32) → (l : ℕ) (ps : List Spot) → bestOf here ≡ found l ps → m ≡ lengthOn (axisFor d C ls) (cornersOn d ps)
     unfolding axisFor
     half-long here fit xs ex m em l ps b =
         em ∙ (h .tabled .long (limited xs) ∙ (sym (take-nets d C (ok .valid) (limited xs)) ∙ ap (λ (z : List ℕ). netsLength z (map (axisNet d) (C .nets))) same))
@@ -115,15 +116,15 @@ module _ (c : HeldChip) (p : ℕ) (ok : Passed c) (e : p ≡ letterTotal (c .n) 
   -- ---- both
 
   -- the chip a is read from the array
-  pub first-asked : (a : HeldChip) → a ≡ c → (letters : List ℕ) → letters ≡ dots → (tx ax ty ay : List ℕ) → Hold c horizontal tx ax → Hold c vertical ty ay → (room : ℕ) (f g : HalfFit) → Answers tx ax room (f .outcome) (f .at) → Answers ty ay room (g .outcome) (g .at)
+  pub first-asked : (a : HeldChip) → a ≡ c → (letters : List ℕ) → letters ≡ dots 120 → (tx ax ty ay : List ℕ) → Hold c horizontal tx ax → Hold c vertical ty ay → (room : ℕ) (f g : HalfFit) → Answers tx ax room (f .outcome) (f .at) → Answers ty ay room (g .outcome) (g .at)
       → Passed a × Lettered a letters p × HalfSaid (chipOf a) (lettersIn letters p) horizontal room (f .outcome) (f .at) × HalfSaid (chipOf a) (lettersIn letters p) vertical room (g .outcome) (g .at)
   first-asked a q letters z tx ax ty ay hx hy room f g x y = rw (q, z) (ok, lettered, said horizontal tx ax hx room f x, said vertical ty ay hy room g y)
 
-  module _ (letters : List ℕ) (z : letters ≡ dots) (tx ax : List ℕ) (hx : Hold c horizontal tx ax) (ty ay : List ℕ) (hy : Hold c vertical ty ay) (here : HeldRecord) (given : FitHeld c letters p here)
+  module _ (letters : List ℕ) (z : letters ≡ dots 120) (tx ax : List ℕ) (hx : Hold c horizontal tx ax) (ty ay : List ℕ) (hy : Hold c vertical ty ay) (here : HeldRecord) (given : FitHeld c letters p here)
       (k₀ : List ℕ) (sx : Starts ax k₀) (kx : List ℕ) (ox : OrderKept (chipOf c) k₀ kx) (ky : List ℕ) (sy : Starts ay ky)
       (xs : List ℕ) (ex : xs ≡ cornersOn horizontal (here .spots)) (lx : ℕ) (qx : lx ≡ netsLength (limited xs) (netsFrom tx 0 32))
       (ys : List ℕ) (ey : ys ≡ cornersOn vertical (here .spots)) (ly : ℕ) (qy : ly ≡ netsLength (limited ys) (netsFrom ty 0 32)) where
-    fit : FitHeld c dots p here
+    fit : FitHeld c (dots 120) p here
     fit = rw z at given
 
     pub root-ok : RootOk c p (record { letters = letters; ax = ax; ay = ay; kx = kx; ky = ky; lx = lx; ly = ly; here = here })

@@ -11,11 +11,12 @@ use Rattle.model.specs.Meaning.{chipOf, blankSpot}
 use Rattle.placement.specs.Legal.{legal}
 use Rattle.axis_bounds.specs.declared.Slot.{Slot}
 use Rattle.fit_slots.specs.declared.Direction.the-variants.{Vertical as vertical}
+use Rattle.fit_slots.specs.Fit.{dots}
 use Rattle.search_halves.specs.Result.{NotAfter, Real}
 use Rattle.search_kept.specs.Differences.{Adds, limited}
 use Rattle.search_tables.specs.Tables.{withBound}
 use Rattle.search_best.specs.Best.{bestOf, Counted}
-use Rattle.search_node.specs.Letters.{byteOf, dots, wayAt}
+use Rattle.search_node.specs.Letters.{byteOf, wayAt}
 use Rattle.search_node.specs.Node.{lengthOf, NodeOk}
 use Rattle.search_node.specs.declared.Node.{Node}
 use Rattle.search_left.specs.Left.{KeepsBoth, AddsOn, childList, childAt}
@@ -72,5 +73,5 @@ uprightSpots at = spotsWith vertical at (replicate 8 blankSpot)
 -- a dot for each pair; every legal placement in which equal macros are ordered keeps the differences
 pub record RootOk (c : HeldChip) (p : ℕ) (r : Node) : Type 0 where
   pub node : NodeOk c p r
-  pub letters : r .letters ≡ dots
+  pub letters : r .letters ≡ dots 120
   pub keeps : (ps : List Spot) → legal (chipOf c) ps ≡ true → Ordered (chipOf c) ps → KeepsBoth (r .kx) (r .ky) ps

@@ -1,5 +1,6 @@
 // The root of the search: a dot for each pair.
 use chip_array::macro_count;
+use fit_pairs::LETTERS;
 use fit_slots::Direction;
 use half_fit::service::HalfFit;
 use half_fit::service::HalfOutcome;
@@ -11,7 +12,6 @@ use model::Spot;
 use search_join::fit_again;
 use search_join::joined;
 use search_join::spots_with;
-use search_node::LETTERS;
 use search_node::Node;
 use search_node::no_record;
 use search_order::ordered;
@@ -22,9 +22,10 @@ ghost use Rattle.model.specs.Meaning.{chipOf};
 ghost use Rattle.chip_text.specs.Passed.{Passed};
 ghost use Rattle.chip_array.specs.Array.{chipIn};
 ghost use Rattle.fit_slots.specs.Axes.{cornerOn, cornersOn};
+ghost use Rattle.fit_slots.specs.Fit.{dots};
 ghost use Rattle.search_tables.specs.Made.{Hold};
 ghost use Rattle.fit_pairs.specs.Count.{letterTotal};
-ghost use Rattle.search_node.specs.Letters.{dots, lettersIn, Lettered};
+ghost use Rattle.search_node.specs.Letters.{lettersIn, Lettered};
 ghost use Rattle.search_node.specs.Node.{noRecord, FitHeld};
 ghost use Rattle.search_join.specs.Joined.{HalfSaid, ChildHeld};
 ghost use Rattle.search.specs.Search.{uprightSpots, RootOk};
@@ -121,7 +122,7 @@ pub(crate) fn root(
     y: Arrays,
     here: Record,
 ) -> Node
-    requires { ⌜ Passed c × (p ≡ letterTotal (c .n) (c .k)) × (letters ≡ dots) × Hold c Direction.Horizontal (x .tab) (x .arcs) × Hold c Direction.Vertical (y .tab) (y .arcs) × FitHeld c letters p here ⌝ }
+    requires { ⌜ Passed c × (p ≡ letterTotal (c .n) (c .k)) × (letters ≡ dots 120) × Hold c Direction.Horizontal (x .tab) (x .arcs) × Hold c Direction.Vertical (y .tab) (y .arcs) × FitHeld c letters p here ⌝ }
     ensures { λ r. ⌜ RootOk c p r ⌝ }
 {
     let spots = here.spots;

@@ -5,6 +5,7 @@ use crate::root::root;
 use crate::weights::all_weights;
 use chip_put::array_of;
 use chip_read::ChipAnswer;
+use fit_pairs::all_dots;
 use fit_slots::Direction;
 use half_fit::HELP;
 use half_fit::POOL;
@@ -14,7 +15,6 @@ use model::Record;
 use model::Tested;
 use model::WriteAnswer;
 use search_node::Parts;
-use search_node::no_letters;
 use search_node::no_record;
 use search_tables::arrays_of;
 ghost use mathlib.Core.Path.{_≡_};
@@ -41,7 +41,7 @@ fn chip_record(c: Chip) -> Record
     requires { ⌜ Passed c ⌝ }
     ensures { λ r. ⌜ recordOf r ≡ chipRecord (chipOf c) ⌝ }
 {
-    let letters = no_letters();
+    let letters = all_dots();
     let p = fit_pairs::letter_count(c.n, c.k);
     let parts = parts_of(c);
     let cs = array_of(c);

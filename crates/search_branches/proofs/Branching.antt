@@ -31,7 +31,8 @@ module _ (c : Chip) where
   dots-all (suc p) (q ∷ qs) e = dots-all p qs (omega arith)
 
   module _ (p : ℕ) (many : (ps : List Spot) → length ps ≡ length (c .macs) → length (pairs c ps) ≡ p) where
-    dots-kept : (ps : List Spot) → legal c ps ≡ true → keepsLetters c (replicate p dot) ps ≡ true
+    -- every legal placement keeps them
+    pub dots-kept : (ps : List Spot) → legal c ps ≡ true → keepsLetters c (replicate p dot) ps ≡ true
     unfolding keepsLetters
     dots-kept ps e = and-both (within c ps) (keepsAll c (replicate p dot) (pairs c ps)) (legal-inside c ps e) (dots-all p (pairs c ps) (many ps (passes-long c (legal c) (legal-inside c) ps e)))
 

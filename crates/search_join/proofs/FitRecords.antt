@@ -20,6 +20,7 @@ use Rattle.placement.specs.Letters.{Letter}
 use Rattle.placement.specs.Least.{Best, nothing, found, fitOf}
 use Rattle.refusals.specs.Tests.{firstFailed}
 use Rattle.fit_slots.specs.Fit.{Fit, refusedBy, noFit, placed, letterCount, slotCount, bestFit, fitLetters}
+use Rattle.fit_slots.proofs.Strings.{each-given}
 use Rattle.search_branches.proofs.Betters.{Sized}
 use Rattle.search_branches.proofs.Closing.{fit-sized}
 use Rattle.fit.specs.declared.Fitted.{Fitted}
@@ -65,7 +66,7 @@ module _ (c : HeldChip) (letters : List ℕ) (p : ℕ) (ok : Passed c) (e : Lett
   -- 784 slots are lent, so that no refusal is left
   fits : fitLetters C (take p letters) 784 ≡ bestFit (slotCount C) (fitOf C ls)
   unfolding fitLetters firstFailed
-  fits = rw (← ok .read, eq-eqb (length (take p letters)) (letterCount C) (long ∙ e .count), e .bytes, le-leb (slotCount C) 784 enough)
+  fits = rw (← ok .read, each-given (letterCount C) (take p letters) (long ∙ e .count), eq-eqb (length (take p letters)) (letterCount C) (long ∙ e .count), e .bytes, le-leb (slotCount C) 784 enough)
 
   module _ (room : ℕ) (m : room ≡ 784) (a : FitAnswer) (q : a ≡ answerFor (fitLetters C (take p letters) room)) where
     is : a ≡ answerFor (bestFit (slotCount C) (fitOf C ls))

@@ -2,6 +2,7 @@
 use chip_array::chip_in;
 use chip_array::macro_count;
 use fit::FitOutcome;
+use fit_pairs::LETTERS;
 use fit_slots::Direction;
 use half_fit::service::HalfFit;
 use half_fit::service::HalfOutcome;
@@ -11,7 +12,6 @@ use model::Outcome;
 use model::Record;
 use model::Spot;
 use num_limits::sum;
-use search_node::LETTERS;
 use search_node::no_record;
 ghost use mathlib.Core.Path.{_≡_};
 ghost use Rattle.chip_array.specs.Array.{chipIn};

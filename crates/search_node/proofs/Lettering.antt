@@ -3,15 +3,15 @@ use Prim.Native.Nat.{ℕ, zero, suc, _≤_, _<_}
 use mathlib.Core.Path.{_≡_, refl, sym, ap, _∙_}
 use mathlib.Core.Bool.{true, false}
 use mathlib.Core.List.{List, [], _∷_, map}
-use native.Mathlib.Nat.{le-of-suc-le-suc}
 use native.Mathlib.Omega.{arith}
 use lib.ListN.{length, take, set, replicate, length-map}
 use lib.Seq.{take-set-lt, length-take-le, set-out}
 use Rattle.num_text.specs.Number.{allOf}
 use Rattle.model.specs.declared.Chip.{Chip as HeldChip}
 use Rattle.text_grammar.proofs.Lacks.{and-left, and-right, and-both}
-use Rattle.placement.specs.Letters.{Letter, dot}
-use Rattle.fit_slots.specs.Fit.{isLetter, areLetters, letterOf}
+use Rattle.placement.specs.Letters.{dot}
+use Rattle.fit_slots.specs.Fit.{isLetter, areLetters, letterOf, lettersOf, dots}
+use Rattle.fit_slots.proofs.Strings.{take-dots, dots-letters}
 use Rattle.search_branches.specs.Branch.{isDot}
 use Rattle.search_node.specs.Letters.{byteOf, lettersIn, Lettered}
 
@@ -73,15 +73,5 @@ lettered-set c letters p s i h g k = record {
 
 -- ---- dots
 
-pub dots-are : (n p : ℕ) → areLetters (take p (replicate n 46)) ≡ true
-unfolding allOf
-dots-are zero zero = refl
-dots-are zero (suc p) = refl
-dots-are (suc n) zero = refl
-dots-are (suc n) (suc p) = dots-are n p
-
-pub dots-in : (n p : ℕ) → p ≤ n → lettersIn (replicate n 46) p ≡ replicate p dot
-dots-in zero zero h = refl
-dots-in zero (suc p) h = absurd (omega arith)
-dots-in (suc n) zero h = refl
-dots-in (suc n) (suc p) h = ap (λ (t : List Letter). dot ∷ t) (dots-in n p (le-of-suc-le-suc h))
+pub dots-in : (n p : ℕ) → p ≤ n → lettersIn (dots n) p ≡ replicate p dot
+dots-in n p h = ap lettersOf (take-dots n p h) ∙ dots-letters p

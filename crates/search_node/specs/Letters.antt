@@ -4,7 +4,7 @@ use mathlib.Core.Path.{_≡_}
 use mathlib.Core.Bool.{true, cond}
 use mathlib.Core.List.{List, [], _∷_}
 use lib.Dec.{ltb}
-use lib.ListN.{getD, take, replicate}
+use lib.ListN.{getD, take}
 use Rattle.model.specs.declared.Chip.{Chip as HeldChip}
 use Rattle.model.specs.declared.Blocks.{Blocks}
 use Rattle.model.specs.Meaning.{chipOf}
@@ -37,10 +37,6 @@ pub record Lettered (c : HeldChip) (letters : List ℕ) (p : ℕ) : Type 0 where
   pub count : p ≡ letterCount (chipOf c)
   pub few : p ≤ 120
   pub bytes : areLetters (take p letters) ≡ true
-
--- a dot for each pair
-abbrev pub dots : List ℕ
-dots = replicate 120 46
 
 -- ---- the letters of a pair
 

@@ -2,6 +2,7 @@
 use axis_bounds::Slot;
 use fit_pair_slots::slot_at;
 use fit_pairs::Cursor;
+use fit_pairs::LETTERS;
 use fit_slots::Asked;
 use fit_slots::Direction;
 use model::Blocks;
@@ -14,11 +15,8 @@ use search_tables::ARCS;
 ghost use mathlib.Core.Path.{_≡_};
 ghost use Prim.Native.Nat.{_-_};
 ghost use lib.ListN.{set};
-ghost use Rattle.search_node.specs.Letters.{byteOf, dots, wayAt, askedAt, slotAsked};
+ghost use Rattle.search_node.specs.Letters.{byteOf, wayAt, askedAt, slotAsked};
 ghost use Rattle.search_node.specs.Node.{noRecord, lengthOf, roomOf};
-
-// Room for the letters of a chip: at most 92 today, and 120 with 12 more fixes.
-pub const LETTERS: usize = 120;
 
 // What the search reads of a chip: its blocks, and the weight of each macro's nets.
 pub struct Parts {
@@ -78,13 +76,6 @@ pub fn room(best: Record, other: u64) -> u64
         Outcome::None => 4000000000,
         Outcome::Least(m, _) => less(m, other),
     }
-}
-
-// A dot for each pair.
-pub fn no_letters() -> [u8; LETTERS]
-    ensures { λ r. ⌜ r ≡ dots ⌝ }
-{
-    [46; LETTERS]
 }
 
 // The byte of letter i; 0 past the four.

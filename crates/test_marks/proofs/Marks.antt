@@ -25,4 +25,4 @@ marked-records = (refl, (refl, (refl, (refl, (refl, (refl, tt))))))
 -- with 22 slots lent, and 4 positions
 pub marked-fits : Every (λ (c : FitCase). fitText (text (c .chip)) (bytes (c .letters)) 22 4 ≡ c .answer) markedFits
 unfolding bytes text firstFailed allOf valueFrom plain numeralOf lines upTo from strip fields isIn same wordIn stepBytes readLines readText pinCount clearOf addPin readChip zipWith withinZ eachTwo product pairsZ legalZ greatest smallest span netsLengthZ keepsAllZ keepsLettersZ upFrom flatMap placements tryAll firstLeast chipRecord
-marked-fits = (refl, (refl, (refl, (refl, (refl, tt)))))
+marked-fits = (refl, (refl, (refl, (refl, (refl, (refl, (refl, (refl, tt))))))))

@@ -1,10 +1,11 @@
--- The marked cases of document 01, from bytes to bytes: what is printed for a chip's text, and the fit of a letter string.
+-- The marked cases of document 01, and those of Card 12 in document 02, from bytes to bytes: what is printed for a chip's text, and the fit of a
+-- letter string.
 use Prim.Native.Nat.{ℕ}
 use Prim.Native.Char.{code}
 use Prim.Native.String.{String, [] as empty, _∷_ as _▹_}
 use mathlib.Core.List.{List, [], _∷_, _++_}
 use Rattle.text_grammar.specs.Line.{lineFeed}
-use Rattle.fit_slots.specs.Fit.{Fit, noFit, placed}
+use Rattle.fit_slots.specs.Fit.{Fit, refusedBy, noFit, placed}
 
 -- the bytes of ASCII characters
 unfoldable pub bytes : String → List ℕ
@@ -47,4 +48,7 @@ markedFits =
     record { chip = example; letters = "LLR"; answer = placed 9 22 (record { x = 0; y = 0 } ∷ record { x = 3; y = 0 } ∷ []) } ∷
     record { chip = example; letters = "LLL"; answer = noFit } ∷
     record { chip = example; letters = "..."; answer = placed 0 22 (record { x = 0; y = 0 } ∷ record { x = 0; y = 0 } ∷ []) } ∷
+    record { chip = example; letters = ""; answer = placed 0 22 (record { x = 0; y = 0 } ∷ record { x = 0; y = 0 } ∷ []) } ∷
+    record { chip = example; letters = ".."; answer = refusedBy 11 0 } ∷
+    record { chip = example; letters = "...."; answer = refusedBy 11 0 } ∷
     []

@@ -1,4 +1,4 @@
-// Blocks of small chips: the search's record and the one found by trying every position, compared byte for byte.
+// Blocks of small chips: the search's record, or the fit of the empty string, and what is found by trying every position, compared.
 use crate::every::Found;
 use crate::every::try_every;
 use crate::fields::number_at;
@@ -6,7 +6,10 @@ use crate::report::FILL;
 use crate::rule::Block;
 use crate::rule::chip_of;
 use crate::written::put_record;
+use fit::FitOutcome;
 use model::Chip;
+use model::Mac;
+use model::Spot;
 use model::WriteAnswer;
 
 // What a block of chips came to; `differs` is one more than the first case that differs.
@@ -32,13 +35,54 @@ fn search_gives(c: Chip, expected: &[u8; 256], length: usize) -> bool {
     }
 }
 
-// All positions were tried, and the records are the same.
-fn agrees(c: Chip, found: Found) -> bool {
-    let mut expected = [FILL; 256];
-    let length = put_record(&mut expected, found, c.n);
+fn same_spots(a: [Spot; Mac::COUNT], b: [Spot; Mac::COUNT]) -> bool {
+    let mut i: usize = 0;
+    while i < Mac::COUNT {
+        let s = a[i];
+        let t = b[i];
+        if s.x != t.x {
+            return false;
+        }
+        if s.y != t.y {
+            return false;
+        }
+        i += 1;
+    }
+    true
+}
+
+// Whether the fit of the empty string is what was found.
+fn fit_gives(c: Chip, found: Found) -> bool {
+    let mut flow = [0u16; 800];
+    let answer = fit::fit_letters(c, b"", &mut flow);
+    let spots = answer.spots;
+    let outcome = answer.outcome;
+    let expected = found.spots;
+    match outcome {
+        FitOutcome::Placed(f) => {
+            if !found.any {
+                return false;
+            }
+            if f.length != found.length {
+                return false;
+            }
+            same_spots(spots, expected)
+        }
+        FitOutcome::NoFit => !found.any,
+        FitOutcome::Refused(_) => false,
+    }
+}
+
+// All positions were tried, and the answers are the same.
+fn agrees(c: Chip, undecided: bool, found: Found) -> bool {
     if !found.whole {
         return false;
     }
+    if undecided {
+        return fit_gives(c, found);
+    }
+    let mut expected = [FILL; 256];
+    let length = put_record(&mut expected, found, c.n);
     search_gives(c, &expected, length)
 }
 
@@ -50,9 +94,9 @@ fn more(a: u64) -> u64 {
     a
 }
 
-fn with_case(t: Tally, case: u64, b: Block) -> Tally {
+fn with_case(t: Tally, case: u64, b: Block, undecided: bool) -> Tally {
     let c = chip_of(case, b);
-    let found = try_every(c);
+    let found = try_every(c, undecided);
     let mut t = t;
     t.compared = more(t.compared);
     if !found.any {
@@ -62,7 +106,7 @@ fn with_case(t: Tally, case: u64, b: Block) -> Tally {
         t.several = more(t.several);
     }
     if t.differs == 0 {
-        if !agrees(c, found) {
+        if !agrees(c, undecided, found) {
             t.differs = more(case);
         }
     }
@@ -70,7 +114,7 @@ fn with_case(t: Tally, case: u64, b: Block) -> Tally {
 }
 
 // The cases from `from` up to `to`.
-fn compare(b: Block, from: u64, to: u64) -> Tally {
+fn compare(b: Block, from: u64, to: u64, undecided: bool) -> Tally {
     let mut t = Tally {
         compared: 0,
         none: 0,
@@ -79,7 +123,7 @@ fn compare(b: Block, from: u64, to: u64) -> Tally {
     };
     let mut case = from;
     while case < to {
-        t = with_case(t, case, b);
+        t = with_case(t, case, b, undecided);
         case += 1;
     }
     t
@@ -101,8 +145,8 @@ fn print_tally(t: Tally) {
     }
 }
 
-// every NAME N K T W H SIDE FROM TO
-pub(crate) fn every(s: &[u8]) {
+// every NAME N K T W H SIDE FROM TO, undecided the same
+pub(crate) fn every(s: &[u8], undecided: bool) {
     let b = Block {
         n: number_at(s, 2) as usize,
         k: number_at(s, 3) as usize,
@@ -111,5 +155,5 @@ pub(crate) fn every(s: &[u8]) {
         die_h: number_at(s, 6),
         side: number_at(s, 7),
     };
-    print_tally(compare(b, number_at(s, 8), number_at(s, 9)));
+    print_tally(compare(b, number_at(s, 8), number_at(s, 9), undecided));
 }

@@ -399,6 +399,27 @@ fn pin_count(c: Chip) -> usize
     q
 }
 
+// The pairs: macro i has one with each macro before it and one with each fix.
+pub(crate) fn pair_count(c: Chip) -> usize
+    ensures { λ r. ⌜ r ≤ 128 ⌝ }
+{
+    let n = c.n;
+    let k = c.k;
+    if Fix::COUNT < k {
+        return 0;
+    }
+    let mut p: usize = 0;
+    let mut i: usize = 0;
+    while i < Mac::COUNT {
+        if n <= i {
+            return p;
+        }
+        p += i + k;
+        i += 1;
+    }
+    p
+}
+
 // The slots of a direction: two for each macro, one for each letter, two for each pin.
 pub(crate) fn slot_count(c: Chip, letters: &[u8]) -> usize
     ensures { λ r. ⌜ r ≤ 364 ⌝ }

@@ -10,7 +10,7 @@ use model::Net;
 use model::Pin;
 use model::Spot;
 
-// The first of the least legal placements, and how many are as short; `whole` says that all positions were tried.
+// The first of the least placements, and how many are as short; `whole` says that all positions were tried.
 pub(crate) struct Found {
     pub any: bool,
     pub length: u64,
@@ -109,8 +109,8 @@ fn clear_of_macs(c: Chip, spots: [Spot; Mac::COUNT], j: usize) -> bool {
     true
 }
 
-// Whether macro j lies in the die, and is apart from the fixes and from the macros before it.
-fn legal_macro(c: Chip, spots: [Spot; Mac::COUNT], j: usize) -> bool {
+// Whether macro j lies in the die, and, unless every pair is undecided, is apart from the fixes and from the macros before it.
+fn allowed_macro(c: Chip, spots: [Spot; Mac::COUNT], j: usize, undecided: bool) -> bool {
     let macs = c.macs;
     let fixes = c.fixes;
     if Mac::COUNT <= j {
@@ -120,19 +120,22 @@ fn legal_macro(c: Chip, spots: [Spot; Mac::COUNT], j: usize) -> bool {
     if !in_die(c.die, b) {
         return false;
     }
+    if undecided {
+        return true;
+    }
     if !clear_of_fixes(b, fixes, c.k) {
         return false;
     }
     clear_of_macs(c, spots, j)
 }
 
-fn legal(c: Chip, spots: [Spot; Mac::COUNT]) -> bool {
+fn allowed(c: Chip, spots: [Spot; Mac::COUNT], undecided: bool) -> bool {
     let mut j: usize = 0;
     while j < Mac::COUNT {
         if c.n <= j {
             return true;
         }
-        if !legal_macro(c, spots, j) {
+        if !allowed_macro(c, spots, j, undecided) {
             return false;
         }
         j += 1;
@@ -286,8 +289,8 @@ fn first(spots: [Spot; Mac::COUNT], length: u64) -> Found {
     }
 }
 
-// With one legal placement more, which comes later.
-fn with_legal(found: Found, spots: [Spot; Mac::COUNT], length: u64) -> Found {
+// With one placement more, which comes later.
+fn with_later(found: Found, spots: [Spot; Mac::COUNT], length: u64) -> Found {
     if !found.any {
         return first(spots, length);
     }
@@ -301,21 +304,21 @@ fn with_legal(found: Found, spots: [Spot; Mac::COUNT], length: u64) -> Found {
     found
 }
 
-fn tried(c: Chip, spots: [Spot; Mac::COUNT], found: Found) -> Found {
-    if !legal(c, spots) {
+fn tried(c: Chip, spots: [Spot; Mac::COUNT], undecided: bool, found: Found) -> Found {
+    if !allowed(c, spots, undecided) {
         return found;
     }
-    with_legal(found, spots, length_of(c, spots))
+    with_later(found, spots, length_of(c, spots))
 }
 
-// Tries every position of every macro, up to a million placements.
-pub(crate) fn try_every(c: Chip) -> Found {
+// Tries every position of every macro, up to a million placements: the legal ones, or, where every pair is undecided, all in the die.
+pub(crate) fn try_every(c: Chip, undecided: bool) -> Found {
     let die = c.die;
     let mut found = nothing();
     let mut spots = [Spot { x: 0, y: 0 }; Mac::COUNT];
     let mut i: usize = 0;
     while i < 1000000 {
-        found = tried(c, spots, found);
+        found = tried(c, spots, undecided, found);
         let turn = next(spots, c.n, die);
         if turn.over {
             return found;

@@ -2,6 +2,7 @@
 use crate::count::FILL;
 use crate::count::all_are;
 use crate::count::list_right;
+use crate::count::pair_count;
 use crate::count::slot_count;
 use crate::fields::number_at;
 use crate::fields::part;
@@ -92,10 +93,9 @@ fn print_letters(letters: &[u8]) {
     }
 }
 
-fn print_fit(c: Chip, letters: &[u8], answer: FitAnswer, flow: &[u16]) {
+fn print_answer(c: Chip, letters: &[u8], answer: FitAnswer, flow: &[u16]) {
     let outcome = answer.outcome;
     let spots = answer.spots;
-    print_letters(letters);
     match outcome {
         FitOutcome::Placed(f) => {
             print_placed(c, letters, f, spots, flow);
@@ -111,6 +111,18 @@ fn print_fit(c: Chip, letters: &[u8], answer: FitAnswer, flow: &[u16]) {
         }
     }
     io::write_all(1, b"\n");
+}
+
+// The empty string stands for a dot on each pair: the list is counted for that.
+fn print_fit(c: Chip, letters: &[u8], answer: FitAnswer, flow: &[u16]) {
+    print_letters(letters);
+    if letters.len() != 0 {
+        print_answer(c, letters, answer, flow);
+        return;
+    }
+    let dots = [46u8; 128];
+    let p = pair_count(c);
+    print_answer(c, &dots[0..p], answer, flow);
 }
 
 fn lend_first(c: Chip, letters: &[u8], room: usize, flow: &mut [u16]) {

@@ -20,6 +20,7 @@
 //     place NAME ROOM                the record of the text
 //     search NAME ROOM               the record of the chip as a value
 //     every NAME N K T W H SIDE FROM TO  small chips made by a rule: the search's records beside those found by trying every position
+//     undecided NAME N K T W H SIDE FROM TO  the same chips: the fits of the empty string beside those found by trying every position in the die
 mod blocks;
 mod chips;
 mod count;

@@ -133,7 +133,11 @@ fn about_records(s: &[u8], text: &[u8], c: Chip) {
         return;
     }
     if is_at(s, 0, b"every") {
-        blocks::every(s);
+        blocks::every(s, false);
+        return;
+    }
+    if is_at(s, 0, b"undecided") {
+        blocks::every(s, true);
         return;
     }
     io::write_all(1, b"unknown verb\n");

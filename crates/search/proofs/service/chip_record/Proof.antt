@@ -5,8 +5,8 @@ use borrow.Author.Needs.{needs}
 use Rattle.search.proofs.service.chip_record.Statement.{statement}
 use Rattle.search.proofs.service.chip_record.Tie as tie
 
-no-letters-requires : tie.Need-no-letters-requires
-no-letters-requires c κs = search needs
+all-dots-requires : tie.Need-all-dots-requires
+all-dots-requires c κs = search needs
 
 letter-count-requires : tie.Need-letter-count-requires
 letter-count-requires c κs = search needs
@@ -37,7 +37,7 @@ first-fit-requires c κs =
     let ok = counted .before .before .pre in
     let across = c .before .before .before .before .before .before .first-half in
     let up = c .before .first-half2 in
-    first-asked _ _ ok (counted .letter-count .ensures) _ (lent .array-of .ensures) _ (counted .before .no-letters .ensures) _ _ _ _ (arrays-hold _ _ _ _ ok (made .before .arrays-of .ensures)) (arrays-hold _ _ _ _ ok (made .arrays-of2 .ensures)) _ (across .result) (up .result) (across .ensures) (up .ensures)
+    first-asked _ _ ok (counted .letter-count .ensures) _ (lent .array-of .ensures) _ (counted .before .all-dots .ensures) _ _ _ _ (arrays-hold _ _ _ _ ok (made .before .arrays-of .ensures)) (arrays-hold _ _ _ _ ok (made .arrays-of2 .ensures)) _ (across .result) (up .result) (across .ensures) (up .ensures)
 
 root-requires : tie.Need-root-requires
 root-requires c κs =
@@ -47,7 +47,7 @@ root-requires c κs =
     let ok = counted .before .before .pre in (
       ok,
       counted .letter-count .ensures,
-      counted .before .no-letters .ensures,
+      counted .before .all-dots .ensures,
       arrays-hold _ _ _ _ ok (made .before .arrays-of .ensures),
       arrays-hold _ _ _ _ ok (made .arrays-of2 .ensures),
       lent-held _ _ (lent .array-of .ensures) _ _ _ (c .first-fit .ensures),
@@ -79,7 +79,7 @@ pub chip-record-spec : {M : Type 1} → statement M
 chip-record-spec =
     tie.close
     (tie.spec
-    no-letters-requires
+    all-dots-requires
     letter-count-requires
     parts-of-requires
     array-of-requires

@@ -4,10 +4,10 @@ use Rattle.test_vectors.proofs.every.try_every.Statement.{statement}
 use Rattle.test_vectors.proofs.every.try_every.Tie as tie
 
 abbrev Inv-loop : tie.InvT-loop
-Inv-loop c die found₀ spots₀ i₀ found spots i = i ≤ 1000000
+Inv-loop c undecided die found₀ spots₀ i₀ found spots i = i ≤ 1000000
 
 abbrev μ-loop : tie.MeasureT-loop
-μ-loop c die found₀ spots₀ i₀ found spots i = 1000000 - i
+μ-loop c undecided die found₀ spots₀ i₀ found spots i = 1000000 - i
 
 nothing-requires : tie.Need-nothing-requires Inv-loop μ-loop
 nothing-requires c κs = search needs

@@ -1,0 +1,106 @@
+-- Document 02, Card 12, in its own words: "For the fit the empty string now means that every pair is undecided, equal to a string of dots. Another wrong
+-- length is still 11." It is sent by who "only wants a lower bound", and the length of that fit is one.
+use Prim.Native.Nat.{ℕ, zero, suc, _*_, _≤_}
+use mathlib.Core.Path.{_≡_, refl, sym, ap, subst, _∙_}
+use mathlib.Core.Logic.{_↔_}
+use mathlib.Core.Bool.{true}
+use mathlib.Core.List.{List, [], _∷_, _++_}
+use native.Mathlib.Omega.{arith}
+use lib.Dec.{eqb, leb}
+use lib.ListN.{length, replicate, length-replicate}
+use borrow.Author.Tests.{eq-eqb, ne-eqb, le-leb}
+use Rattle.model.specs.declared.Spot.{Spot}
+use Rattle.model.specs.Meaning.{Chip}
+use Rattle.refusals.specs.Tests.{Test, test, firstFailed, unlessFailed}
+use Rattle.refusals.proofs.FirstFailed.{fails-here}
+use Rattle.text_grammar.specs.Reading.{accepted}
+use Rattle.chip_text.specs.Text.{readChip, chipText}
+use Rattle.placement.specs.Integers.{Corner, legalZ, wirelengthZ}
+use Rattle.placement.specs.Letters.{dot, keepsLettersZ}
+use Rattle.placement.specs.Least.{Best, nothing, found, fitOf}
+use Rattle.placement.proofs.Integers.{naturals, letters-same, legal-natural, natural-legal}
+use Rattle.placement.proofs.Demand.{fit-found-integers, nothing-fits-integers}
+use Rattle.fit_slots.specs.Fit.{Fit, refusedBy, noFit, placed, areLetters, lettersOf, letterCount, slotCount, bestFit, dots, stringFor, fitTests, fitChip, fitLetters, Filled}
+use Rattle.fit_slots.proofs.Counting.{pairs-count}
+use Rattle.fit_slots.proofs.Strings.{dots-are, dots-letters, some-given, dots-given}
+use Rattle.search_branches.proofs.Branching.{dots-kept}
+use Rattle.host_fit.specs.FitText.{fitText, SlotsFilled}
+
+module _ (c : Chip) where
+  abbrev p : ℕ
+  p = letterCount c
+
+  -- ---- equal to a string of dots: the answer, and what holds of the list
+
+  same-string : stringFor c [] ≡ stringFor c (dots p)
+  same-string = sym (dots-given p)
+
+  pub empty-fit : (room : ℕ) → fitLetters c [] room ≡ fitLetters c (dots p) room
+  unfolding fitLetters
+  empty-fit room = ap (λ (s : List ℕ). fitChip (readChip (chipText c)) s room) same-string
+
+  pub empty-list : (f : Fit) (before after : List ℕ) → Filled c (stringFor c []) f before after ↔ Filled c (stringFor c (dots p)) f before after
+  empty-list f before after = (subst (λ (s : List ℕ). Filled c s f before after) same-string, subst (λ (s : List ℕ). Filled c s f before after) (sym same-string))
+
+  -- the same for the chip of a text
+
+  module _ (text : List ℕ) (e : readChip text ≡ accepted c) where
+    pub empty-text : (slots places : ℕ) → fitText text [] slots places ≡ fitText text (dots p) slots places
+    empty-text slots places =
+        rw e
+        (ap (λ (s : List ℕ). unlessFailed refusedBy (firstFailed (fitTests c s slots ++ (test 15 (leb (2 * length (c .macs)) places) ∷ []))) (bestFit (slotCount c) (fitOf c (lettersOf s))))
+        same-string)
+
+    pub empty-slots : (f : Fit) (before after : List ℕ) → SlotsFilled (readChip text) [] f before after ↔ SlotsFilled (readChip text) (dots p) f before after
+    empty-slots f before after = rw e (empty-list f before after)
+
+  -- ---- another wrong length is still 11
+
+  module _ (s : List ℕ) (n : length s ≡ 0 → ⊥) (w : length s ≡ p → ⊥) where
+    eleven : (more : List Test) → 11 ≡ firstFailed (test 11 (eqb (length (stringFor c s)) p) ∷ more)
+    eleven more = fails-here 11 _ more (ne-eqb (length (stringFor c s)) p (λ h. w (ap (λ (t : List ℕ). length t) (sym (some-given p s n)) ∙ h)))
+
+    pub other-length : readChip (chipText c) ≡ accepted c → (room : ℕ) → fitLetters c s room ≡ refusedBy 11 0
+    unfolding fitLetters
+    other-length e room = rw (e, ← eleven (test 12 (areLetters (stringFor c s)) ∷ test 15 (leb (slotCount c) room) ∷ []))
+
+    pub other-length-text : (text : List ℕ) → readChip text ≡ accepted c → (slots places : ℕ) → fitText text s slots places ≡ refusedBy 11 0
+    other-length-text text e slots places =
+        rw (e, ← eleven (test 12 (areLetters (stringFor c s)) ∷ test 15 (leb (slotCount c) slots) ∷ test 15 (leb (2 * length (c .macs)) places) ∷ []))
+
+  -- ---- every pair is undecided
+
+  abbrev Undecided : Fit
+  Undecided = bestFit (slotCount c) (fitOf c (replicate p dot))
+
+  module _ (e : readChip (chipText c) ≡ accepted c) where
+    undecided-by : (room : ℕ) → fitLetters c [] room ≡ unlessFailed refusedBy (firstFailed (fitTests c (dots p) room)) Undecided
+    unfolding fitLetters
+    undecided-by room = rw (e, dots-letters p)
+
+    pub empty-undecided : (room : ℕ) → slotCount c ≤ room → fitLetters c [] room ≡ Undecided
+    unfolding firstFailed
+    empty-undecided room h = undecided-by room ∙ rw (eq-eqb (length (dots p)) p (length-replicate p 46), dots-are p, le-leb (slotCount c) room h)
+
+    -- ---- a lower bound: every legal placement keeps the dots
+
+    kept : (qs : List Corner) → legalZ c qs ≡ true → keepsLettersZ c (replicate p dot) qs ≡ true
+    kept qs g =
+        ap (keepsLettersZ c (replicate p dot)) (legal-natural c qs g)
+        ∙ (letters-same c (replicate p dot) (naturals qs) ∙ dots-kept c p (pairs-count c) (naturals qs) (natural-legal c qs g))
+
+    pub empty-bound : (room l count : ℕ) (ps : List Spot) → fitLetters c [] room ≡ placed l count ps → (qs : List Corner) → legalZ c qs ≡ true → l ≤ wirelengthZ c qs
+    empty-bound room l count ps f qs g = fit-found-integers c (replicate p dot) l ps (by (firstFailed (fitTests c (dots p) room)) (fitOf c (replicate p dot)) (sym (undecided-by room) ∙ f)) .least qs (kept qs g)
+      where
+        by : (k : ℕ) (b : Best) → unlessFailed refusedBy k (bestFit (slotCount c) b) ≡ placed l count ps → b ≡ found l ps
+        by zero nothing q = let z : _≡_ {A = ℕ} 0 1 = cc in absurd (omega arith)
+        by zero (found wl qs) q = cc
+        by (suc k) b q = let z : _≡_ {A = ℕ} 0 1 = cc in absurd (omega arith)
+
+    pub empty-none : (room : ℕ) → fitLetters c [] room ≡ noFit → (qs : List Corner) → legalZ c qs ≡ true → ⊥
+    empty-none room f qs g = nothing-fits-integers c (replicate p dot) (by (firstFailed (fitTests c (dots p) room)) (fitOf c (replicate p dot)) (sym (undecided-by room) ∙ f)) qs (kept qs g)
+      where
+        by : (k : ℕ) (b : Best) → unlessFailed refusedBy k (bestFit (slotCount c) b) ≡ noFit → b ≡ nothing
+        by zero nothing q = refl
+        by zero (found wl qs) q = let z : _≡_ {A = ℕ} 0 1 = cc in absurd (omega arith)
+        by (suc k) b q = let z : _≡_ {A = ℕ} 0 1 = cc in absurd (omega arith)
