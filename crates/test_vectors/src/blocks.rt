@@ -1,15 +1,16 @@
 // Blocks of small chips: the search's record, or the fit of the empty string, and what is found by trying every position, compared.
 use crate::every::Found;
+use crate::every::first;
+use crate::every::nothing;
 use crate::every::try_every;
 use crate::fields::number_at;
 use crate::report::FILL;
 use crate::rule::Block;
 use crate::rule::chip_of;
 use crate::written::put_record;
+use fit::FitAnswer;
 use fit::FitOutcome;
 use model::Chip;
-use model::Mac;
-use model::Spot;
 use model::WriteAnswer;
 
 // What a block of chips came to; `differs` is one more than the first case that differs.
@@ -35,54 +36,46 @@ fn search_gives(c: Chip, expected: &[u8; 256], length: usize) -> bool {
     }
 }
 
-fn same_spots(a: [Spot; Mac::COUNT], b: [Spot; Mac::COUNT]) -> bool {
-    let mut i: usize = 0;
-    while i < Mac::COUNT {
-        let s = a[i];
-        let t = b[i];
-        if s.x != t.x {
-            return false;
-        }
-        if s.y != t.y {
-            return false;
-        }
-        i += 1;
-    }
-    true
-}
-
-// Whether the fit of the empty string is what was found.
-fn fit_gives(c: Chip, found: Found) -> bool {
-    let mut flow = [0u16; 800];
-    let answer = fit::fit_letters(c, b"", &mut flow);
+// What a fit placed, as it is found by trying; a refusal is not whole.
+fn placed(answer: FitAnswer) -> Found {
     let spots = answer.spots;
     let outcome = answer.outcome;
-    let expected = found.spots;
     match outcome {
-        FitOutcome::Placed(f) => {
-            if !found.any {
-                return false;
-            }
-            if f.length != found.length {
-                return false;
-            }
-            same_spots(spots, expected)
+        FitOutcome::Placed(f) => first(spots, f.length),
+        FitOutcome::NoFit => nothing(),
+        FitOutcome::Refused(_) => {
+            let mut refused = nothing();
+            refused.whole = false;
+            refused
         }
-        FitOutcome::NoFit => !found.any,
-        FitOutcome::Refused(_) => false,
     }
+}
+
+// The same of the fit of the empty string, written as a record.
+fn fit_gives(c: Chip, expected: &[u8; 256], length: usize) -> bool {
+    let mut flow = [0u16; 800];
+    let found = placed(fit::fit_letters(c, b"", &mut flow));
+    let mut out = [FILL; 256];
+    let n = put_record(&mut out, found, c.n);
+    if !found.whole {
+        return false;
+    }
+    if n != length {
+        return false;
+    }
+    check::same(&out, expected)
 }
 
 // All positions were tried, and the answers are the same.
 fn agrees(c: Chip, undecided: bool, found: Found) -> bool {
+    let mut expected = [FILL; 256];
+    let length = put_record(&mut expected, found, c.n);
     if !found.whole {
         return false;
     }
     if undecided {
-        return fit_gives(c, found);
+        return fit_gives(c, &expected, length);
     }
-    let mut expected = [FILL; 256];
-    let length = put_record(&mut expected, found, c.n);
     search_gives(c, &expected, length)
 }
 

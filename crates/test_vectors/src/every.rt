@@ -269,7 +269,7 @@ fn next(spots: [Spot; Mac::COUNT], n: usize, die: Die) -> Turn {
     Turn { over: true, spots }
 }
 
-fn nothing() -> Found {
+pub(crate) fn nothing() -> Found {
     Found {
         any: false,
         length: 0,
@@ -279,7 +279,7 @@ fn nothing() -> Found {
     }
 }
 
-fn first(spots: [Spot; Mac::COUNT], length: u64) -> Found {
+pub(crate) fn first(spots: [Spot; Mac::COUNT], length: u64) -> Found {
     Found {
         any: true,
         length,
