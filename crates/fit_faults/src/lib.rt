@@ -1,7 +1,8 @@
-// The faults of a letter string and of a lent list of slots (document 01, "Refusal table"): whether bytes are letters, and the first test that fails.
+// The faults of a letter string and of a lent list of slots (document 01, "Refusal table"): how many letters a string stands for, whether bytes are
+// letters, and the first test that fails.
 ghost use mathlib.Core.Path.{_≡_};
-ghost use Rattle.refusals.specs.Tests.{firstFailed};
 ghost use lib.ListN.{length};
+ghost use Rattle.refusals.specs.Tests.{firstFailed};
 ghost use Rattle.fit_slots.specs.Fit.{isLetter, areLetters, standsFor, testsBy};
 
 // Whether a byte is L, R, B, A or the dot.

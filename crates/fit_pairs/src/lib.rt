@@ -1,4 +1,4 @@
-// The pairs of a chip, in the order of their letters: how many there are, and a cursor through them.
+// The pairs of a chip, in the order of their letters: how many there are, a cursor through them, and a dot for each.
 use model::Fix;
 use model::Mac;
 ghost use mathlib.Core.Path.{_≡_};

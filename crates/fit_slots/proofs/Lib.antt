@@ -12,3 +12,4 @@ pub mod Whole
 pub mod Smallest
 pub mod Shown
 pub mod Strings
+pub mod ReadBack

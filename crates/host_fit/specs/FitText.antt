@@ -17,12 +17,15 @@ use Rattle.fit.specs.declared.FitOutcome.the-variants as outcome
 use Rattle.host_codes.specs.Code.{Outcome, granted, denied, code, ofFit}
 use Rattle.host_codes.specs.Code as coded
 
--- the text is read first; then the tests of a fit of the letters that the string stands for, the last being 15 for the slots, and 15 for the
--- positions, by the lengths of the two lists
+-- the tests of a fit, the last being 15 for the slots, and 15 for the positions, by the lengths of the two lists
+abbrev pub fitLent : Chip → List ℕ → ℕ → ℕ → Fit
+fitLent c s slots places =
+    unlessFailed refusedBy (firstFailed (fitTests c s slots ++ (test 15 (leb (2 * length (c .macs)) places) ∷ [])))
+    (bestFit (slotCount c) (fitOf c (lettersOf s)))
+
+-- the text is read first; then the letters that the string stands for are fitted
 abbrev pub fitRead : Reading Chip → List ℕ → ℕ → ℕ → Fit
-fitRead (accepted c) s slots places =
-    unlessFailed refusedBy (firstFailed (fitTests c (stringFor c s) slots ++ (test 15 (leb (2 * length (c .macs)) places) ∷ [])))
-    (bestFit (slotCount c) (fitOf c (lettersOf (stringFor c s))))
+fitRead (accepted c) s slots places = fitLent c (stringFor c s) slots places
 fitRead (refused number line) s slots places = refusedBy number line
 
 abbrev pub fitText : List ℕ → List ℕ → ℕ → ℕ → Fit

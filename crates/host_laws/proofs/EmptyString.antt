@@ -1,11 +1,11 @@
 -- Document 02, Card 12, in its own words: "For the fit the empty string now means that every pair is undecided, equal to a string of dots. Another wrong
 -- length is still 11." It is sent by who "only wants a lower bound", and the length of that fit is one.
-use Prim.Native.Nat.{ℕ, zero, suc, _*_, _≤_}
-use mathlib.Core.Path.{_≡_, refl, sym, ap, subst, _∙_}
+use Prim.{tt}
+use Prim.Native.Nat.{ℕ, _*_, _≤_}
+use mathlib.Core.Path.{_≡_, sym, ap, subst, _∙_}
 use mathlib.Core.Logic.{_↔_}
 use mathlib.Core.Bool.{true}
-use mathlib.Core.List.{List, [], _∷_, _++_}
-use native.Mathlib.Omega.{arith}
+use mathlib.Core.List.{List, [], _∷_}
 use lib.Dec.{eqb, leb}
 use lib.ListN.{length, replicate, length-replicate}
 use borrow.Author.Tests.{eq-eqb, ne-eqb, le-leb}
@@ -17,14 +17,15 @@ use Rattle.text_grammar.specs.Reading.{accepted}
 use Rattle.chip_text.specs.Text.{readChip, chipText}
 use Rattle.placement.specs.Integers.{Corner, legalZ, wirelengthZ}
 use Rattle.placement.specs.Letters.{dot, keepsLettersZ}
-use Rattle.placement.specs.Least.{Best, nothing, found, fitOf}
+use Rattle.placement.specs.Least.{fitOf}
 use Rattle.placement.proofs.Integers.{naturals, letters-same, legal-natural, natural-legal}
 use Rattle.placement.proofs.Demand.{fit-found-integers, nothing-fits-integers}
-use Rattle.fit_slots.specs.Fit.{Fit, refusedBy, noFit, placed, areLetters, lettersOf, letterCount, slotCount, bestFit, dots, stringFor, fitTests, fitChip, fitLetters, Filled}
+use Rattle.fit_slots.specs.Fit.{Fit, refusedBy, noFit, placed, areLetters, letterCount, slotCount, bestFit, dots, stringFor, fitTests, fitChip, fitLetters, Filled}
 use Rattle.fit_slots.proofs.Counting.{pairs-count}
+use Rattle.fit_slots.proofs.ReadBack.{back, Told, told-found}
 use Rattle.fit_slots.proofs.Strings.{dots-are, dots-letters, some-given, dots-given}
 use Rattle.search_branches.proofs.Branching.{dots-kept}
-use Rattle.host_fit.specs.FitText.{fitText, SlotsFilled}
+use Rattle.host_fit.specs.FitText.{fitLent, fitText, SlotsFilled}
 
 module _ (c : Chip) where
   abbrev p : ℕ
@@ -46,10 +47,7 @@ module _ (c : Chip) where
 
   module _ (text : List ℕ) (e : readChip text ≡ accepted c) where
     pub empty-text : (slots places : ℕ) → fitText text [] slots places ≡ fitText text (dots p) slots places
-    empty-text slots places =
-        rw e
-        (ap (λ (s : List ℕ). unlessFailed refusedBy (firstFailed (fitTests c s slots ++ (test 15 (leb (2 * length (c .macs)) places) ∷ []))) (bestFit (slotCount c) (fitOf c (lettersOf s))))
-        same-string)
+    empty-text slots places = rw e (ap (λ (s : List ℕ). fitLent c s slots places) same-string)
 
     pub empty-slots : (f : Fit) (before after : List ℕ) → SlotsFilled (readChip text) [] f before after ↔ SlotsFilled (readChip text) (dots p) f before after
     empty-slots f before after = rw e (empty-list f before after)
@@ -89,18 +87,12 @@ module _ (c : Chip) where
         ap (keepsLettersZ c (replicate p dot)) (legal-natural c qs g)
         ∙ (letters-same c (replicate p dot) (naturals qs) ∙ dots-kept c p (pairs-count c) (naturals qs) (natural-legal c qs g))
 
+    -- what a fit that is not refused says was found
+    was-found : (room : ℕ) (f : Fit) → Told f → fitLetters c [] room ≡ f → fitOf c (replicate p dot) ≡ back f
+    was-found room f t q = told-found (firstFailed (fitTests c (dots p) room)) (slotCount c) (fitOf c (replicate p dot)) f t (sym (undecided-by room) ∙ q)
+
     pub empty-bound : (room l count : ℕ) (ps : List Spot) → fitLetters c [] room ≡ placed l count ps → (qs : List Corner) → legalZ c qs ≡ true → l ≤ wirelengthZ c qs
-    empty-bound room l count ps f qs g = fit-found-integers c (replicate p dot) l ps (by (firstFailed (fitTests c (dots p) room)) (fitOf c (replicate p dot)) (sym (undecided-by room) ∙ f)) .least qs (kept qs g)
-      where
-        by : (k : ℕ) (b : Best) → unlessFailed refusedBy k (bestFit (slotCount c) b) ≡ placed l count ps → b ≡ found l ps
-        by zero nothing q = let z : _≡_ {A = ℕ} 0 1 = cc in absurd (omega arith)
-        by zero (found wl qs) q = cc
-        by (suc k) b q = let z : _≡_ {A = ℕ} 0 1 = cc in absurd (omega arith)
+    empty-bound room l count ps f qs g = fit-found-integers c (replicate p dot) l ps (was-found room (placed l count ps) tt f) .least qs (kept qs g)
 
     pub empty-none : (room : ℕ) → fitLetters c [] room ≡ noFit → (qs : List Corner) → legalZ c qs ≡ true → ⊥
-    empty-none room f qs g = nothing-fits-integers c (replicate p dot) (by (firstFailed (fitTests c (dots p) room)) (fitOf c (replicate p dot)) (sym (undecided-by room) ∙ f)) qs (kept qs g)
-      where
-        by : (k : ℕ) (b : Best) → unlessFailed refusedBy k (bestFit (slotCount c) b) ≡ noFit → b ≡ nothing
-        by zero nothing q = refl
-        by zero (found wl qs) q = let z : _≡_ {A = ℕ} 0 1 = cc in absurd (omega arith)
-        by (suc k) b q = let z : _≡_ {A = ℕ} 0 1 = cc in absurd (omega arith)
+    empty-none room f qs g = nothing-fits-integers c (replicate p dot) (was-found room noFit tt f) qs (kept qs g)

@@ -17,10 +17,11 @@ use Rattle.model.specs.Held.{filled}
 use Rattle.model.proofs.FirstOf.{first-take}
 use Rattle.chip_text.specs.Passed.{Passed}
 use Rattle.placement.specs.Letters.{Letter}
-use Rattle.placement.specs.Least.{Best, nothing, found, fitOf}
+use Rattle.placement.specs.Least.{nothing, found, fitOf}
 use Rattle.refusals.specs.Tests.{firstFailed}
 use Rattle.fit_slots.specs.Fit.{Fit, refusedBy, noFit, placed, letterCount, slotCount, bestFit, fitLetters}
 use Rattle.fit_slots.proofs.Strings.{each-given}
+use Rattle.fit_slots.proofs.ReadBack.{back, back-best}
 use Rattle.search_branches.proofs.Betters.{Sized}
 use Rattle.search_branches.proofs.Closing.{fit-sized}
 use Rattle.fit.specs.declared.Fitted.{Fitted}
@@ -36,16 +37,6 @@ use Rattle.search_node.proofs.Records.{no-best, none-counted}
 
 pub first-filled : (n : ℕ) (ps : List Spot) → length ps ≡ n → n ≤ 8 → firstOf blankSpot n (filled mostMacs blankSpot ps) ≡ ps
 first-filled n ps e h = let l = filled-long ps (omega arith) in first-take blankSpot n (filled mostMacs blankSpot ps) (omega arith) ∙ take-filled n ps e
-
--- the placement of a fit, or nothing
-abbrev back : Fit → Best
-back (placed wl slots ps) = found wl ps
-back noFit = nothing
-back (refusedBy number line) = nothing
-
-back-best : (slots : ℕ) (b : Best) → back (bestFit slots b) ≡ b
-back-best slots nothing = refl
-back-best slots (found wl ps) = refl
 
 pub prefix-long : (letters : List ℕ) (p : ℕ) → p ≤ 120 → length letters ≡ 120 → p ≡ length (take p letters)
 prefix-long letters p h l = sym (length-take-le p letters (omega arith))
