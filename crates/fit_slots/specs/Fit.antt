@@ -70,6 +70,10 @@ abbrev pub bestFit : ℕ → Best → Fit
 bestFit slots nothing = noFit
 bestFit slots (found l ps) = placed l slots ps
 
+-- the fit of one letter for each pair
+abbrev pub fitEach : Chip → List ℕ → Fit
+fitEach c s = bestFit (slotCount c) (fitOf c (lettersOf s))
+
 -- 11 where there is not one letter for each of the pairs, 12 where a byte is no letter, 15 where the lent list is shorter than the slots
 abbrev pub testsBy : ℕ → ℕ → List ℕ → ℕ → List Test
 testsBy pairCount slots s room =
@@ -85,7 +89,7 @@ fitTests c s room = testsBy (letterCount c) (slotCount c) s room
 -- the fit of a chip that was read: its refusal, those of the tests, or the placement
 abbrev pub fitChip : Reading Chip → List ℕ → ℕ → Fit
 fitChip (refused number line) s room = refusedBy number line
-fitChip (accepted c) s room = unlessFailed refusedBy (firstFailed (fitTests c s room)) (bestFit (slotCount c) (fitOf c (lettersOf s)))
+fitChip (accepted c) s room = unlessFailed refusedBy (firstFailed (fitTests c s room)) (fitEach c s)
 
 -- the fit of a chip and a letter string, by the letters that it stands for, with a list of that many slots lent
 unfoldable pub fitLetters : Chip → List ℕ → ℕ → Fit

@@ -7,8 +7,7 @@ use Rattle.model.specs.declared.Chip.{Chip as HeldChip}
 use Rattle.model.specs.Meaning.{chipOf}
 use Rattle.chip_text.specs.Passed.{Passed}
 use Rattle.chip_text.proofs.Passing.{Whole}
-use Rattle.placement.specs.Least.{fitOf}
-use Rattle.fit_slots.specs.Fit.{Fit, refusedBy, lettersOf, letterCount, slotCount, bestFit, stringFor, fitLetters}
+use Rattle.fit_slots.specs.Fit.{Fit, refusedBy, letterCount, slotCount, fitEach, stringFor, fitLetters}
 use Rattle.fit_tests.specs.declared.Entry.{Entry}
 use Rattle.fit_tests.specs.declared.Entry.the-variants as entry
 
@@ -26,7 +25,7 @@ pub record Asking (c : HeldChip) (s : List ℕ) (m : ℕ) : Type 0 where
 
 -- the fit of the letters
 abbrev pub fitting : HeldChip → List ℕ → Fit
-fitting c s = bestFit (slotCount (chipOf c)) (fitOf (chipOf c) (lettersOf s))
+fitting c s = fitEach (chipOf c) s
 
 -- the fit is not refused: it is that of the letters that the string stands for, and there is room for m slots of each direction
 pub record Ready (c : HeldChip) (s : List ℕ) (room m : ℕ) : Type 0 where

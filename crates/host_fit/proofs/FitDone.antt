@@ -21,7 +21,7 @@ use Rattle.chip_text.specs.Passed.{Passed}
 use Rattle.placement.proofs.OrderLaws.{length-keys}
 use Rattle.placement.specs.Order.{keys}
 use Rattle.placement.specs.Least.{Best, nothing, found, fitOf}
-use Rattle.fit_slots.specs.Fit.{Fit, refusedBy, noFit, placed, areLetters, lettersOf, letterCount, slotCount, bestFit, stringFor, fitTests, fitChip, fitLetters, Filled}
+use Rattle.fit_slots.specs.Fit.{Fit, refusedBy, noFit, placed, areLetters, lettersOf, letterCount, slotCount, bestFit, fitEach, stringFor, fitTests, fitChip, fitLetters, Filled}
 use Rattle.search_branches.proofs.Betters.{Sized}
 use Rattle.search_branches.proofs.Closing.{fit-sized}
 use Rattle.fit.specs.declared.Fitted.{Fitted}
@@ -69,7 +69,7 @@ module _ (c : HeldChip) (ok : Passed c) (s : List ℕ) where
 
   -- the first of a fit's tests that fails, or the fit
   abbrev unless : ℕ → Fit
-  unless number = unlessFailed refusedBy number (bestFit (slotCount C) (fitOf C (lettersOf t)))
+  unless number = unlessFailed refusedBy number (fitEach C t)
 
   fit-is : (room : ℕ) → fitLetters C s room ≡ unless (firstFailed (fitTests C t room))
   unfolding fitLetters
@@ -79,7 +79,7 @@ module _ (c : HeldChip) (ok : Passed c) (s : List ℕ) where
   fit-placed-sized room =
       let n = length (C .macs) in
       subst (SizedFit n) (sym (fit-is room))
-      (sized-unless n (firstFailed (fitTests C t room)) (bestFit (slotCount C) (fitOf C (lettersOf t))) (sized-best n (slotCount C) (fitOf C (lettersOf t)) (fit-sized C (lettersOf t))))
+      (sized-unless n (firstFailed (fitTests C t room)) (fitEach C t) (sized-best n (slotCount C) (fitOf C (lettersOf t)) (fit-sized C (lettersOf t))))
 
   -- ---- the list of positions is too short
 

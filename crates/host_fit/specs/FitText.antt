@@ -5,12 +5,11 @@ use mathlib.Core.List.{List, [], _∷_, _++_}
 use lib.Dec.{leb}
 use lib.ListN.{length, drop}
 use Rattle.model.specs.Meaning.{Chip}
-use Rattle.refusals.specs.Tests.{test, firstFailed, unlessFailed}
+use Rattle.refusals.specs.Tests.{Test, test, firstFailed, unlessFailed}
 use Rattle.text_grammar.specs.Reading.{Reading, accepted, refused}
 use Rattle.chip_text.specs.Text.{readChip}
 use Rattle.placement.specs.Order.{keys}
-use Rattle.placement.specs.Least.{fitOf}
-use Rattle.fit_slots.specs.Fit.{Fit, refusedBy, noFit, placed, lettersOf, slotCount, bestFit, stringFor, fitTests, Filled}
+use Rattle.fit_slots.specs.Fit.{Fit, refusedBy, noFit, placed, fitEach, stringFor, fitTests, Filled}
 use Rattle.host_codes.specs.declared.Code.{Code}
 use Rattle.fit.specs.declared.FitOutcome.{FitOutcome}
 use Rattle.fit.specs.declared.FitOutcome.the-variants as outcome
@@ -18,10 +17,11 @@ use Rattle.host_codes.specs.Code.{Outcome, granted, denied, code, ofFit}
 use Rattle.host_codes.specs.Code as coded
 
 -- the tests of a fit, the last being 15 for the slots, and 15 for the positions, by the lengths of the two lists
+abbrev pub lentTests : Chip → List ℕ → ℕ → ℕ → List Test
+lentTests c s slots places = fitTests c s slots ++ (test 15 (leb (2 * length (c .macs)) places) ∷ [])
+
 abbrev pub fitLent : Chip → List ℕ → ℕ → ℕ → Fit
-fitLent c s slots places =
-    unlessFailed refusedBy (firstFailed (fitTests c s slots ++ (test 15 (leb (2 * length (c .macs)) places) ∷ [])))
-    (bestFit (slotCount c) (fitOf c (lettersOf s)))
+fitLent c s slots places = unlessFailed refusedBy (firstFailed (lentTests c s slots places)) (fitEach c s)
 
 -- the text is read first; then the letters that the string stands for are fitted
 abbrev pub fitRead : Reading Chip → List ℕ → ℕ → ℕ → Fit

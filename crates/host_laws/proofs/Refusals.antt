@@ -1,8 +1,8 @@
 -- The refusal number of measuring and of fitting a chip text is 1 to 15, so it is never 0 or 255, the two numbers of the C interface that are no refusal.
 use Prim.Native.Nat.{ℕ, suc, _*_}
 use mathlib.Core.Path.{_≡_, refl}
-use mathlib.Core.List.{List, [], _∷_, _++_}
-use lib.Dec.{eqb, leb}
+use mathlib.Core.List.{List, [], _∷_}
+use lib.Dec.{eqb}
 use lib.ListN.{length}
 use Rattle.model.specs.Meaning.{Chip}
 use Rattle.refusals.specs.Tests.{Test, test, firstFailed}
@@ -11,19 +11,16 @@ use Rattle.chip_text.specs.Text.{readChip}
 use Rattle.placement.specs.Least.{fitOf}
 use Rattle.measure_held.specs.Answer.{refused as notMeasured}
 use Rattle.measure.specs.Measuring.{measurePassed}
-use Rattle.fit_slots.specs.Fit.{refusedBy, lettersOf, slotCount, stringFor, fitTests}
+use Rattle.fit_slots.specs.Fit.{refusedBy, lettersOf, slotCount, stringFor}
 use Rattle.text_grammar.proofs.Numbers.{Numbered}
 use Rattle.chip_text.proofs.Numbers.{chip-number}
 use Rattle.place_print.proofs.Refusals.{wider, tabled, first-told, measured-told, passed-told, fit-told}
 use Rattle.host_measure.specs.MeasureText.{cornersOf, measureRead, measureText}
-use Rattle.host_fit.specs.FitText.{fitRead, fitText}
+use Rattle.host_fit.specs.FitText.{lentTests, fitRead, fitText}
 
--- the tests of the two services on a chip that was read
+-- the tests of measuring on a chip that was read
 abbrev counted : Chip → List ℕ → List Test
 counted c list = test 13 (eqb (length list) (2 * length (c .macs))) ∷ []
-
-abbrev roomy : Chip → List ℕ → ℕ → ℕ → List Test
-roomy c s slots places = fitTests c (stringFor c s) slots ++ (test 15 (leb (2 * length (c .macs)) places) ∷ [])
 
 pub measure-text-number : (text list : List ℕ) (n l : ℕ) → measureText text list ≡ notMeasured n l → Numbered 15 n
 unfolding tabled
@@ -35,8 +32,8 @@ measure-text-number text list n l e = by (readChip text) refl e (λ c. first-tol
 
 pub fit-text-number : (text s : List ℕ) (slots places n l : ℕ) → fitText text s slots places ≡ refusedBy n l → Numbered 15 n
 unfolding tabled
-fit-text-number text s slots places n l e = by (readChip text) refl e (λ c. first-told (roomy c s slots places) refl)
+fit-text-number text s slots places n l e = by (readChip text) refl e (λ c. first-told (lentTests c (stringFor c s) slots places) refl)
   where
-    by : (r : Reading Chip) → readChip text ≡ r → fitRead r s slots places ≡ refusedBy n l → ((c : Chip) (j : ℕ) → firstFailed (roomy c s slots places) ≡ suc j → Numbered 15 (suc j)) → Numbered 15 n
-    by (accepted c) t q told = fit-told (firstFailed (roomy c s slots places)) (told c) (slotCount c) (fitOf c (lettersOf (stringFor c s))) n l q
+    by : (r : Reading Chip) → readChip text ≡ r → fitRead r s slots places ≡ refusedBy n l → ((c : Chip) (j : ℕ) → firstFailed (lentTests c (stringFor c s) slots places) ≡ suc j → Numbered 15 (suc j)) → Numbered 15 n
+    by (accepted c) t q told = fit-told (firstFailed (lentTests c (stringFor c s) slots places)) (told c) (slotCount c) (fitOf c (lettersOf (stringFor c s))) n l q
     by (refused k m) t q told = wider k n (chip-number text k m t) cc
