@@ -20,6 +20,7 @@ use Rattle.host_codes.specs.Code as coded
 abbrev pub lentTests : Chip → List ℕ → ℕ → ℕ → List Test
 lentTests c s slots places = fitTests c s slots ++ (test 15 (leb (2 * length (c .macs)) places) ∷ [])
 
+-- the fit of one letter for each pair, with lists of those lengths lent for the slots and the positions
 abbrev pub fitLent : Chip → List ℕ → ℕ → ℕ → Fit
 fitLent c s slots places = unlessFailed refusedBy (firstFailed (lentTests c s slots places)) (fitEach c s)
 

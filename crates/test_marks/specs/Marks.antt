@@ -22,7 +22,7 @@ pub record RecordCase : Type 0 where
   pub chip : List String
   pub prints : List String
 
--- a chip, letters, and their fit: its length, the number of its slots and its corners, or none
+-- a chip, letters, and their fit: its length, the number of its slots and its corners, or none, or the refusal
 pub record FitCase : Type 0 where
   pub chip : List String
   pub letters : String
