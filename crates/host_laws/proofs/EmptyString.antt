@@ -22,10 +22,10 @@ use Rattle.placement.proofs.Integers.{naturals, letters-same, legal-natural, na
 use Rattle.placement.proofs.Demand.{fit-found-integers, nothing-fits-integers}
 use Rattle.fit_slots.specs.Fit.{Fit, refusedBy, noFit, placed, areLetters, letterCount, slotCount, bestFit, dots, stringFor, fitTests, fitChip, fitLetters, Filled}
 use Rattle.fit_slots.proofs.Counting.{pairs-count}
-use Rattle.fit_slots.proofs.ReadBack.{back, Told, told-found}
+use Rattle.fit_slots.proofs.ReadBack.{told-found}
 use Rattle.fit_slots.proofs.Strings.{dots-are, dots-letters, some-given, dots-given}
 use Rattle.search_branches.proofs.Branching.{dots-kept}
-use Rattle.host_fit.specs.FitText.{fitLent, fitText, SlotsFilled}
+use Rattle.host_fit.specs.FitText.{lentTests, fitLent, fitText, SlotsFilled}
 
 module _ (c : Chip) where
   abbrev p : ℕ
@@ -71,28 +71,41 @@ module _ (c : Chip) where
   abbrev Undecided : Fit
   Undecided = bestFit (slotCount c) (fitOf c (replicate p dot))
 
-  module _ (e : readChip (chipText c) ≡ accepted c) where
-    undecided-by : (room : ℕ) → fitLetters c [] room ≡ unlessFailed refusedBy (firstFailed (fitTests c (dots p) room)) Undecided
-    unfolding fitLetters
-    undecided-by room = rw (e, dots-letters p)
+  undecided-by : readChip (chipText c) ≡ accepted c → (room : ℕ) → fitLetters c [] room ≡ unlessFailed refusedBy (firstFailed (fitTests c (dots p) room)) Undecided
+  unfolding fitLetters
+  undecided-by e room = rw (e, dots-letters p)
 
-    pub empty-undecided : (room : ℕ) → slotCount c ≤ room → fitLetters c [] room ≡ Undecided
-    unfolding firstFailed
-    empty-undecided room h = undecided-by room ∙ rw (eq-eqb (length (dots p)) p (length-replicate p 46), dots-are p, le-leb (slotCount c) room h)
+  undecided-text : (text : List ℕ) → readChip text ≡ accepted c → (slots places : ℕ) → fitText text [] slots places ≡ unlessFailed refusedBy (firstFailed (lentTests c (dots p) slots places)) Undecided
+  undecided-text text e slots places = rw (e, dots-letters p)
 
-    -- ---- a lower bound: every legal placement keeps the dots
+  pub empty-undecided : readChip (chipText c) ≡ accepted c → (room : ℕ) → slotCount c ≤ room → fitLetters c [] room ≡ Undecided
+  unfolding firstFailed
+  empty-undecided e room h = undecided-by e room ∙ rw (eq-eqb (length (dots p)) p (length-replicate p 46), dots-are p, le-leb (slotCount c) room h)
 
-    kept : (qs : List Corner) → legalZ c qs ≡ true → keepsLettersZ c (replicate p dot) qs ≡ true
-    kept qs g =
+  -- ---- a lower bound: every legal placement keeps the dots
+
+  module _ (qs : List Corner) (g : legalZ c qs ≡ true) where
+    kept : keepsLettersZ c (replicate p dot) qs ≡ true
+    kept =
         ap (keepsLettersZ c (replicate p dot)) (legal-natural c qs g)
         ∙ (letters-same c (replicate p dot) (naturals qs) ∙ dots-kept c p (pairs-count c) (naturals qs) (natural-legal c qs g))
 
-    -- what a fit that is not refused says was found
-    was-found : (room : ℕ) (f : Fit) → Told f → fitLetters c [] room ≡ f → fitOf c (replicate p dot) ≡ back f
-    was-found room f t q = told-found (firstFailed (fitTests c (dots p) room)) (slotCount c) (fitOf c (replicate p dot)) f t (sym (undecided-by room) ∙ q)
+    bound-by : (k l count : ℕ) (ps : List Spot) → unlessFailed refusedBy k Undecided ≡ placed l count ps → l ≤ wirelengthZ c qs
+    bound-by k l count ps q = fit-found-integers c (replicate p dot) l ps (told-found k (slotCount c) (fitOf c (replicate p dot)) (placed l count ps) tt q) .least qs kept
 
-    pub empty-bound : (room l count : ℕ) (ps : List Spot) → fitLetters c [] room ≡ placed l count ps → (qs : List Corner) → legalZ c qs ≡ true → l ≤ wirelengthZ c qs
-    empty-bound room l count ps f qs g = fit-found-integers c (replicate p dot) l ps (was-found room (placed l count ps) tt f) .least qs (kept qs g)
+    none-by : (k : ℕ) → unlessFailed refusedBy k Undecided ≡ noFit → ⊥
+    none-by k q = nothing-fits-integers c (replicate p dot) (told-found k (slotCount c) (fitOf c (replicate p dot)) noFit tt q) qs kept
 
-    pub empty-none : (room : ℕ) → fitLetters c [] room ≡ noFit → (qs : List Corner) → legalZ c qs ≡ true → ⊥
-    empty-none room f qs g = nothing-fits-integers c (replicate p dot) (was-found room noFit tt f) qs (kept qs g)
+    module _ (e : readChip (chipText c) ≡ accepted c) (room : ℕ) where
+      pub empty-bound : (l count : ℕ) (ps : List Spot) → fitLetters c [] room ≡ placed l count ps → l ≤ wirelengthZ c qs
+      empty-bound l count ps f = bound-by (firstFailed (fitTests c (dots p) room)) l count ps (sym (undecided-by e room) ∙ f)
+
+      pub empty-none : fitLetters c [] room ≡ noFit → ⊥
+      empty-none f = none-by (firstFailed (fitTests c (dots p) room)) (sym (undecided-by e room) ∙ f)
+
+    module _ (text : List ℕ) (e : readChip text ≡ accepted c) (slots places : ℕ) where
+      pub empty-bound-text : (l count : ℕ) (ps : List Spot) → fitText text [] slots places ≡ placed l count ps → l ≤ wirelengthZ c qs
+      empty-bound-text l count ps f = bound-by (firstFailed (lentTests c (dots p) slots places)) l count ps (sym (undecided-text text e slots places) ∙ f)
+
+      pub empty-none-text : fitText text [] slots places ≡ noFit → ⊥
+      empty-none-text f = none-by (firstFailed (lentTests c (dots p) slots places)) (sym (undecided-text text e slots places) ∙ f)
