@@ -15,7 +15,7 @@ def run(*words):
     done = subprocess.run(words, cwd=ROOT, env={**os.environ, "CARGO_TARGET_DIR": str(WORK / "baseline")},
                           stdout=subprocess.PIPE, stderr=subprocess.STDOUT, text=True)
     if done.returncode:
-        sys.exit(f"{done.stdout}bench/run: {' '.join(map(str, words))} ended with {done.returncode}")
+        sys.exit(f"{done.stdout}bench: {' '.join(map(str, words))} ended with {done.returncode}")
 
 
 def has_lemon():
@@ -26,14 +26,23 @@ def has_lemon():
     return subprocess.run(words, stdout=subprocess.DEVNULL, stderr=subprocess.DEVNULL).returncode == 0
 
 
+def library():
+    run("rt", "staticlib", "jizdovel")
+
+
+def program(name):
+    """A program of bench/ that calls the static library."""
+    run("cc", "-O2", "-Iembed", "-o", WORK / name, f"bench/{name}.c", LIBRARY)
+
+
 def build(baseline):
     """Builds everything. Whether LEMON is there is handed back."""
     run("rt", "check", "place")
-    run("rt", "staticlib", "jizdovel")
+    library()
     run("cargo", "build", "--release", "--offline", "--locked", "--manifest-path", baseline / "Cargo.toml")
     run("cc", "-O2", "-o", WORK / "timed", "bench/timed.c")
-    for program in ("fits", "searches"):
-        run("cc", "-O2", "-Iembed", "-o", WORK / program, f"bench/{program}.c", LIBRARY)
+    program("fits")
+    program("searches")
     (WORK / "lemon").unlink(missing_ok=True)
     if has_lemon():
         run("c++", "-std=c++17", "-O3", "-o", WORK / "lemon", "bench/lemon.cc", "-llemon")

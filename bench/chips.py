@@ -73,8 +73,19 @@ def pair_count(chip):
     return n * (n - 1) // 2 + n * k
 
 
-def random_chip(rng, macros, nets, pins):
-    """A chip of that size without fixes, in the ranges of the baseline's `lab fits`."""
+def random_fixes(rng, die, count):
+    """So many fixes that lie in the die and do not overlap."""
+    fixes = []
+    while len(fixes) < count:
+        w, h = rng.randint(20, 100), rng.randint(20, 100)
+        fix = rng.randint(0, die[0] - w), rng.randint(0, die[1] - h), w, h
+        if not any(overlap(fix, other) for other in fixes):
+            fixes.append(fix)
+    return fixes
+
+
+def random_chip(rng, macros, nets, pins, fixes=0):
+    """A chip of that size, in the ranges of the baseline's `lab fits`."""
     die = rng.randint(300, 1024), rng.randint(300, 1024)
     sizes = [die] + [(rng.randint(20, 250), rng.randint(20, 250)) for _ in range(macros)]
     made = []
@@ -86,7 +97,7 @@ def random_chip(rng, macros, nets, pins):
             m = rng.randint(0, macros)
             nodes.append((m, rng.randint(0, sizes[m][0]), rng.randint(0, sizes[m][1])))
         made.append((weight, nodes))
-    return Chip(die, [], sizes[1:], made)
+    return Chip(die, random_fixes(rng, die, fixes), sizes[1:], made)
 
 
 def clique(sides):

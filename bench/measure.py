@@ -41,10 +41,13 @@ def place_start():
     return min(timed([PLACE]).seconds for _ in range(ROUNDS))
 
 
-def library(chip):
-    """The static library's call from chip text to record text, and its reading of the text, without a process."""
+def library(chip, *service, enough=ENOUGH):
+    """The static library's call from chip text to record text, and its reading of the text, without a process.
+
+    The service is the design desk's, or `quote`, the page's."""
     with open(chip, "rb") as file:
-        said = subprocess.run([WORK / "searches", str(ENOUGH)], stdin=file, stdout=subprocess.PIPE, check=True).stdout
+        words = [WORK / "searches", str(enough), *service]
+        said = subprocess.run(words, stdin=file, stdout=subprocess.PIPE, check=True).stdout
     times, record = said.split(b"\n", 1)
     return Call(*(float(micros) / 1e6 for micros in times.split()), record)
 

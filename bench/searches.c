@@ -1,4 +1,4 @@
-/* Times jizdovel_place: searches SECONDS < CHIP
+/* Times jizdovel_place, or jizdovel_quote where the second word is there: searches SECONDS [quote] < CHIP
  *
  * The chip is placed once and its record kept, then again and again until SECONDS of processor time have
  * passed, and so with jizdovel_check_chip, which only reads the chip. The first line has the microseconds of
@@ -6,6 +6,7 @@
  */
 #include <stdio.h>
 #include <stdlib.h>
+#include <string.h>
 
 #include "clock.h"
 #include "jizdovel.h"
@@ -15,8 +16,9 @@ enum { MOST_TEXT = 16384 };
 static uint8_t text[MOST_TEXT + 1], record[JIZDOVEL_RECORD_BYTES];
 static size_t text_length;
 static uint64_t number, value;
+static uint64_t (*service)(const uint8_t *, size_t, uint8_t *, size_t, uint64_t *) = jizdovel_place;
 
-static void place(void) { number = jizdovel_place(text, text_length, record, sizeof record, &value); }
+static void place(void) { number = service(text, text_length, record, sizeof record, &value); }
 
 static void only_read(void) {
     uint64_t line;
@@ -24,8 +26,10 @@ static void only_read(void) {
 }
 
 int main(int count, char **words) {
-    if (count != 2)
-        return fprintf(stderr, "usage: searches SECONDS < CHIP\n"), 2;
+    if (count == 3 && !strcmp(words[2], "quote"))
+        service = jizdovel_quote;
+    else if (count != 2)
+        return fprintf(stderr, "usage: searches SECONDS [quote] < CHIP\n"), 2;
     text_length = fread(text, 1, sizeof text, stdin);
     place();
     if (number != JIZDOVEL_YES)

@@ -1,4 +1,5 @@
-/* The C interface in use: one chip, through every function of the library. */
+/* The C interface in use: one chip, through every function of the library, and chips at the limits of
+ * the quoting page. */
 #include <inttypes.h>
 #include <stdio.h>
 #include <string.h>
@@ -41,6 +42,37 @@ static void place(const uint8_t *text, size_t length)
     tell("check record", number, value);
 }
 
+/* The page's answer: the chip, and the record where there is one. */
+static void quote(const char *what, const char *text)
+{
+    uint8_t record[JIZDOVEL_RECORD_BYTES];
+    uint64_t value;
+    uint64_t number = jizdovel_quote((const uint8_t *)text, strlen(text), record, sizeof record, &value);
+
+    printf("%s, ", what);
+    tell("quote", number, value);
+    if (number == JIZDOVEL_YES)
+        fwrite(record, 1, value, stdout);
+}
+
+/* A row of so many fixes, macros and pins that nothing overlaps: each is 1 x 1, each pin is a pad. */
+static void quote_row(int fixes, int macros, int pins)
+{
+    char what[64], text[1024];
+    char *end = text + sprintf(text, "die,w,%d,h,1\n", fixes + macros);
+
+    for (int x = 0; x < fixes; x++)
+        end += sprintf(end, "fix,x,%d,y,0,w,1,h,1\n", x);
+    for (int m = 0; m < macros; m++)
+        end += sprintf(end, "mac,w,1,h,1\n");
+    end += sprintf(end, "net,w,1\n");
+    for (int pin = 0; pin < pins; pin++)
+        end += sprintf(end, "pin,m,0,x,0,y,0\n");
+    sprintf(end, "end\n");
+    sprintf(what, "%d macros, %d fixes, %d pins", macros, fixes, pins);
+    quote(what, text);
+}
+
 static void measure(const uint8_t *text, size_t length, uint64_t x, uint64_t y)
 {
     const uint64_t positions[4] = {x, y, 0, 0};
@@ -77,6 +109,11 @@ int main(void)
     number = jizdovel_check_chip(text, 12, &value);
     tell("check its first line", number, value);
     place(text, length);
+    quote("the same chip", chip);
+    quote_row(JIZDOVEL_PAGE_FIXES, JIZDOVEL_PAGE_MACROS, JIZDOVEL_PAGE_PINS);
+    quote_row(JIZDOVEL_PAGE_FIXES, JIZDOVEL_PAGE_MACROS + 1, JIZDOVEL_PAGE_PINS);
+    quote_row(JIZDOVEL_PAGE_FIXES + 1, JIZDOVEL_PAGE_MACROS, JIZDOVEL_PAGE_PINS);
+    quote_row(JIZDOVEL_PAGE_FIXES, JIZDOVEL_PAGE_MACROS, JIZDOVEL_PAGE_PINS + 1);
     measure(text, length, 0, 1);
     measure(text, length, 0, 0);
     fit(text, length, "ALL");

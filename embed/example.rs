@@ -1,7 +1,7 @@
-// The library from Rust: one chip, through every function; it prints what example.c prints.
+// The library from Rust: one chip, through every function, and chips at the limits of the quoting page; it prints what example.c prints.
 mod jizdovel;
 
-use jizdovel::Answer;
+use jizdovel::{Answer, PAGE_FIXES, PAGE_MACROS, PAGE_PINS};
 
 const CHIP: &str = "die,w,5,h,3
 fix,x,2,y,0,w,1,h,2
@@ -33,6 +33,29 @@ fn place(text: &[u8]) {
     }
 }
 
+// The page's answer: the chip, and the record where there is one.
+fn quote(what: &str, text: &str) {
+    let mut record = [0; jizdovel::RECORD_BYTES];
+    let answer = jizdovel::quote(text.as_bytes(), &mut record);
+    print!("{what}, ");
+    tell("quote", answer);
+    if let Answer::Yes(length) = answer {
+        print!("{}", String::from_utf8_lossy(&record[..length as usize]));
+    }
+}
+
+// A row of so many fixes, macros and pins that nothing overlaps: each is 1 x 1, each pin is a pad.
+fn quote_row(fixes: usize, macros: usize, pins: usize) {
+    let row: String = (0..fixes).map(|x| format!("fix,x,{x},y,0,w,1,h,1\n")).collect();
+    let text = format!(
+        "die,w,{},h,1\n{row}{}net,w,1\n{}end\n",
+        fixes + macros,
+        "mac,w,1,h,1\n".repeat(macros),
+        "pin,m,0,x,0,y,0\n".repeat(pins),
+    );
+    quote(&format!("{macros} macros, {fixes} fixes, {pins} pins"), &text);
+}
+
 fn measure(text: &[u8], x: u64, y: u64) {
     print!("macro 1 at {x},{y}, ");
     tell("measure", jizdovel::measure(text, &[x, y, 0, 0]));
@@ -54,6 +77,11 @@ fn main() {
     tell("check chip", jizdovel::check_chip(text));
     tell("check its first line", jizdovel::check_chip(&text[..12]));
     place(text);
+    quote("the same chip", CHIP);
+    quote_row(PAGE_FIXES, PAGE_MACROS, PAGE_PINS);
+    quote_row(PAGE_FIXES, PAGE_MACROS + 1, PAGE_PINS);
+    quote_row(PAGE_FIXES + 1, PAGE_MACROS, PAGE_PINS);
+    quote_row(PAGE_FIXES, PAGE_MACROS, PAGE_PINS + 1);
     measure(text, 0, 1);
     measure(text, 0, 0);
     fit(text, "ALL");

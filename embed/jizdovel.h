@@ -49,6 +49,18 @@ uint64_t jizdovel_place(const uint8_t *text, size_t text_length,
                         uint8_t *out, size_t out_length,
                         uint64_t *value);
 
+/* Chip text to record text for the quoting page, which takes chips of at most so many macros, fixes
+ * and pins; nets have no limit of their own. Within these limits it answers and writes what
+ * jizdovel_place does, byte for byte. Refusals: those of reading a chip, then 22, line 0, where the
+ * chip is beyond one of them, whatever the length of `out`, then 15 where `out` is shorter than the
+ * record. */
+#define JIZDOVEL_PAGE_MACROS 4
+#define JIZDOVEL_PAGE_FIXES 2
+#define JIZDOVEL_PAGE_PINS 16
+uint64_t jizdovel_quote(const uint8_t *text, size_t text_length,
+                        uint8_t *out, size_t out_length,
+                        uint64_t *value);
+
 /* Checks a chip text. YES: it is accepted, `value` is 0. */
 uint64_t jizdovel_check_chip(const uint8_t *text, size_t text_length, uint64_t *value);
 

@@ -16,11 +16,17 @@ pub const RECORD_BYTES: usize = 256;
 pub const SLOTS: usize = 728;
 pub const POSITIONS: usize = 16;
 
+/// The limits of the quoting page.
+pub const PAGE_MACROS: usize = 4;
+pub const PAGE_FIXES: usize = 2;
+pub const PAGE_PINS: usize = 16;
+
 const YES: u64 = 0;
 const NO: u64 = 255;
 
 extern "C" {
     fn jizdovel_place(text: *const u8, n: usize, out: *mut u8, m: usize, value: *mut u64) -> u64;
+    fn jizdovel_quote(text: *const u8, n: usize, out: *mut u8, m: usize, value: *mut u64) -> u64;
     fn jizdovel_check_chip(text: *const u8, n: usize, value: *mut u64) -> u64;
     fn jizdovel_check_record(text: *const u8, n: usize, value: *mut u64) -> u64;
     fn jizdovel_measure(text: *const u8, n: usize, positions: *const u64, m: usize, value: *mut u64) -> u64;
@@ -49,6 +55,13 @@ fn answer(number: u64, value: u64) -> Answer {
 pub fn place(text: &[u8], out: &mut [u8]) -> Answer {
     let mut value = 0;
     let number = unsafe { jizdovel_place(text.as_ptr(), text.len(), out.as_mut_ptr(), out.len(), &mut value) };
+    answer(number, value)
+}
+
+/// The same for the quoting page: a chip beyond its limits is refused by 22.
+pub fn quote(text: &[u8], out: &mut [u8]) -> Answer {
+    let mut value = 0;
+    let number = unsafe { jizdovel_quote(text.as_ptr(), text.len(), out.as_mut_ptr(), out.len(), &mut value) };
     answer(number, value)
 }
 

@@ -107,6 +107,13 @@ mod raw {
             out_length: usize,
             value: *mut u64,
         ) -> u64;
+        pub fn jizdovel_quote(
+            text: *const u8,
+            text_length: usize,
+            out: *mut u8,
+            out_length: usize,
+            value: *mut u64,
+        ) -> u64;
         pub fn jizdovel_check_chip(text: *const u8, text_length: usize, value: *mut u64) -> u64;
         pub fn jizdovel_check_record(text: *const u8, text_length: usize, value: *mut u64) -> u64;
         pub fn jizdovel_measure(
@@ -155,15 +162,26 @@ pub fn measure(text: &[u8], positions: &[u64]) -> Answer {
     answer
 }
 
-pub fn place(text: &[u8], out: &mut [u8]) -> Answer {
+/// A function of the interface that writes a text into a buffer.
+type Writer = unsafe extern "C" fn(*const u8, usize, *mut u8, usize, *mut u64) -> u64;
+
+fn write(writer: Writer, text: &[u8], out: &mut [u8]) -> Answer {
     let mut lent = Lent::new(out, OUT_GUARD);
     // SAFETY: as above.
     let mut answer = answer(text, |text, value| unsafe {
-        raw::jizdovel_place(text.pointer(), text.length, lent.pointer(), lent.length, value)
+        writer(text.pointer(), text.length, lent.pointer(), lent.length, value)
     });
     answer.note(lent.changed_outside(), "memory beside the buffer");
     out.copy_from_slice(lent.list());
     answer
+}
+
+pub fn place(text: &[u8], out: &mut [u8]) -> Answer {
+    write(raw::jizdovel_place, text, out)
+}
+
+pub fn quote(text: &[u8], out: &mut [u8]) -> Answer {
+    write(raw::jizdovel_quote, text, out)
 }
 
 pub fn fit(text: &[u8], letters: &[u8], slots: &mut [u16], positions: &mut [u64]) -> Answer {

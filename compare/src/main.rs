@@ -14,6 +14,7 @@ mod marked;
 mod measures;
 mod measuring;
 mod placing;
+mod quoting;
 mod random;
 mod reading;
 mod records;
@@ -26,6 +27,7 @@ use std::process::ExitCode;
 use std::thread;
 
 use library::{NO, YES};
+use placing::{DESK, PAGE};
 use random::Random;
 use report::{grouped, Difference, Tally};
 
@@ -72,7 +74,12 @@ fn compare(random: &mut Random) -> Result<u64, String> {
         + finish(fits::of_empty_string(random, 5_000), &[YES, NO, 2, 15])?
         + finish(placing::small(random, 4_000), &[YES, 15])?
         + finish(placing::large(random, 1_000), &[YES, 15])?
-        + finish(placing::refused(random, 2_000), &chip_refusals)?
+        + finish(placing::refused(random, DESK, "refused chips", 2_000), &chip_refusals)?
+        + finish(quoting::quotes(random, 4_000), &[YES, 15, 22])?
+        + finish(
+            placing::refused(random, PAGE, "refused chips of the page", 2_000),
+            &chip_refusals,
+        )?
         + finish(in_threads(random), &[YES, NO, 2, 15])?)
 }
 
@@ -110,5 +117,6 @@ fn in_one_thread(seed: u64) -> Result<Tally, Difference> {
     tally.add(measures::measures(&mut random, 500)?);
     tally.add(fits::fits(&mut random, 500)?);
     tally.add(placing::small(&mut random, 100)?);
+    tally.add(quoting::quotes(&mut random, 100)?);
     Ok(tally)
 }

@@ -7,7 +7,8 @@ use crate::fitting::fit;
 use crate::library::{Answer, YES};
 use crate::measures;
 use crate::measuring;
-use crate::placing;
+use crate::placing::{self, DESK, PAGE};
+use crate::quoting;
 use crate::reading::read_chip;
 use crate::records::{record_text, Placed};
 use crate::report::{shown, Difference, Tally, OWN};
@@ -65,6 +66,17 @@ const REFUSALS: [(&str, u64, u64); 9] = [
     ("die,w,5,h,3\nfix,x,2,y,0,w,1,h,2\nfix,x,2,y,0,w,1,h,2\nend\n", 10, 3),
 ];
 
+/// A macro, a fix and a pin more than the quoting page takes (document 02, Card 11).
+const BEYOND: [&str; 3] = [
+    "die,w,5,h,1\nmac,w,1,h,1\nmac,w,1,h,1\nmac,w,1,h,1\nmac,w,1,h,1\nmac,w,1,h,1\nend\n",
+    "die,w,3,h,1\nfix,x,0,y,0,w,1,h,1\nfix,x,1,y,0,w,1,h,1\nfix,x,2,y,0,w,1,h,1\nend\n",
+    "die,w,1,h,1\nnet,w,1\n\
+     pin,m,0,x,0,y,0\npin,m,0,x,0,y,0\npin,m,0,x,0,y,0\npin,m,0,x,0,y,0\npin,m,0,x,0,y,0\n\
+     pin,m,0,x,0,y,0\npin,m,0,x,0,y,0\npin,m,0,x,0,y,0\npin,m,0,x,0,y,0\nnet,w,1\n\
+     pin,m,0,x,0,y,0\npin,m,0,x,0,y,0\npin,m,0,x,0,y,0\npin,m,0,x,0,y,0\npin,m,0,x,0,y,0\n\
+     pin,m,0,x,0,y,0\npin,m,0,x,0,y,0\npin,m,0,x,0,y,0\nend\n",
+];
+
 pub fn cases() -> Result<Tally, Difference> {
     let mut tally = Tally::new("examples of document 01", "yes", "no");
     for (text, record) in RECORDS {
@@ -102,7 +114,9 @@ fn compare_record(text: &str, record: &str, tally: &mut Tally) -> Result<(), Dif
         }
     }
     let answer = Answer::new(YES, record.len() as u64);
-    placing::compare(text.as_bytes(), 256, record.as_bytes(), answer, tally)?;
+    for service in [DESK, PAGE] {
+        placing::compare(service, text.as_bytes(), 256, record.as_bytes(), answer.clone(), tally)?;
+    }
     texts::compare_record(record.as_bytes(), tally)
 }
 
@@ -126,7 +140,7 @@ fn compare_refusal(
     texts::compare_chip(text.as_bytes(), tally)
 }
 
-/// Rows 11 to 15, on the example chip.
+/// Rows 11 to 15, on the example chip, and 22 of the quoting page, before 15.
 fn compare_late_refusals(tally: &mut Tally) -> Result<(), Difference> {
     for (letters, number) in [("AL", 11), ("..", 11), ("....", 11), ("AxL", 12)] {
         let own = fits::accepted(&call(letters)).map_or_else(|refusal| refusal.number, |_| YES);
@@ -138,7 +152,17 @@ fn compare_late_refusals(tally: &mut Tally) -> Result<(), Difference> {
         hold(EXAMPLE, own.to_string(), number.to_string())?;
         measures::compare(EXAMPLE.as_bytes(), positions, tally)?;
     }
-    placing::compare(EXAMPLE.as_bytes(), 10, &[], Answer::new(15, 0), tally)
+    for service in [DESK, PAGE] {
+        placing::compare(service, EXAMPLE.as_bytes(), 10, &[], Answer::new(15, 0), tally)?;
+    }
+    for text in BEYOND {
+        let own = read_chip(text.as_bytes()).is_ok_and(|chip| quoting::is_beyond(&chip));
+        hold(text, own.to_string(), true.to_string())?;
+        for length in [0, 256] {
+            placing::compare(PAGE, text.as_bytes(), length, &[], Answer::new(22, 0), tally)?;
+        }
+    }
+    Ok(())
 }
 
 fn call(letters: &str) -> Call {

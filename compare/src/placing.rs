@@ -10,8 +10,19 @@ use crate::records::{record_text, Placed};
 use crate::report::{shown, Difference, Tally, OWN};
 use crate::trying::{by_letters, by_positions, placements, Least};
 
+/// A service from chip text to record text.
+#[derive(Clone, Copy)]
+pub struct Service {
+    pub name: &'static str,
+    call: fn(&[u8], &mut [u8]) -> Answer,
+}
+
+/// The design desk's search, and the quoting page's.
+pub const DESK: Service = Service { name: "records", call: library::place };
+pub const PAGE: Service = Service { name: "records of the page", call: library::quote };
+
 /// Up to so many placements of a small chip are tried.
-const TRIED: i64 = 60_000;
+pub const TRIED: i64 = 60_000;
 /// Up to so many letters are decided in all ways.
 const DECIDED: usize = 12;
 
@@ -24,7 +35,7 @@ pub fn small(random: &mut Random, count: usize) -> Result<Tally, Difference> {
         let least = by_positions(&chip);
         note(&chip, &least, &mut tally);
         check_own_ways(&chip, &least, &mut tally)?;
-        compare_chip(random, &chip, least.first, &mut tally)?;
+        compare_chip(random, DESK, &chip, least.first, &mut tally)?;
     }
     Ok(tally)
 }
@@ -70,14 +81,19 @@ pub fn large(random: &mut Random, count: usize) -> Result<Tally, Difference> {
         if chip.macros.len() > 3 {
             tally.see("4 or 5 macros");
         }
-        compare_chip(random, &chip, best, &mut tally)?;
+        compare_chip(random, DESK, &chip, best, &mut tally)?;
     }
     Ok(tally)
 }
 
 /// Texts with faults: the refusal of the chip text, and nothing written.
-pub fn refused(random: &mut Random, count: usize) -> Result<Tally, Difference> {
-    let mut tally = Tally::new("refused chips", "", "");
+pub fn refused(
+    random: &mut Random,
+    service: Service,
+    what: &'static str,
+    count: usize,
+) -> Result<Tally, Difference> {
+    let mut tally = Tally::new(what, "", "");
     for _ in 0..count {
         let (text, refusal) = loop {
             let text = damage::chip_text(random);
@@ -86,12 +102,12 @@ pub fn refused(random: &mut Random, count: usize) -> Result<Tally, Difference> {
             }
         };
         let length = random.pick(&[0, 5, 256, 5_000]);
-        compare(&text, length, &[], Answer::refused(refusal), &mut tally)?;
+        compare(service, &text, length, &[], Answer::refused(refusal), &mut tally)?;
     }
     Ok(tally)
 }
 
-fn chosen(random: &mut Random, bounds: &Bounds, wanted: impl Fn(&Chip) -> bool) -> Chip {
+pub fn chosen(random: &mut Random, bounds: &Bounds, wanted: impl Fn(&Chip) -> bool) -> Chip {
     loop {
         let chip = generating::chip(random, bounds);
         if wanted(&chip) {
@@ -101,8 +117,9 @@ fn chosen(random: &mut Random, bounds: &Bounds, wanted: impl Fn(&Chip) -> bool) 
 }
 
 /// Places a chip into a buffer that is too short, then into one that is exact or longer.
-fn compare_chip(
+pub fn compare_chip(
     random: &mut Random,
+    service: Service,
     chip: &Chip,
     best: Option<Placed>,
     tally: &mut Tally,
@@ -110,14 +127,15 @@ fn compare_chip(
     let record = record_text(best.as_ref());
     let below = random.below(record.len());
     let short = random.pick(&[0, below, record.len() - 1]);
-    compare(&chip.text(), short, &[], Answer::new(15, 0), tally)?;
+    compare(service, &chip.text(), short, &[], Answer::new(15, 0), tally)?;
     let enough = record.len() + random.pick(&[0, 1, 5, 300]);
     let written = Answer::new(YES, record.len() as u64);
-    compare(&chip.text(), enough, &record, written, tally)
+    compare(service, &chip.text(), enough, &record, written, tally)
 }
 
 /// The buffer must begin with `record` and hold what it held from there on.
 pub fn compare(
+    service: Service,
     text: &[u8],
     length: usize,
     record: &[u8],
@@ -127,10 +145,10 @@ pub fn compare(
     let mut wanted = blank_bytes(length);
     let mut out = wanted.clone();
     wanted[..record.len()].copy_from_slice(record);
-    let found = library::place(text, &mut out);
+    let found = (service.call)(text, &mut out);
     if found != expected || out != wanted {
         return Err(Difference {
-            service: "records",
+            service: service.name,
             input: format!("{}, buffer of {length} bytes", shown(text)),
             library: format!("{found}, buffer {}", shown(&out)),
             expected: format!("{expected}, buffer {}", shown(&wanted)),

@@ -1,5 +1,5 @@
 -- From the test of a chip and the first test that fails to the fit, in the form of the needs.
-use Prim.Native.Nat.{ℕ, _+_, _*_}
+use Prim.Native.Nat.{ℕ, _+_, _*_, min}
 use mathlib.Core.Path.{_≡_, sym, ap, _∙_}
 use mathlib.Core.List.{List}
 use native.Mathlib.Omega.{arith}
@@ -26,20 +26,22 @@ use Rattle.fit_tests.specs.Entry.{SlotsEach, fitting, Ready}
 
 -- ---- the number of slots
 
-module _ (c : HeldChip) (pass : Passed c) (p : ℕ) (ep : p ≡ letterTotal (c .n) (c .k)) (q : ℕ) (eq : q ≡ pinsBefore (c .t) (c .nets)) where
-  pub slots-each : SlotsEach c (2 * c .n + p + 2 * q)
-  slots-each =
-      let a = chip-letters c pass p ep in
-      let b = chip-few c pass p ep in
-      let d = pass .macs in
-      let e = pass .pins in
-      record { both = omega arith; few = omega (arith, pass .fine .macCount, pass .fine .pins) }
-
+module _ (c : HeldChip) (pass : Passed c) (p : ℕ) (ep : p ≡ letterTotal (c .n) (c .k)) where
   pub letters-fit : Fits w64 (2 * c .n + p)
   letters-fit = let b = chip-few c pass p ep in omega (arith, pass .fine .macCount)
 
-  pub slots-fit : Fits w64 (2 * c .n + p + 2 * q)
-  slots-fit = omega (arith, slots-each .few)
+  module _ (q : ℕ) (eq : q ≡ min 129 (pinsBefore (c .t) (c .nets))) where
+    pub slots-each : SlotsEach c (2 * c .n + p + 2 * q)
+    slots-each =
+        let a = chip-letters c pass p ep in
+        let b = chip-few c pass p ep in
+        let d = pass .macs in
+        let e = pass .pins in
+        let h = pass .fine .pins in
+        record { both = omega arith; few = omega (arith, pass .fine .macCount) }
+
+    pub slots-fit : Fits w64 (2 * c .n + p + 2 * q)
+    slots-fit = omega (arith, slots-each .few)
 
 -- both directions
 pub slots-double : (c : HeldChip) (m : ℕ) → SlotsEach c m → Fits w64 (m + m)

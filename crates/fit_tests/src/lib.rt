@@ -1,9 +1,8 @@
 // The tests before a fit (document 01, "Refusal table"): the chip as its text would be, then the letters and the lent list.
+use chip_pins::pins_before;
 use model::Chip;
 use model::Refusal;
 use model::Tested;
-ghost use mathlib.Core.Path.{_≡_};
-ghost use Rattle.chip_text.specs.Valid.{pinsBefore};
 ghost use Rattle.chip_text.specs.Passed.{Passed};
 ghost use Rattle.chip_text.proofs.Passing.{Whole};
 ghost use Rattle.fit_tests.specs.Entry.{SlotsEach, Entered};
@@ -14,28 +13,13 @@ pub enum Entry {
     Slots(usize),
 }
 
-// The pins of the chip's nets.
-fn pin_total(c: Chip) -> usize
-    requires { ⌜ Passed c ⌝ }
-    ensures { λ r. ⌜ r ≡ pinsBefore (c .t) (c .nets) ⌝ }
-{
-    let nets = c.nets;
-    let mut q: usize = 0;
-    let mut j: usize = 0;
-    while j < c.t {
-        let net = nets[j];
-        q += net.pins;
-        j += 1;
-    }
-    q
-}
-
 // 2n + p + 2q slots for each direction.
 fn slots_each(c: Chip) -> usize
     requires { ⌜ Passed c ⌝ }
     ensures { λ r. ⌜ SlotsEach c r ⌝ }
 {
-    2 * c.n + fit_pairs::letter_count(c.n, c.k) + 2 * pin_total(c)
+    let nets = c.nets;
+    2 * c.n + fit_pairs::letter_count(c.n, c.k) + 2 * pins_before(nets, c.t)
 }
 
 // A chip whose test is passed.

@@ -19,11 +19,11 @@ pub read-handed : {A : Type 0} (a b : Reading A) (r : Code) → a ≡ b → r �
 read-handed a b r e q = q ∙ ap (λ (t : Reading _). code (ofReading t)) e
 
 module _ (w : Written) (a : WriteAnswer) (out : List ℕ) (e : record { answer = answerOf a; buffer = out } ≡ w) where
-  pub place-handed : (r : Code) → r ≡ code (ofAnswer (answerOf a)) → handed r ≡ code (ofAnswer (w .answer))
-  place-handed r q = q ∙ ap (λ (t : Written). code (ofAnswer (t .answer))) e
+  pub text-handed : (r : Code) → r ≡ code (ofAnswer (answerOf a)) → handed r ≡ code (ofAnswer (w .answer))
+  text-handed r q = q ∙ ap (λ (t : Written). code (ofAnswer (t .answer))) e
 
-  pub place-left : out ≡ w .buffer
-  place-left = ap (λ (t : Written). t .buffer) e
+  pub text-left : out ≡ w .buffer
+  text-left = ap (λ (t : Written). t .buffer) e
 
 pub measure-handed : (m : Measure) (r : Code) → r ≡ code (ofMeasure m) → handed r ≡ code (ofMeasure m)
 measure-handed m r q = q

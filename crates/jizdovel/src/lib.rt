@@ -9,6 +9,7 @@ ghost use lib.ListN.{length};
 ghost use Rattle.chip_text.specs.Text.{readChip};
 ghost use Rattle.record_text.specs.Text.{readRecord};
 ghost use Rattle.search.specs.Place.{placeText};
+ghost use Rattle.quote.specs.Quote.{quoteText};
 ghost use Rattle.host_codes.specs.Code.{code, ofReading, ofAnswer, ofMeasure, ofFit};
 ghost use Rattle.host_measure.specs.MeasureText.{measureText};
 ghost use Rattle.host_fit.specs.FitText.{fitText, SlotsFilled, placesAfter};
@@ -20,6 +21,17 @@ pub extern "C" fn jizdovel_place(text: &[u8], out: &mut [u8], value: &mut u64) -
     ensures { λ r. ⌜ now (out .exit) ≡ placeText (now (text .entry)) (now (out .entry)) .buffer ⌝ }
 {
     let r = answer_code(search::service::place_text(text, out));
+    *value = r.value;
+    r.number
+}
+
+// Chip text to record text, within the limits of the quoting page.
+#[no_mangle]
+pub extern "C" fn jizdovel_quote(text: &[u8], out: &mut [u8], value: &mut u64) -> u64
+    ensures { λ r. ⌜ record { number = r; value = now (value .exit) } ≡ code (ofAnswer (quoteText (now (text .entry)) (now (out .entry)) .answer)) ⌝ }
+    ensures { λ r. ⌜ now (out .exit) ≡ quoteText (now (text .entry)) (now (out .entry)) .buffer ⌝ }
+{
+    let r = answer_code(quote::quote_text(text, out));
     *value = r.value;
     r.number
 }

@@ -1,6 +1,6 @@
--- Where a net's pins begin, and the mates of nets, in the form of the needs.
+-- Where a net's pins begin and end, and the mates of nets, in the form of the needs.
 use Prim.Native.Nat.{ℕ, suc, _+_, _≤_, _<_, min}
-use mathlib.Core.Path.{_≡_, refl, sym, subst, _∙_}
+use mathlib.Core.Path.{_≡_, sym, subst, _∙_}
 use mathlib.Core.Bool.{Bool, true, false, not}
 use mathlib.Core.List.{List}
 use native.Mathlib.Decide.{decLt}
@@ -21,24 +21,6 @@ use Rattle.search_equal.specs.Held.{Covers, Turns, MatesTo, NetsAlike}
 -- ---- where a net's pins begin
 
 module _ (nets : List Net) where
-  pub start-none : 0 ≡ pinsBefore 0 nets
-  unfolding pinsBefore
-  start-none = refl
-
-  module _ (k from : ℕ) (ef : from ≡ pinsBefore k nets) where
-    pub start-more : from + getD nets k blankNet .pins ≡ pinsBefore (k + 1) nets
-    start-more = let a = pins-before-next k nets in omega arith
-
-    -- a net with more pins than a chip holds, and nets with more in all
-    pub start-long : (j : ℕ) → k < j → 128 < getD nets k blankNet .pins → 129 ≡ min 129 (pinsBefore j nets)
-    start-long j l h = let a = start-more in let b = pins-before-up (k + 1) j nets (omega arith) in omega arith
-
-    pub start-past : (j : ℕ) → k < j → 128 < from + getD nets k blankNet .pins → 129 ≡ min 129 (pinsBefore j nets)
-    start-past j l h = let a = start-more in let b = pins-before-up (k + 1) j nets (omega arith) in omega arith
-
-    pub start-done : (j : ℕ) → k ≤ j → j ≤ k → from ≤ 128 → from ≡ min 129 (pinsBefore j nets)
-    start-done j a b l = let q : j ≡ k = omega arith in rw q (omega arith)
-
   -- the pins of a net end within the array
   module _ (a from : ℕ) (ef : from ≡ min 129 (pinsBefore a nets)) (l : pinsBefore (a + 1) nets ≤ 128) where
     start-is : from ≡ pinsBefore a nets

@@ -4,7 +4,7 @@ mod pins;
 
 use crate::mates::mated;
 use crate::mates::mates_of;
-use crate::mates::start_of;
+use chip_pins::pins_before;
 use model::Chip;
 use model::Mac;
 use model::Net;
@@ -29,7 +29,7 @@ fn nets_alike(
     requires { ⌜ j < 8 ⌝ }
     ensures { λ r. ⌜ Yes r (NetsAlike nets pins t i j) ⌝ }
 {
-    if Pin::COUNT < start_of(nets, t) {
+    if Pin::COUNT < pins_before(nets, t) {
         return false;
     }
     let mates = mates_of(nets, t, pins, i, j);

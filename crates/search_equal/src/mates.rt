@@ -1,34 +1,13 @@
 // The mate of each net: the net that the exchange of two macros makes of it.
 use crate::pins::covers;
+use chip_pins::pins_before;
 use model::Net;
 use model::Pin;
 use search_numbers::same_weight;
-ghost use mathlib.Core.Path.{_≡_};
-ghost use Prim.Native.Nat.{_+_, _≤_, _<_, min};
+ghost use Prim.Native.Nat.{_+_, _≤_, _<_};
 ghost use Rattle.chip_text.specs.Valid.{pinsBefore};
 ghost use Rattle.search_equal.specs.Answer.{Yes};
 ghost use Rattle.search_equal.specs.Held.{Turns, MatesTo};
-
-// Where the pins of net j begin; 129 past the pins that a chip holds.
-pub(crate) fn start_of(nets: [Net; Net::COUNT], j: usize) -> usize
-    requires { ⌜ j ≤ 32 ⌝ }
-    ensures { λ r. ⌜ r ≡ min 129 (pinsBefore j nets) ⌝ }
-{
-    let mut from: usize = 0;
-    let mut k: usize = 0;
-    while k < j {
-        let net = nets[k];
-        if Pin::COUNT < net.pins {
-            return 129;
-        }
-        from += net.pins;
-        k += 1;
-        if Pin::COUNT < from {
-            return 129;
-        }
-    }
-    from
-}
 
 // Whether net b has the weight of net a, and each of its pins with macros i and j exchanged.
 fn turns(
@@ -52,8 +31,8 @@ fn turns(
     if !same_weight(one, two) {
         return false;
     }
-    let from = start_of(nets, a);
-    let low = start_of(nets, b);
+    let from = pins_before(nets, a);
+    let low = pins_before(nets, b);
     covers(pins, i, j, from, from + one.pins, low, low + two.pins)
 }
 

@@ -16,7 +16,8 @@ use Rattle.placement.specs.Letters.{keepsAllZ, keepsLettersZ}
 use Rattle.placement.specs.Least.{upFrom, placements, tryAll, firstLeast, chipRecord}
 use Rattle.place_print.specs.Printed.{printed}
 use Rattle.host_fit.specs.FitText.{fitText}
-use Rattle.test_marks.specs.Marks.{bytes, text, RecordCase, FitCase, markedRecords, markedFits}
+use Rattle.quote.specs.Quote.{quoteText}
+use Rattle.test_marks.specs.Marks.{bytes, text, RecordCase, FitCase, QuoteCase, blank, markedRecords, markedFits, markedQuotes}
 
 pub marked-records : Every (λ (c : RecordCase). printed (text (c .chip)) ≡ text (c .prints)) markedRecords
 unfolding bytes text digitsIn digits fieldsText itemText itemsText atItems recordItems recordText allOf valueFrom plain numeralOf lines upTo from strip fields isIn same wordIn stepBytes readLines readText pinCount clearOf addPin readChip zipWith withinZ eachTwo product pairsZ legalZ greatest smallest span netsLengthZ keepsAllZ keepsLettersZ upFrom flatMap placements tryAll firstLeast chipRecord
@@ -26,3 +27,7 @@ marked-records = (refl, (refl, (refl, (refl, (refl, (refl, tt))))))
 pub marked-fits : Every (λ (c : FitCase). fitText (text (c .chip)) (bytes (c .letters)) 22 4 ≡ c .answer) markedFits
 unfolding bytes text firstFailed allOf valueFrom plain numeralOf lines upTo from strip fields isIn same wordIn stepBytes readLines readText pinCount clearOf addPin readChip zipWith withinZ eachTwo product pairsZ legalZ greatest smallest span netsLengthZ keepsAllZ keepsLettersZ upFrom flatMap placements tryAll firstLeast chipRecord
 marked-fits = (refl, (refl, (refl, (refl, (refl, (refl, (refl, (refl, tt))))))))
+
+pub marked-quotes : Every (λ (c : QuoteCase). quoteText (text (c .chip)) (blank (c .room)) ≡ c .left) markedQuotes
+unfolding bytes text digitsIn digits fieldsText itemText itemsText atItems recordItems recordText allOf valueFrom plain numeralOf lines upTo from strip fields isIn same wordIn stepBytes readLines readText pinCount clearOf addPin readChip zipWith withinZ eachTwo product pairsZ legalZ greatest smallest span netsLengthZ keepsAllZ keepsLettersZ upFrom flatMap placements tryAll firstLeast chipRecord
+marked-quotes = (refl, (refl, (refl, (refl, (refl, (refl, (refl, (refl, tt))))))))

@@ -1,10 +1,12 @@
--- The marked cases of document 01, and those of Card 12 in document 02, from bytes to bytes: what is printed for a chip's text, and the fit of a
--- letter string.
+-- The marked cases of document 01, and those of Cards 11 and 12 in document 02, from bytes to bytes: what is printed for a chip's text, the fit of a
+-- letter string, and what the quoting page says and writes.
 use Prim.Native.Nat.{ℕ}
 use Prim.Native.Char.{code}
 use Prim.Native.String.{String, [] as empty, _∷_ as _▹_}
 use mathlib.Core.List.{List, [], _∷_, _++_}
+use lib.ListN.{replicate}
 use Rattle.text_grammar.specs.Line.{lineFeed}
+use Rattle.text_grammar.specs.Writing.{Written, wrote, refuse}
 use Rattle.fit_slots.specs.Fit.{Fit, refusedBy, noFit, placed}
 
 -- the bytes of ASCII characters
@@ -27,6 +29,16 @@ pub record FitCase : Type 0 where
   pub chip : List String
   pub letters : String
   pub answer : Fit
+
+-- a chip, how many bytes are lent for its record, and what the quoting page answers and leaves there
+pub record QuoteCase : Type 0 where
+  pub chip : List String
+  pub room : ℕ
+  pub left : Written
+
+-- what n lent bytes hold before
+abbrev pub blank : ℕ → List ℕ
+blank n = replicate n 35
 
 abbrev pub example : List String
 example = "die,w,5,h,3" ∷ "fix,x,2,y,0,w,1,h,2" ∷ "mac,w,2,h,2" ∷ "mac,w,2,h,1" ∷ "net,w,3" ∷ "pin,m,1,x,0,y,0" ∷ "pin,m,2,x,0,y,0" ∷ "end" ∷ []
@@ -51,4 +63,34 @@ markedFits =
     record { chip = example; letters = ""; answer = placed 0 22 (record { x = 0; y = 0 } ∷ record { x = 0; y = 0 } ∷ []) } ∷
     record { chip = example; letters = ".."; answer = refusedBy 11 0 } ∷
     record { chip = example; letters = "...."; answer = refusedBy 11 0 } ∷
+    []
+
+-- chips a macro, a fix and a pin beyond the page's limits, and one at all of them, whose macros are wider than the die
+abbrev pub fiveMacros : List String
+fiveMacros = "die,w,5,h,1" ∷ "mac,w,1,h,1" ∷ "mac,w,1,h,1" ∷ "mac,w,1,h,1" ∷ "mac,w,1,h,1" ∷ "mac,w,1,h,1" ∷ []
+
+abbrev pub threeFixes : List String
+threeFixes = "die,w,3,h,1" ∷ "fix,x,0,y,0,w,1,h,1" ∷ "fix,x,1,y,0,w,1,h,1" ∷ "fix,x,2,y,0,w,1,h,1" ∷ "end" ∷ []
+
+abbrev pub pads : ℕ → List String
+pads n = replicate n "pin,m,0,x,0,y,0"
+
+abbrev pub seventeenPins : List String
+seventeenPins = "die,w,1,h,1" ∷ "net,w,1" ∷ pads 9 ++ ("net,w,1" ∷ pads 8 ++ ("end" ∷ []))
+
+abbrev pub atLimits : List String
+atLimits =
+    "die,w,2,h,1" ∷ "fix,x,0,y,0,w,1,h,1" ∷ "fix,x,1,y,0,w,1,h,1" ∷ "mac,w,3,h,1" ∷ "mac,w,3,h,1" ∷ "mac,w,3,h,1" ∷ "mac,w,3,h,1" ∷ "net,w,1" ∷
+    pads 9 ++ ("net,w,1" ∷ pads 7 ++ ("end" ∷ []))
+
+abbrev pub markedQuotes : List QuoteCase
+markedQuotes =
+    record { chip = example; room = 50; left = record { answer = wrote 46; buffer = text ("least,wl,3" ∷ "at,m,1,x,0,y,1" ∷ "at,m,2,x,0,y,0" ∷ "done" ∷ []) ++ blank 4 } } ∷
+    record { chip = example; room = 45; left = refuse 15 0 (blank 45) } ∷
+    record { chip = fiveMacros ++ ("end" ∷ []); room = 50; left = refuse 22 0 (blank 50) } ∷
+    record { chip = fiveMacros ++ ("end" ∷ []); room = 0; left = refuse 22 0 [] } ∷
+    record { chip = fiveMacros; room = 50; left = refuse 5 7 (blank 50) } ∷
+    record { chip = threeFixes; room = 50; left = refuse 22 0 (blank 50) } ∷
+    record { chip = seventeenPins; room = 50; left = refuse 22 0 (blank 50) } ∷
+    record { chip = atLimits; room = 10; left = record { answer = wrote 10; buffer = text ("none" ∷ "done" ∷ []) } } ∷
     []

@@ -1,10 +1,12 @@
-// Blocks of small chips: the search's record, or the fit of the empty string, and what is found by trying every position, compared.
+// Blocks of small chips: the search's record, the fit of the empty string, or the quoting page's record, and what is found by trying every position, compared.
+use crate::count::pin_count;
 use crate::every::Found;
 use crate::every::first;
 use crate::every::nothing;
 use crate::every::try_every;
 use crate::fields::number_at;
 use crate::report::FILL;
+use crate::report::untouched;
 use crate::rule::Block;
 use crate::rule::chip_of;
 use crate::written::put_record;
@@ -13,25 +15,96 @@ use fit::FitOutcome;
 use model::Chip;
 use model::WriteAnswer;
 
+// What is asked of each chip: its record, the fit of the empty string, or its record from the quoting page.
+pub(crate) enum Asked {
+    Record,
+    Undecided,
+    Quote,
+}
+
 // What a block of chips came to; `differs` is one more than the first case that differs.
 struct Tally {
     compared: u64,
     none: u64,
     several: u64,
+    beyond: u64,
     differs: u64,
 }
 
-// Whether the search's record is the one given, in a buffer of the same length.
-fn search_gives(c: Chip, expected: &[u8; 256], length: usize) -> bool {
-    let mut out = [FILL; 256];
-    let answer = search::service::search_chip(c, &mut out);
+// Whether the record given was written, into a buffer of the same length.
+fn is_written(answer: WriteAnswer, out: &[u8; 256], expected: &[u8; 256], length: usize) -> bool {
     match answer {
         WriteAnswer::Refused(_) => false,
         WriteAnswer::Text(n) => {
             if n != length {
                 return false;
             }
-            check::same(&out, expected)
+            check::same(out, expected)
+        }
+    }
+}
+
+fn search_gives(c: Chip, expected: &[u8; 256], length: usize) -> bool {
+    let mut out = [FILL; 256];
+    let answer = search::service::search_chip(c, &mut out);
+    is_written(answer, &out, expected, length)
+}
+
+// The page's answer to the first n bytes of a text.
+fn quote_first(text: &[u8], n: usize, out: &mut [u8]) -> WriteAnswer {
+    if text.len() < n {
+        return WriteAnswer::Text(0);
+    }
+    quote::quote_text(&text[0..n], out)
+}
+
+// The page's answer to a chip's text.
+fn quoted(c: Chip, out: &mut [u8]) -> WriteAnswer {
+    let mut text = [FILL; 4096];
+    let written = chip_write::write_chip(c, &mut text);
+    match written {
+        WriteAnswer::Refused(f) => WriteAnswer::Refused(f),
+        WriteAnswer::Text(n) => quote_first(&text, n, out),
+    }
+}
+
+fn quote_gives(c: Chip, expected: &[u8; 256], length: usize) -> bool {
+    let mut out = [FILL; 256];
+    let answer = quoted(c, &mut out);
+    is_written(answer, &out, expected, length)
+}
+
+// Whether the page refuses a chip by 22, line 0, and writes nothing.
+fn quote_refuses(c: Chip) -> bool {
+    let mut out = [FILL; 256];
+    let answer = quoted(c, &mut out);
+    match answer {
+        WriteAnswer::Text(_) => false,
+        WriteAnswer::Refused(f) => {
+            if f.no != 22 {
+                return false;
+            }
+            if f.line != 0 {
+                return false;
+            }
+            untouched(&out, 0)
+        }
+    }
+}
+
+// More than 4 macros, 2 fixes or 16 pins, where the page is asked.
+fn is_beyond(c: Chip, asked: Asked) -> bool {
+    match asked {
+        Asked::Record => false,
+        Asked::Undecided => false,
+        Asked::Quote => {
+            if 4 < c.n {
+                return true;
+            }
+            if 2 < c.k {
+                return true;
+            }
+            16 < pin_count(c)
         }
     }
 }
@@ -67,16 +140,25 @@ fn fit_gives(c: Chip, expected: &[u8; 256], length: usize) -> bool {
 }
 
 // All positions were tried, and the answers are the same.
-fn agrees(c: Chip, undecided: bool, found: Found) -> bool {
+fn agrees(c: Chip, asked: Asked, found: Found) -> bool {
     let mut expected = [FILL; 256];
     let length = put_record(&mut expected, found, c.n);
     if !found.whole {
         return false;
     }
-    if undecided {
-        return fit_gives(c, &expected, length);
+    match asked {
+        Asked::Record => search_gives(c, &expected, length),
+        Asked::Undecided => fit_gives(c, &expected, length),
+        Asked::Quote => quote_gives(c, &expected, length),
     }
-    search_gives(c, &expected, length)
+}
+
+fn is_undecided(asked: Asked) -> bool {
+    match asked {
+        Asked::Record => false,
+        Asked::Undecided => true,
+        Asked::Quote => false,
+    }
 }
 
 // No count comes near the limit.
@@ -87,36 +169,57 @@ fn more(a: u64) -> u64 {
     a
 }
 
-fn with_case(t: Tally, case: u64, b: Block, undecided: bool) -> Tally {
-    let c = chip_of(case, b);
-    let found = try_every(c, undecided);
+// With one case more that agrees or not.
+fn compared(t: Tally, case: u64, agrees: bool) -> Tally {
     let mut t = t;
     t.compared = more(t.compared);
-    if !found.any {
-        t.none = more(t.none);
-    }
-    if 1 < found.count {
-        t.several = more(t.several);
-    }
     if t.differs == 0 {
-        if !agrees(c, undecided, found) {
+        if !agrees {
             t.differs = more(case);
         }
     }
     t
 }
 
+// A chip beyond the page's limits: no position is tried.
+fn with_beyond(t: Tally, case: u64, c: Chip) -> Tally {
+    let mut t = compared(t, case, quote_refuses(c));
+    t.beyond = more(t.beyond);
+    t
+}
+
+fn with_found(t: Tally, case: u64, c: Chip, asked: Asked) -> Tally {
+    let found = try_every(c, is_undecided(asked));
+    let mut t = compared(t, case, agrees(c, asked, found));
+    if !found.any {
+        t.none = more(t.none);
+    }
+    if 1 < found.count {
+        t.several = more(t.several);
+    }
+    t
+}
+
+fn with_case(t: Tally, case: u64, b: Block, asked: Asked) -> Tally {
+    let c = chip_of(case, b);
+    if is_beyond(c, asked) {
+        return with_beyond(t, case, c);
+    }
+    with_found(t, case, c, asked)
+}
+
 // The cases from `from` up to `to`.
-fn compare(b: Block, from: u64, to: u64, undecided: bool) -> Tally {
+fn compare(b: Block, from: u64, to: u64, asked: Asked) -> Tally {
     let mut t = Tally {
         compared: 0,
         none: 0,
         several: 0,
+        beyond: 0,
         differs: 0,
     };
     let mut case = from;
     while case < to {
-        t = with_case(t, case, b, undecided);
+        t = with_case(t, case, b, asked);
         case += 1;
     }
     t
@@ -129,6 +232,10 @@ fn print_tally(t: Tally) {
     io::write_all(1, b" none, ");
     io::print_decimal(1, t.several);
     io::write_all(1, b" with several least, ");
+    if 0 < t.beyond {
+        io::print_decimal(1, t.beyond);
+        io::write_all(1, b" beyond the page, ");
+    }
     if t.differs == 0 {
         io::write_all(1, b"same\n");
     } else {
@@ -138,8 +245,8 @@ fn print_tally(t: Tally) {
     }
 }
 
-// every NAME N K T W H SIDE FROM TO, undecided the same
-pub(crate) fn every(s: &[u8], undecided: bool) {
+// every NAME N K T W H SIDE FROM TO; undecided and quoted the same
+pub(crate) fn every(s: &[u8], asked: Asked) {
     let b = Block {
         n: number_at(s, 2) as usize,
         k: number_at(s, 3) as usize,
@@ -148,5 +255,5 @@ pub(crate) fn every(s: &[u8], undecided: bool) {
         die_h: number_at(s, 6),
         side: number_at(s, 7),
     };
-    print_tally(compare(b, number_at(s, 8), number_at(s, 9), undecided));
+    print_tally(compare(b, number_at(s, 8), number_at(s, 9), asked));
 }

@@ -382,7 +382,7 @@ fn more_pins(q: usize, net: Net) -> usize
 }
 
 // The pins of all nets.
-fn pin_count(c: Chip) -> usize
+pub(crate) fn pin_count(c: Chip) -> usize
     ensures { λ r. ⌜ r ≤ 128 ⌝ }
 {
     let nets = c.nets;

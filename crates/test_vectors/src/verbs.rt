@@ -1,5 +1,6 @@
 // The lines of standard input, each by its verb.
 use crate::blocks;
+use crate::blocks::Asked;
 use crate::chips;
 use crate::fields::index_of;
 use crate::fields::is_at;
@@ -125,7 +126,11 @@ fn about_records(s: &[u8], text: &[u8], c: Chip) {
         return;
     }
     if is_at(s, 0, b"place") {
-        searching::place(s, text);
+        searching::place(s, text, false);
+        return;
+    }
+    if is_at(s, 0, b"quote") {
+        searching::place(s, text, true);
         return;
     }
     if is_at(s, 0, b"search") {
@@ -133,11 +138,15 @@ fn about_records(s: &[u8], text: &[u8], c: Chip) {
         return;
     }
     if is_at(s, 0, b"every") {
-        blocks::every(s, false);
+        blocks::every(s, Asked::Record);
         return;
     }
     if is_at(s, 0, b"undecided") {
-        blocks::every(s, true);
+        blocks::every(s, Asked::Undecided);
+        return;
+    }
+    if is_at(s, 0, b"quoted") {
+        blocks::every(s, Asked::Quote);
         return;
     }
     io::write_all(1, b"unknown verb\n");

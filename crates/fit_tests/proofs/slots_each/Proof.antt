@@ -12,8 +12,8 @@ letter-count-requires c κs = search needs
 add-result : tie.Need-add-result
 add-result c = search letters-fit
 
-pin-total-requires : tie.Need-pin-total-requires
-pin-total-requires c κs = search needs
+pins-before-requires : tie.Need-pins-before-requires
+pins-before-requires c κs = search needs
 
 mul-result-2 : tie.Need-mul-result-2
 mul-result-2 c = search needs
@@ -31,7 +31,7 @@ slots-each-spec =
     mul-result
     letter-count-requires
     add-result
-    pin-total-requires
+    pins-before-requires
     mul-result-2
     add-result-2
     returns)

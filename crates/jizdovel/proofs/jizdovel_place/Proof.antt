@@ -1,4 +1,4 @@
-use Rattle.jizdovel.proofs.Handing.{place-handed, place-left}
+use Rattle.jizdovel.proofs.Handing.{text-handed, text-left}
 use borrow.Author.Needs.{needs}
 use Rattle.jizdovel.proofs.jizdovel_place.Statement.{statement}
 use Rattle.jizdovel.proofs.jizdovel_place.Tie as tie
@@ -13,7 +13,7 @@ same-length : tie.Need-same-length
 same-length c = search needs
 
 returns : tie.Need-returns
-returns c = (search (needs, place-handed), search (needs, place-left))
+returns c = (search (needs, text-handed), search (needs, text-left))
 
 pub jizdovel-place-spec : {M : Type 1} → statement M
 jizdovel-place-spec =

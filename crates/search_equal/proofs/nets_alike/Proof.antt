@@ -4,8 +4,8 @@ use borrow.Author.Needs.{needs}
 use Rattle.search_equal.proofs.nets_alike.Statement.{statement}
 use Rattle.search_equal.proofs.nets_alike.Tie as tie
 
-start-of-requires : tie.Need-start-of-requires
-start-of-requires c κs = search needs
+pins-before-requires : tie.Need-pins-before-requires
+pins-before-requires c κs = search needs
 
 returns : tie.Need-returns
 returns c = search no-says
@@ -21,4 +21,4 @@ returns-2 c = search nets-mated
 
 pub nets-alike-spec : {M : Type 1} → statement M
 nets-alike-spec =
-    tie.close (tie.spec start-of-requires returns mates-of-requires mated-requires returns-2)
+    tie.close (tie.spec pins-before-requires returns mates-of-requires mated-requires returns-2)

@@ -22,11 +22,11 @@ same-weight-requires c κs = search needs
 returns : tie.Need-returns
 returns c = search no-says
 
-start-of-requires : tie.Need-start-of-requires
-start-of-requires c κs = search needs
+pins-before-requires : tie.Need-pins-before-requires
+pins-before-requires c κs = search needs
 
-start-of-requires-2 : tie.Need-start-of-requires-2
-start-of-requires-2 c κs = search needs
+pins-before-requires-2 : tie.Need-pins-before-requires-2
+pins-before-requires-2 c κs = search needs
 
 add-covers : tie.Need-add-covers
 add-covers c = search end-fits
@@ -50,8 +50,8 @@ turns-spec =
     array-copy-out-two
     same-weight-requires
     returns
-    start-of-requires
-    start-of-requires-2
+    pins-before-requires
+    pins-before-requires-2
     add-covers
     add-covers-2
     covers-requires

@@ -4,10 +4,10 @@ use Rattle.test_vectors.proofs.blocks.compare.Statement.{statement}
 use Rattle.test_vectors.proofs.blocks.compare.Tie as tie
 
 abbrev Inv-loop : tie.InvT-loop
-Inv-loop b from to undecided t₀ case₀ t case = 0 ≤ case
+Inv-loop b from to asked t₀ case₀ t case = 0 ≤ case
 
 abbrev μ-loop : tie.MeasureT-loop
-μ-loop b from to undecided t₀ case₀ t case = to - case
+μ-loop b from to asked t₀ case₀ t case = to - case
 
 loop-holds : tie.Need-loop-holds Inv-loop μ-loop
 loop-holds c = search needs
