@@ -5,7 +5,10 @@ ghost use mathlib.Core.Path.{_≡_};
 ghost use Prim.Native.Nat.{min};
 ghost use Rattle.chip_text.specs.Valid.{pinsBefore};
 
-// How many pins the first j nets have, of any nets; 129 for all that are more than a chip holds.
+// One more than a chip holds.
+const MORE: usize = Pin::COUNT + 1;
+
+// How many pins the first j nets have, of any nets; one more than a chip holds for all that are more.
 pub fn pins_before(nets: [Net; Net::COUNT], j: usize) -> usize
     ensures { λ r. ⌜ r ≡ min 129 (pinsBefore j nets) ⌝ }
 {
@@ -17,12 +20,12 @@ pub fn pins_before(nets: [Net; Net::COUNT], j: usize) -> usize
         }
         let net = nets[k];
         if Pin::COUNT < net.pins {
-            return 129;
+            return MORE;
         }
         q += net.pins;
         k += 1;
         if Pin::COUNT < q {
-            return 129;
+            return MORE;
         }
     }
     q

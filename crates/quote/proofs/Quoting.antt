@@ -18,13 +18,11 @@ use Rattle.quote.specs.Quote.{quoteText}
 
 module _ (text out : List ℕ) (read : ChipRead) (e : meantChip read ≡ readChip text) (a : ChipAnswer) (p : meant a (read .chip) ≡ pageRead (meantChip read)) where
   -- the page's answer is the one for the text
-  page : meant a (read .chip) ≡ pageRead (readChip text)
-  page = p ∙ ap pageRead e
+  told : (x : ChipAnswer) → a ≡ x → meant x (read .chip) ≡ pageRead (readChip text)
+  told x q = ap (λ (t : ChipAnswer). meant t (read .chip)) (sym q) ∙ (p ∙ ap pageRead e)
 
   pub quote-refused : (f : Refusal) → a ≡ answer.Refused f → refuse (f .no) (f .line) out ≡ quoteText text out
-  quote-refused f q = ap (λ (r : Reading Chip). placeRead r out) (ap (λ (t : ChipAnswer). meant t (read .chip)) (sym q) ∙ page)
+  quote-refused f q = ap (λ (r : Reading Chip). placeRead r out) (told (answer.Refused f) q)
 
   pub quote-placed : a ≡ answer.Accepted → (w : Written) → w ≡ placeText text out → w ≡ quoteText text out
-  quote-placed q w o =
-      let k = sym page ∙ ap (λ (t : ChipAnswer). meant t (read .chip)) q in
-      o ∙ ap (λ (r : Reading Chip). placeRead r out) (sym (page-accepts (readChip text) (chipOf (read .chip)) k))
+  quote-placed q w o = o ∙ ap (λ (r : Reading Chip). placeRead r out) (sym (page-accepts (readChip text) (chipOf (read .chip)) (sym (told answer.Accepted q))))
