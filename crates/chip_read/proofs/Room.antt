@@ -1,24 +1,22 @@
 -- The counts of what is held against those of the chip that it means.
-use mathlib.Core.Path.{_≡_, refl, _∙_}
-use mathlib.Core.List.{List, [], _∷_}
+use mathlib.Core.Path.{_≡_, _∙_}
+use mathlib.Core.List.{List}
 use Prim.Native.Nat.{ℕ, _≤_}
 use native.Mathlib.Omega.{arith}
-use lib.ListN.{length, drop, length-drop}
+use lib.ListN.{length}
 use Rattle.model.specs.declared.Net.{Net}
 use Rattle.model.specs.declared.Pin.{Pin}
-use Rattle.model.specs.Meaning.{chipOf, netsOf, firstOf, blankFix, blankMac, blankNet, blankPin}
+use Rattle.model.specs.Meaning.{chipOf, netsOf, firstOf, blankFix, blankMac, blankNet}
 use Rattle.model.specs.Counted.{taken, Holds}
 use Rattle.model.proofs.FirstOf.{length-first}
-use Rattle.model.proofs.Nets.{length-nets, length-pins}
+use Rattle.model.proofs.Nets.{length-nets}
 use Rattle.chip_text.specs.Kind.{countsOf, pinCount}
+use Rattle.chip_text.proofs.HeldNets.{pins-mean}
 use Rattle.chip_read.specs.declared.State.{State}
 use Rattle.chip_read.specs.State.{Sound}
 
 pin-count : (ts : List Net) (ps : List Pin) → taken ts ≤ length ps → pinCount (netsOf ts ps) ≡ taken ts
-unfolding taken netsOf pinCount
-pin-count [] ps h = refl
-pin-count (t ∷ ts) ps h =
-    rw (length-pins (firstOf blankPin (t .pins) ps), length-first blankPin (t .pins) ps (omega arith), pin-count ts (drop (t .pins) ps) (rw length-drop (omega arith)))
+pin-count ts ps h = let q = pins-mean ts ps in omega arith
 
 count : {A : Type 0} (z : A) {most n : ℕ} {items : List A} → Holds z most n items → length (firstOf z n items) ≡ n
 count z {most = most} {n = n} {items = items} h = length-first z n items (omega (arith, h .few, h .long))

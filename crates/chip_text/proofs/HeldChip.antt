@@ -20,7 +20,7 @@ use Rattle.text_grammar.specs.Reading.{accepted}
 use Rattle.chip_text.specs.Text.{readChip, chipText}
 use Rattle.chip_text.specs.Valid.{ValidPin, ValidNet, Valid, noNet, pinsBefore, HeldValidNet, HeldValidPin, HeldValid}
 use Rattle.chip_text.proofs.Accepted.{accepted-valid}
-use Rattle.chip_text.proofs.HeldNets.{getD-pins, before-first, pins-within}
+use Rattle.chip_text.proofs.HeldNets.{getD-pins, before-first, pins-mean, taken-first}
 use Rattle.chip_text.proofs.HeldMeaning.{fix-held, mac-held, weight-held, net-held}
 
 place-fine : (v : ℕ) → isWithin pinPlace (subℕ v 4096) ≡ true → v ≤ 8192
@@ -83,7 +83,7 @@ module _ (c : HeldChip) (f : length (c .fixes) ≡ 8) (m : length (c .macs) ≡ 
 
     pins-fit : pinsBefore (c .t) (c .nets) ≤ length (c .pins)
     unfolding chipOf
-    pins-fit = rw pins-same at (pins-within (firstOf blankNet (c .t) (c .nets)) (c .pins) (rw p (v .pins)))
+    pins-fit = let q = v .pins in let n = pins-mean (firstOf blankNet (c .t) (c .nets)) (c .pins) in let b = taken-first (c .t) (c .nets) in omega arith
 
     net-valid : (j : ℕ) → j < c .t → ValidNet (c .n) (getD (chipOf c .nets) j noNet)
     unfolding chipOf

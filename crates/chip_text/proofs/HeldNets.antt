@@ -1,16 +1,17 @@
 -- Nets that take their pins from one list: what stands where.
-use Prim.Native.Nat.{ℕ, zero, suc, _+_, _≤_, _<_}
+use Prim.Native.Nat.{ℕ, zero, suc, _+_, _≤_, _<_, min}
 use native.Mathlib.Nat.{le-of-suc-le-suc}
 use native.Mathlib.Numerals.{add-one}
 use native.Mathlib.Omega.{arith}
-use mathlib.Core.Path.{_≡_, refl, _∙_}
+use mathlib.Core.Path.{_≡_, refl, ap, _∙_}
 use mathlib.Core.List.{List, [], _∷_}
 use lib.ListN.{length, getD, drop, length-drop}
 use lib.Seq.{drop-drop}
 use Rattle.model.specs.declared.Net.{Net as HeldNet}
 use Rattle.model.specs.declared.Pin.{Pin as HeldPin}
 use Rattle.model.specs.Meaning.{firstOf, blankNet, blankPin, pinOf, pinsOf, netsOf}
-use Rattle.model.proofs.FirstOf.{length-first, first-within}
+use Rattle.model.specs.Counted.{taken}
+use Rattle.model.proofs.FirstOf.{first-length}
 use Rattle.model.proofs.Nets.{length-pins}
 use Rattle.chip_text.specs.Kind.{pinCount}
 use Rattle.chip_text.specs.Valid.{noPin, noNet, pinsBefore}
@@ -53,6 +54,12 @@ before-first (suc j) zero ts h = absurd (omega arith)
 before-first (suc j) (suc n) [] h = let q = before-none j in omega arith
 before-first (suc j) (suc n) (t ∷ ts) h = rw (before-first j n ts (le-of-suc-le-suc h))
 
+pub taken-first : (n : ℕ) (ts : List HeldNet) → taken (firstOf blankNet n ts) ≡ pinsBefore n ts
+unfolding taken pinsBefore firstOf
+taken-first zero ts = refl
+taken-first (suc n) [] = refl
+taken-first (suc n) (t ∷ ts) = ap (λ (q : ℕ). t .pins + q) (taken-first n ts)
+
 -- ---- the nets
 
 pub getD-weight : (ts : List HeldNet) (ps : List HeldPin) (j : ℕ) → getD (netsOf ts ps) j noNet .weight ≡ getD ts j blankNet .weight
@@ -67,14 +74,13 @@ getD-net [] ps j = refl
 getD-net (t ∷ ts) ps zero = refl
 getD-net (t ∷ ts) ps (suc j) = getD-net ts (drop (t .pins) ps) j ∙ rw (drop-drop (pinsBefore j ts) (t .pins) ps)
 
--- nets with no more pins than the list has take them from the list
-pub pins-within : (ts : List HeldNet) (ps : List HeldPin) → pinCount (netsOf ts ps) ≤ length ps → pinsBefore (length ts) ts ≤ length ps
-unfolding netsOf pinCount pinsBefore
-pins-within [] ps h = omega arith
-pins-within (t ∷ ts) ps h =
-    let g : length (firstOf blankPin (t .pins) ps) + pinCount (netsOf ts (drop (t .pins) ps)) ≤ length ps = rw length-pins at h in
-    let k : t .pins ≤ length ps = first-within blankPin (t .pins) ps (omega arith) in
-    let e = length-first blankPin (t .pins) ps k in
+-- how many pins nets mean: as many as they count, up to one more than the list holds
+pub pins-mean : (ts : List HeldNet) (ps : List HeldPin) → min (suc (length ps)) (pinCount (netsOf ts ps)) ≡ min (suc (length ps)) (taken ts)
+unfolding netsOf pinCount taken
+pins-mean [] ps = refl
+pins-mean (t ∷ ts) ps =
+    let p = length-pins (firstOf blankPin (t .pins) ps) in
+    let f = first-length blankPin (t .pins) ps in
     let d = length-drop (t .pins) ps in
-    let i = pins-within ts (drop (t .pins) ps) (omega arith) in
+    let i = pins-mean ts (drop (t .pins) ps) in
     omega arith

@@ -1,9 +1,8 @@
 -- From the test of a chip to what it then keeps: in the form of the needs of the services that take a chip.
-use Prim.Native.Nat.{ℕ, _≤_}
-use mathlib.Core.Path.{_≡_, refl, sym, ap, _∙_}
-use mathlib.Core.List.{List, [], _∷_, map}
+use mathlib.Core.Path.{_≡_, sym, ap, _∙_}
+use mathlib.Core.List.{map}
 use native.Mathlib.Omega.{arith}
-use lib.ListN.{length, drop, length-map, length-drop}
+use lib.ListN.{length, length-map}
 use Rattle.model.specs.declared.Fix.{Fix}
 use Rattle.model.specs.declared.Mac.{Mac}
 use Rattle.model.specs.declared.Net.{Net as HeldNet}
@@ -11,29 +10,16 @@ use Rattle.model.specs.declared.Pin.{Pin as HeldPin}
 use Rattle.model.specs.declared.Chip.{Chip as HeldChip}
 use Rattle.model.specs.declared.Tested.{Tested}
 use Rattle.model.specs.declared.Tested.the-variants as tested
-use Rattle.model.specs.Meaning.{firstOf, blankNet, blankPin, netsOf, chipOf}
-use Rattle.model.proofs.FirstOf.{length-first}
-use Rattle.model.proofs.Nets.{length-pins}
+use Rattle.model.specs.Meaning.{firstOf, blankNet, chipOf}
 use Rattle.text_grammar.specs.Writing.{testedAs}
 use Rattle.chip_text.specs.Kind.{pinCount}
 use Rattle.chip_text.specs.Text.{readChip, chipText}
 use Rattle.chip_text.specs.Valid.{pinsBefore, HeldValid}
 use Rattle.chip_text.specs.Passed.{Accepted, Passed}
 use Rattle.chip_text.proofs.Accepted.{accepted-valid}
-use Rattle.chip_text.proofs.HeldNets.{before-first}
+use Rattle.chip_text.proofs.HeldNets.{pins-mean, taken-first}
 use Rattle.chip_text.proofs.HeldMeaning.{fixes-held, macs-held}
 use Rattle.chip_text.proofs.HeldChip.{tested-fine}
-
--- nets whose pins are in the list have as many as they say
-pins-all : (ts : List HeldNet) (ps : List HeldPin) → pinsBefore (length ts) ts ≤ length ps → pinCount (netsOf ts ps) ≡ pinsBefore (length ts) ts
-unfolding netsOf pinCount pinsBefore
-pins-all [] ps h = refl
-pins-all (t ∷ ts) ps h =
-    let p = length-pins (firstOf blankPin (t .pins) ps) in
-    let e = length-first blankPin (t .pins) ps (omega arith) in
-    let d = length-drop (t .pins) ps in
-    let i = pins-all ts (drop (t .pins) ps) (omega arith) in
-    omega arith
 
 -- a chip whose arrays are as long as its type says
 pub record Whole (c : HeldChip) : Type 0 where
@@ -51,14 +37,11 @@ module _ (c : HeldChip) (w : Whole c) where
   pins-held : HeldValid c → pinCount (chipOf c .nets) ≡ pinsBefore (c .t) (c .nets)
   unfolding chipOf
   pins-held v =
-      let F : List HeldNet = firstOf blankNet (c .t) (c .nets) in
-      let a = v .netCount in
       let b = v .pins in
-      let x = w .nets in
       let y = w .pins in
-      let n : length F ≡ c .t = length-first blankNet (c .t) (c .nets) (omega arith) in
-      let s : pinsBefore (length F) F ≡ pinsBefore (c .t) (c .nets) = ap (λ (k : ℕ). pinsBefore k F) n ∙ before-first (c .t) (c .t) (c .nets) (omega arith) in
-      pins-all F (c .pins) (omega arith) ∙ s
+      let m = pins-mean (firstOf blankNet (c .t) (c .nets)) (c .pins) in
+      let s = taken-first (c .t) (c .nets) in
+      omega arith
 
   pub passed-by : Accepted c → Passed c
   passed-by e =

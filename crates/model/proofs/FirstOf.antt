@@ -2,12 +2,12 @@
 use mathlib.Core.Path.{_≡_, refl, ap}
 use mathlib.Core.List.{List, [], _∷_, _++_}
 use Prim.Native.Nat.{ℕ, zero, suc, _+_, _≤_, _<_}
-use native.Mathlib.Decide.{decLe}
 use native.Mathlib.Nat.{le-of-suc-le-suc}
 use native.Mathlib.Numerals.{add-one}
 use native.Mathlib.Omega.{arith}
-use lib.ListN.{length, getD, take, set, length-append}
+use lib.ListN.{length, getD, take, set}
 use Rattle.model.specs.Meaning.{firstOf}
+use Rattle.model.specs.Counted.{itemCount}
 
 module _ {A : Type 0} (z : A) where
   pub first-take : (n : ℕ) (s : List A) → n ≤ length s → firstOf z n s ≡ take n s
@@ -16,11 +16,15 @@ module _ {A : Type 0} (z : A) where
   first-take (suc n) [] h = absurd (omega arith)
   first-take (suc n) (a ∷ s) h = ap (λ (t : List A). a ∷ t) (first-take n s (le-of-suc-le-suc h))
 
-  pub length-first : (n : ℕ) (s : List A) → n ≤ length s → length (firstOf z n s) ≡ n
+  -- how many items they are; a count within the list counts them
+  pub first-length : (n : ℕ) (s : List A) → length (firstOf z n s) ≡ itemCount n (length s)
   unfolding firstOf
-  length-first zero s h = refl
-  length-first (suc n) [] h = absurd (omega arith)
-  length-first (suc n) (a ∷ s) h = ap suc (length-first n s (le-of-suc-le-suc h))
+  first-length zero s = omega arith
+  first-length (suc n) [] = omega arith
+  first-length (suc n) (a ∷ s) = let q = first-length n s in omega arith
+
+  pub length-first : (n : ℕ) (s : List A) → n ≤ length s → length (firstOf z n s) ≡ n
+  length-first n s h = let q = first-length n s in omega arith
 
   -- one item more in front of the items that are kept
   pub first-suc : (n : ℕ) (s : List A) → n < length s → firstOf z (suc n) s ≡ firstOf z n s ++ (getD s n z ∷ [])
@@ -63,13 +67,7 @@ module _ {A : Type 0} (z : A) where
 
   -- a count past the items would make one item too many
   pub first-within : (n : ℕ) (s : List A) → length (firstOf z n s) ≤ length s → n ≤ length s
-  first-within n s h = by (decLe n (length s))
-    where
-      by : Dec (n ≤ length s) → n ≤ length s
-      by (yes p) = p
-      by (no q) = let g : length s + 1 ≤ length s = rw (first-past n s (omega arith), length-append) at h in absurd (omega arith)
+  first-within n s h = let q = first-length n s in omega arith
 
   pub first-some : (n : ℕ) (s : List A) → 0 < length (firstOf z n s) → 0 < n
-  unfolding firstOf
-  first-some zero s h = h
-  first-some (suc n) s h = omega arith
+  first-some n s h = let q = first-length n s in omega arith

@@ -1,23 +1,20 @@
 -- A chip held as a value is within the page's limits exactly when its meaning is, for every value: counts that its arrays do not hold are beyond them.
-use Prim.Native.Nat.{ℕ, zero, suc, _≤_, _<_, min}
+use Prim.Native.Nat.{ℕ, _≤_, _<_, min}
 use native.Mathlib.Decide.{decLe}
 use native.Mathlib.Omega.{arith}
-use mathlib.Core.Path.{_≡_, refl, sym, _∙_}
+use mathlib.Core.Path.{_≡_, sym, _∙_}
 use mathlib.Core.Bool.{Bool, false}
-use mathlib.Core.List.{List, [], _∷_}
 use lib.Dec.{leb}
-use lib.ListN.{length, drop, length-drop}
+use lib.ListN.{length}
 use borrow.Author.Tests.{le-leb, lt-leb}
-use Rattle.model.specs.declared.Net.{Net as HeldNet}
-use Rattle.model.specs.declared.Pin.{Pin as HeldPin}
 use Rattle.model.specs.declared.Chip.{Chip as HeldChip}
-use Rattle.model.specs.Meaning.{firstOf, blankFix, blankMac, blankNet, blankPin, pinsOf, netsOf, chipOf}
-use Rattle.model.specs.Counted.{itemCount}
-use Rattle.model.proofs.Nets.{length-pins}
+use Rattle.model.specs.Meaning.{firstOf, blankFix, blankMac, blankNet, netsOf, chipOf}
+use Rattle.model.proofs.FirstOf.{first-length}
 use Rattle.chip_text.specs.declared.Counts.{Counts as HeldCounts}
 use Rattle.chip_text.specs.Kind.{pinCount, countsOf}
 use Rattle.chip_text.specs.Tests.{countsIn}
 use Rattle.chip_text.specs.Valid.{pinsBefore}
+use Rattle.chip_text.proofs.HeldNets.{pins-mean, taken-first}
 use Rattle.chip_text.proofs.Passing.{Whole}
 use Rattle.quote_page.specs.Page.{withinPage}
 
@@ -43,31 +40,13 @@ same-leb m a b l h e = by (decLe a l)
     by (yes p) = le-leb a l p ∙ sym (le-leb b l (omega arith))
     by (no p) = lt-leb a l (omega arith) ∙ sym (lt-leb b l (omega arith))
 
--- how many items a count and an array mean
-first-length : {A : Type 0} (z : A) (n : ℕ) (s : List A) → length (firstOf z n s) ≡ itemCount n (length s)
-unfolding firstOf
-first-length z zero s = omega arith
-first-length z (suc n) [] = omega arith
-first-length z (suc n) (a ∷ s) = let q = first-length z n s in omega arith
-
--- how many pins nets mean, up to one more than the list holds
-pins-mean : (j : ℕ) (ts : List HeldNet) (ps : List HeldPin) → min (suc (length ps)) (pinCount (netsOf (firstOf blankNet j ts) ps)) ≡ min (suc (length ps)) (pinsBefore j ts)
-unfolding firstOf pinsOf netsOf pinCount pinsBefore
-pins-mean zero ts ps = refl
-pins-mean (suc j) [] ps = refl
-pins-mean (suc j) (t ∷ ts) ps =
-    let p = length-pins (firstOf blankPin (t .pins) ps) in
-    let f = first-length blankPin (t .pins) ps in
-    let d = length-drop (t .pins) ps in
-    let i = pins-mean j ts (drop (t .pins) ps) in
-    omega arith
-
 pub page-held : (c : HeldChip) → Whole c → (q : ℕ) → q ≡ min 129 (pinsBefore (c .t) (c .nets)) → (r : Bool) → r ≡ withinPage (record { fixes = c .k; macs = c .n; nets = c .t; pins = q }) → r ≡ withinPage (countsOf (chipOf c))
 unfolding chipOf
 page-held c w q e r s =
     let f = first-length blankFix (c .k) (c .fixes) in
     let m = first-length blankMac (c .n) (c .macs) in
-    let p = pins-mean (c .t) (c .nets) (c .pins) in
+    let p = pins-mean (firstOf blankNet (c .t) (c .nets)) (c .pins) in
+    let b = taken-first (c .t) (c .nets) in
     let x = w .fixes in
     let y = w .macs in
     let z = w .pins in
