@@ -1,5 +1,5 @@
-/* The C interface in use: one chip, through every function of the library, and chips at the limits of
- * the quoting page. */
+/* The C interface in use: one chip, through every function of the library, chips at the limits of the
+ * quoting page, and records beside the chip. */
 #include <inttypes.h>
 #include <stdio.h>
 #include <string.h>
@@ -27,7 +27,28 @@ static void tell(const char *what, uint64_t number, uint64_t value)
         printf("%s: refused, number %" PRIu64 ", line %" PRIu64 "\n", what, number, value);
 }
 
-/* Chip text to record text, and the record checked. */
+/* A record beside the chip, and the text at fault where there is one. */
+static void check_beside(const char *what, const uint8_t *text, size_t length,
+                         const uint8_t *record, size_t record_length)
+{
+    uint64_t value, at_fault;
+    uint64_t number = jizdovel_check_beside(text, length, record, record_length, &value, &at_fault);
+
+    printf("%s, ", what);
+    if (at_fault == JIZDOVEL_CHIP)
+        tell("check beside, of the chip", number, value);
+    else if (at_fault == JIZDOVEL_RECORD)
+        tell("check beside, of the record", number, value);
+    else
+        tell("check beside", number, value);
+}
+
+static void check_text(const char *what, const char *record)
+{
+    check_beside(what, (const uint8_t *)chip, sizeof chip - 1, (const uint8_t *)record, strlen(record));
+}
+
+/* Chip text to record text, and the record checked, by itself and beside the chip. */
 static void place(const uint8_t *text, size_t length)
 {
     uint8_t record[JIZDOVEL_RECORD_BYTES];
@@ -38,8 +59,12 @@ static void place(const uint8_t *text, size_t length)
     if (number != JIZDOVEL_YES)
         return;
     fwrite(record, 1, value, stdout);
-    number = jizdovel_check_record(record, value, &value);
+    const size_t record_length = value;
+    number = jizdovel_check_record(record, record_length, &value);
     tell("check record", number, value);
+    check_beside("its record", text, length, record, record_length);
+    check_beside("its record and half the chip", text, length / 2, record, record_length);
+    check_beside("half its record", text, length, record, record_length / 2);
 }
 
 /* The page's answer: the chip, and the record where there is one. */
@@ -109,6 +134,11 @@ int main(void)
     number = jizdovel_check_chip(text, 12, &value);
     tell("check its first line", number, value);
     place(text, length);
+    check_text("none", "none\ndone\n");
+    check_text("a longer placement", "least,wl,6\nat,m,1,x,0,y,0\nat,m,2,x,0,y,2\ndone\n");
+    check_text("a macro less", "least,wl,0\nat,m,1,x,0,y,1\ndone\n");
+    check_text("both at 0,0", "least,wl,0\nat,m,1,x,0,y,0\nat,m,2,x,0,y,0\ndone\n");
+    check_text("another wl", "least,wl,4\nat,m,1,x,0,y,1\nat,m,2,x,0,y,0\ndone\n");
     quote("the same chip", chip);
     quote_row(JIZDOVEL_PAGE_FIXES, JIZDOVEL_PAGE_MACROS, JIZDOVEL_PAGE_PINS);
     quote_row(JIZDOVEL_PAGE_FIXES, JIZDOVEL_PAGE_MACROS + 1, JIZDOVEL_PAGE_PINS);

@@ -1,7 +1,8 @@
-// The library from Rust: one chip, through every function, and chips at the limits of the quoting page; it prints what example.c prints.
+// The library from Rust: one chip, through every function, chips at the limits of the quoting page, and records beside the chip; it prints what
+// example.c prints.
 mod jizdovel;
 
-use jizdovel::{Answer, PAGE_FIXES, PAGE_MACROS, PAGE_PINS};
+use jizdovel::{Answer, AtFault, PAGE_FIXES, PAGE_MACROS, PAGE_PINS};
 
 const CHIP: &str = "die,w,5,h,3
 fix,x,2,y,0,w,1,h,2
@@ -21,7 +22,21 @@ fn tell(what: &str, answer: Answer) {
     }
 }
 
-// Chip text to record text, and the record checked.
+// A record beside the chip, and the text at fault where there is one.
+fn check_beside(what: &str, chip: &[u8], record: &[u8]) {
+    let (answer, at_fault) = jizdovel::check_beside(chip, record);
+    print!("{what}, ");
+    tell(
+        match at_fault {
+            AtFault::Chip => "check beside, of the chip",
+            AtFault::Record => "check beside, of the record",
+            AtFault::Neither => "check beside",
+        },
+        answer,
+    );
+}
+
+// Chip text to record text, and the record checked, by itself and beside the chip.
 fn place(text: &[u8]) {
     let mut record = [0; jizdovel::RECORD_BYTES];
     let answer = jizdovel::place(text, &mut record);
@@ -30,6 +45,9 @@ fn place(text: &[u8]) {
         let record = &record[..length as usize];
         print!("{}", String::from_utf8_lossy(record));
         tell("check record", jizdovel::check_record(record));
+        check_beside("its record", text, record);
+        check_beside("its record and half the chip", &text[..text.len() / 2], record);
+        check_beside("half its record", text, &record[..record.len() / 2]);
     }
 }
 
@@ -77,6 +95,11 @@ fn main() {
     tell("check chip", jizdovel::check_chip(text));
     tell("check its first line", jizdovel::check_chip(&text[..12]));
     place(text);
+    check_beside("none", text, b"none\ndone\n");
+    check_beside("a longer placement", text, b"least,wl,6\nat,m,1,x,0,y,0\nat,m,2,x,0,y,2\ndone\n");
+    check_beside("a macro less", text, b"least,wl,0\nat,m,1,x,0,y,1\ndone\n");
+    check_beside("both at 0,0", text, b"least,wl,0\nat,m,1,x,0,y,0\nat,m,2,x,0,y,0\ndone\n");
+    check_beside("another wl", text, b"least,wl,4\nat,m,1,x,0,y,1\nat,m,2,x,0,y,0\ndone\n");
     quote("the same chip", CHIP);
     quote_row(PAGE_FIXES, PAGE_MACROS, PAGE_PINS);
     quote_row(PAGE_FIXES, PAGE_MACROS + 1, PAGE_PINS);

@@ -5,8 +5,8 @@
  *
  * The answer is a number, and a value beside it that is written through `value`:
  *
- *   JIZDOVEL_YES  the text is accepted, the record is written, the positions are legal, or the
- *                 letters have a fit; `value` as each function says
+ *   JIZDOVEL_YES  the text is accepted, the record is written or passes beside its chip, the
+ *                 positions are legal, or the letters have a fit; `value` as each function says
  *   JIZDOVEL_NO   the positions are not legal, or the letters have no fit; `value` as each says
  *   1 .. 254      refused with that number of the refusal table; `value` is the line, 0 where the
  *                 refusal has no line
@@ -15,9 +15,9 @@
  *
  * Duties that no refusal can cover:
  *  - a pointer points to as many elements as its length says, aligned for its type, and is not
- *    null, even where the length is 0; `value` points to one number;
- *  - what a function may write (out, slots, positions of a fit, value) overlaps nothing else that
- *    is lent in the same call, and nobody else reads or writes it during the call;
+ *    null, even where the length is 0; `value` and `at_fault` point to one number each;
+ *  - what a function may write (out, slots, positions of a fit, value, at_fault) overlaps nothing
+ *    else that is lent in the same call, and nobody else reads or writes it during the call;
  *  - the stack has room: 2 megabytes are enough, as measured (docs/DECISIONS.md, 54); a thread with
  *    1 megabyte is too small for a chip whose search goes 92 letters deep.
  * The functions keep no state: calls from several threads with different lists do not disturb each
@@ -66,6 +66,19 @@ uint64_t jizdovel_check_chip(const uint8_t *text, size_t text_length, uint64_t *
 
 /* Checks a record text, by itself. YES: it is accepted, `value` is 0. */
 uint64_t jizdovel_check_record(const uint8_t *text, size_t text_length, uint64_t *value);
+
+/* Checks a record text beside its chip's text. YES: both are accepted, and the record is `none`, or
+ * has the chip's number of macros, a legal placement and its own wirelength; `value` is 0. Whether
+ * the placement is the least is not examined. Refusals: those of reading the chip, then those of
+ * reading the record, then with line 0 13 where the record has another number of macros, 16 where
+ * its placement is not legal, 17 where its wl is not the wirelength. `at_fault` says which text the
+ * line is one of: 1 the chip, 2 the record, 0 neither (YES, 13, 16, 17). */
+#define JIZDOVEL_NEITHER 0
+#define JIZDOVEL_CHIP 1
+#define JIZDOVEL_RECORD 2
+uint64_t jizdovel_check_beside(const uint8_t *chip, size_t chip_length,
+                               const uint8_t *record, size_t record_length,
+                               uint64_t *value, uint64_t *at_fault);
 
 /* Measures positions x1, y1, x2, y2 .. of the macros of a chip text. YES: legal; NO: not legal;
  * `value` is the wirelength in both cases. Refusals: those of reading a chip, then 13 where there

@@ -11,6 +11,14 @@ pub enum Answer {
     Refused { number: u64, line: u64 },
 }
 
+/// The text that a refusal is of: its line is one of that text; neither where both are accepted.
+#[derive(Clone, Copy, Debug, PartialEq, Eq)]
+pub enum AtFault {
+    Neither,
+    Chip,
+    Record,
+}
+
 /// The most that a chip can need: bytes of a record, slots of a fit, numbers of a position list.
 pub const RECORD_BYTES: usize = 256;
 pub const SLOTS: usize = 728;
@@ -23,12 +31,15 @@ pub const PAGE_PINS: usize = 16;
 
 const YES: u64 = 0;
 const NO: u64 = 255;
+const CHIP: u64 = 1;
+const RECORD: u64 = 2;
 
 extern "C" {
     fn jizdovel_place(text: *const u8, n: usize, out: *mut u8, m: usize, value: *mut u64) -> u64;
     fn jizdovel_quote(text: *const u8, n: usize, out: *mut u8, m: usize, value: *mut u64) -> u64;
     fn jizdovel_check_chip(text: *const u8, n: usize, value: *mut u64) -> u64;
     fn jizdovel_check_record(text: *const u8, n: usize, value: *mut u64) -> u64;
+    fn jizdovel_check_beside(chip: *const u8, n: usize, record: *const u8, m: usize, value: *mut u64, at_fault: *mut u64) -> u64;
     fn jizdovel_measure(text: *const u8, n: usize, positions: *const u64, m: usize, value: *mut u64) -> u64;
     fn jizdovel_fit(
         text: *const u8,
@@ -77,6 +88,19 @@ pub fn check_record(text: &[u8]) -> Answer {
     let mut value = 0;
     let number = unsafe { jizdovel_check_record(text.as_ptr(), text.len(), &mut value) };
     answer(number, value)
+}
+
+/// Whether a record text passes beside its chip's text, and the text at fault.
+pub fn check_beside(chip: &[u8], record: &[u8]) -> (Answer, AtFault) {
+    let (mut value, mut text) = (0, 0);
+    let number =
+        unsafe { jizdovel_check_beside(chip.as_ptr(), chip.len(), record.as_ptr(), record.len(), &mut value, &mut text) };
+    let at_fault = match text {
+        CHIP => AtFault::Chip,
+        RECORD => AtFault::Record,
+        _ => AtFault::Neither,
+    };
+    (answer(number, value), at_fault)
 }
 
 /// Positions x1, y1, x2, y2 .. of the macros of a chip text: yes where legal, else no, with the wirelength.

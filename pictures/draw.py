@@ -1,7 +1,7 @@
 #!/usr/bin/env python3
 """Draws a chip and its record: python3 pictures/draw.py CHIP RECORD > OUT.svg
 
-A viewer outside the promise: nothing proves it, and it does not check that the record is the chip's. The record is what counts.
+A viewer outside the promise: nothing proves it, and it does not check that a placement is the least. The record is what counts.
 """
 import itertools
 import math
@@ -10,7 +10,7 @@ from collections import Counter
 
 sys.dont_write_bytecode = True
 
-from texts import MOST, Refused, need, read_chip, read_record
+from texts import MOST, Refused, apart, need, read_chip, read_record
 
 WIDE, HIGH, EDGE, COLUMNS = 760, 600, 60, 6  # pixels of the drawing and its margin; columns of the list of nets
 PIN, LABEL = 7, 36  # pixels: half a pin; the least distance of two numbers of an axis
@@ -146,6 +146,15 @@ def nets_of(chip, corners):
     return nets
 
 
+def need_of_chip(w, h, fixes, boxes, nets, wl):
+    """The legality and the length of a record beside its chip (document 02, Card 1); draw() has tested the count."""
+    need(all(x + wide <= w and y + tall <= h for x, y, wide, tall in boxes), "a macro leaves the die")
+    need(all(apart(box, other) for k, box in enumerate(boxes) for other in boxes[:k] + fixes), "a macro overlaps another or a fix")
+    spans = ((weight, [[pin[axis] for pin in pins] for axis in (0, 1)]) for weight, pins in nets)
+    length = sum(weight * sum(max(places) - min(places) for places in axes) for weight, axes in spans)
+    need(length == wl, f"its wl is {wl}, and the wirelength is {length}")
+
+
 def draw(chip, record):
     (w, h), placed = chip[0][1], record[0][0] == "least"
     fixes, macros = ([values for word, values in chip if word == kind] for kind in ("fix", "mac"))
@@ -153,6 +162,8 @@ def draw(chip, record):
     need(len(corners) == len(macros), f"it places {len(corners)} macros, and the chip has {len(macros)}")
     nets = nets_of(chip, corners) if placed else []
     pins, boxes = [pin for _, pins in nets for pin in pins], [corner + size for corner, size in zip(corners, macros)]
+    if placed:
+        need_of_chip(w, h, fixes, boxes, nets, record[0][1][0])
     view = View(w, h, pins + corners + [(x + a, y + b) for x, y, a, b in boxes], max(w, h) if placed else math.inf)
     out = [view.box("die", 0, 0, w, h, "die"), *(view.box("fix", *fix, "fix") for fix in fixes)]
     out += [view.box("macro", *box, f"macro {k}, {box[2]} x {box[3]}") for k, box in enumerate(boxes, 1)]

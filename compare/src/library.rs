@@ -116,6 +116,14 @@ mod raw {
         ) -> u64;
         pub fn jizdovel_check_chip(text: *const u8, text_length: usize, value: *mut u64) -> u64;
         pub fn jizdovel_check_record(text: *const u8, text_length: usize, value: *mut u64) -> u64;
+        pub fn jizdovel_check_beside(
+            chip: *const u8,
+            chip_length: usize,
+            record: *const u8,
+            record_length: usize,
+            value: *mut u64,
+            at_fault: *mut u64,
+        ) -> u64;
         pub fn jizdovel_measure(
             text: *const u8,
             text_length: usize,
@@ -149,6 +157,20 @@ pub fn check_record(text: &[u8]) -> Answer {
     answer(text, |text, value| unsafe {
         raw::jizdovel_check_record(text.pointer(), text.length, value)
     })
+}
+
+/// The answer, and the text at fault.
+pub fn check_beside(chip: &[u8], record: &[u8]) -> (Answer, u64) {
+    let mut record = Lent::new(record, TEXT_GUARD);
+    let mut at_fault = Lent::new(&blank_numbers(1), NUMBER_GUARD);
+    // SAFETY: as above.
+    let mut answer = answer(chip, |chip, value| unsafe {
+        let (text, fault) = (record.pointer(), at_fault.pointer());
+        raw::jizdovel_check_beside(chip.pointer(), chip.length, text, record.length, value, fault)
+    });
+    answer.note(record.changed(), "the record");
+    answer.note(at_fault.changed_outside(), "memory beside the text at fault");
+    (answer, at_fault.list()[0])
 }
 
 pub fn measure(text: &[u8], positions: &[u64]) -> Answer {

@@ -2,6 +2,7 @@
 
 #![deny(unsafe_code)]
 
+mod besides;
 mod chips;
 mod counting;
 mod damage;
@@ -70,6 +71,7 @@ fn compare(random: &mut Random) -> Result<u64, String> {
         + finish(texts::chips(random, 40_000), &chip_answers)?
         + finish(texts::records(random, 40_000), &[YES, 1, 2, 3, 4, 5, 6, 8])?
         + finish(measures::measures(random, 10_000), &[YES, NO, 2, 13, 14])?
+        + finish(besides::records(random, 12_000), &[YES, 2, 3, 4, 5, 13, 16, 17])?
         + finish(fits::fits(random, 20_000), &[YES, NO, 2, 11, 12, 15])?
         + finish(fits::of_empty_string(random, 5_000), &[YES, NO, 2, 15])?
         + finish(placing::small(random, 4_000), &[YES, 15])?
@@ -115,6 +117,7 @@ fn in_one_thread(seed: u64) -> Result<Tally, Difference> {
     let mut tally = texts::chips(&mut random, 500)?;
     tally.add(texts::records(&mut random, 500)?);
     tally.add(measures::measures(&mut random, 500)?);
+    tally.add(besides::records(&mut random, 500)?);
     tally.add(fits::fits(&mut random, 500)?);
     tally.add(placing::small(&mut random, 100)?);
     tally.add(quoting::quotes(&mut random, 100)?);

@@ -1,6 +1,7 @@
 //! Document 01's own examples, with the answers typed from it: the marked cases and the refusal
 //! table. Both the library and the comparison's own functions are held to them.
 
+use crate::besides::{self, CHIP, NEITHER, RECORD};
 use crate::chips::Spot;
 use crate::fits::{self, Call};
 use crate::fitting::fit;
@@ -77,6 +78,19 @@ const BEYOND: [&str; 3] = [
      pin,m,0,x,0,y,0\npin,m,0,x,0,y,0\npin,m,0,x,0,y,0\nend\n",
 ];
 
+/// Records beside the example (document 02, Card 1): the record, the number, the line and the text
+/// at fault.
+const BESIDE: [(&str, u64, u64, u64); 8] = [
+    ("least,wl,3\nat,m,1,x,0,y,1\nat,m,2,x,0,y,0\ndone\n", YES, 0, NEITHER),
+    ("none\ndone\n", YES, 0, NEITHER),
+    ("least,wl,6\nat,m,1,x,0,y,0\nat,m,2,x,0,y,2\ndone\n", YES, 0, NEITHER),
+    ("least,wl,0\nat,m,1,x,0,y,1\ndone\n", 13, 0, NEITHER),
+    ("least,wl,0\nat,m,1,x,0,y,0\nat,m,2,x,0,y,0\ndone\n", 16, 0, NEITHER),
+    ("least,wl,6144\nat,m,1,x,1024,y,1024\nat,m,2,x,0,y,0\ndone\n", 16, 0, NEITHER),
+    ("least,wl,4\nat,m,1,x,0,y,1\nat,m,2,x,0,y,0\ndone\n", 17, 0, NEITHER),
+    ("least,wl,3\nat,m,1,x,0,y,1\nat,m,2,x,0,y,0\n", 5, 4, RECORD),
+];
+
 pub fn cases() -> Result<Tally, Difference> {
     let mut tally = Tally::new("examples of document 01", "yes", "no");
     for (text, record) in RECORDS {
@@ -91,6 +105,10 @@ pub fn cases() -> Result<Tally, Difference> {
         compare_refusal(text, number, line, &mut tally)?;
     }
     compare_late_refusals(&mut tally)?;
+    for (record, number, line, text) in BESIDE {
+        compare_beside(EXAMPLE, record, (Answer::new(number, line), text), &mut tally)?;
+    }
+    compare_beside("die,w,5\n", "x\n", (Answer::new(2, 1), CHIP), &mut tally)?;
     Ok(tally)
 }
 
@@ -117,7 +135,19 @@ fn compare_record(text: &str, record: &str, tally: &mut Tally) -> Result<(), Dif
     for service in [DESK, PAGE] {
         placing::compare(service, text.as_bytes(), 256, record.as_bytes(), answer.clone(), tally)?;
     }
-    texts::compare_record(record.as_bytes(), tally)
+    texts::compare_record(record.as_bytes(), tally)?;
+    compare_beside(text, record, (Answer::new(YES, 0), NEITHER), tally)
+}
+
+fn compare_beside(
+    chip: &str,
+    record: &str,
+    answer: (Answer, u64),
+    tally: &mut Tally,
+) -> Result<(), Difference> {
+    let own = besides::expected(chip.as_bytes(), record.as_bytes());
+    hold(record, format!("{own:?}"), format!("{answer:?}"))?;
+    besides::compare(chip.as_bytes(), record.as_bytes(), tally)
 }
 
 fn compare_fit(letters: &str, answer: Fit, tally: &mut Tally) -> Result<(), Difference> {

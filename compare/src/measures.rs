@@ -46,7 +46,7 @@ pub fn compare(text: &[u8], positions: &[u64], tally: &mut Tally) -> Result<(), 
 
 /// Positions of a placement that is legal where one was found, some of them moved a little; or
 /// the farthest positions.
-fn positions(random: &mut Random, chip: &Chip) -> Vec<u64> {
+pub fn positions(random: &mut Random, chip: &Chip) -> Vec<u64> {
     if random.chance(6) {
         return vec![1_024; 2 * chip.macros.len()];
     }

@@ -48,6 +48,11 @@ pub fn axis_length(chip: &Chip, axis: usize, corner: impl Fn(usize) -> i64) -> i
     length
 }
 
+/// The corners of the numbers x1, y1, x2, y2 ..
+pub fn spots(positions: &[u64]) -> Vec<Spot> {
+    positions.chunks(2).map(|spot| [spot[0] as i64, spot[1] as i64]).collect()
+}
+
 /// The answer of the measuring service.
 pub fn expected(text: &[u8], positions: &[u64]) -> Answer {
     let chip = match read_chip(text) {
@@ -60,8 +65,7 @@ pub fn expected(text: &[u8], positions: &[u64]) -> Answer {
     if positions.iter().any(|&position| position > POSITION_MOST) {
         return Answer::new(14, 0);
     }
-    let spots: Vec<Spot> =
-        positions.chunks(2).map(|spot| [spot[0] as i64, spot[1] as i64]).collect();
+    let spots = spots(positions);
     let number = if legal(&chip, &spots) { YES } else { NO };
     Answer::new(number, wirelength(&chip, &spots) as u64)
 }

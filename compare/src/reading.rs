@@ -3,6 +3,7 @@
 
 use crate::chips::{Chip, Fix, Net, Pin};
 use crate::measuring::apart;
+use crate::records::Placed;
 
 const TEXT_BYTES: usize = 16_384;
 const FIXES: usize = 8;
@@ -31,8 +32,11 @@ pub fn read_chip(text: &[u8]) -> Result<Chip, Refusal> {
     Ok(reader.chip)
 }
 
-pub fn read_record(text: &[u8]) -> Result<(), Refusal> {
-    read(text, &mut RecordReader { spots: 0, after: RecordPlace::Start })
+/// The placement of a record and its wl, or none.
+pub fn read_record(text: &[u8]) -> Result<Option<Placed>, Refusal> {
+    let mut reader = RecordReader { placed: None, after: RecordPlace::Start };
+    read(text, &mut reader)?;
+    Ok(reader.placed)
 }
 
 fn read(text: &[u8], reader: &mut dyn Reader) -> Result<(), Refusal> {
@@ -209,7 +213,7 @@ enum RecordPlace {
 }
 
 struct RecordReader {
-    spots: usize,
+    placed: Option<Placed>,
     after: RecordPlace,
 }
 
@@ -232,7 +236,8 @@ impl Reader for RecordReader {
 impl RecordReader {
     fn least(&mut self, rest: &[u8]) -> Result<(), u64> {
         fail_if(self.after != RecordPlace::Start, 5)?;
-        values(rest, [("wl", 0, 589_824_000)])?;
+        let [length] = values(rest, [("wl", 0, 589_824_000)])?;
+        self.placed = Some(Placed { length, spots: Vec::new() });
         self.after = RecordPlace::Least;
         Ok(())
     }
@@ -245,12 +250,13 @@ impl RecordReader {
     }
 
     fn at(&mut self, rest: &[u8]) -> Result<(), u64> {
+        let placed = self.placed.as_mut().ok_or(5u64)?;
         fail_if(self.after != RecordPlace::Least, 5)?;
-        fail_if(self.spots == MACROS, 6)?;
+        fail_if(placed.spots.len() == MACROS, 6)?;
         let fields = [("m", 1, MACROS as i64), ("x", 0, 1_024), ("y", 0, 1_024)];
-        let [m, _, _] = values(rest, fields)?;
-        fail_if(m as usize != self.spots + 1, 8)?;
-        self.spots += 1;
+        let [m, x, y] = values(rest, fields)?;
+        fail_if(m as usize != placed.spots.len() + 1, 8)?;
+        placed.spots.push([x, y]);
         Ok(())
     }
 

@@ -1,3 +1,4 @@
 pub mod Refusals
 pub mod EmptyString
 pub mod QuotingPage
+pub mod RecordBeside

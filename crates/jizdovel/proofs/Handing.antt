@@ -8,8 +8,11 @@ use Rattle.model.specs.Meaning.{Chip}
 use Rattle.text_grammar.specs.Reading.{Reading}
 use Rattle.text_grammar.specs.Writing.{answerOf, Written}
 use Rattle.measure_held.specs.Answer.{Measure}
+use Rattle.beside_check.specs.Beside.{Beside}
 use Rattle.host_codes.specs.declared.Code.{Code}
 use Rattle.host_codes.specs.Code.{code, ofReading, ofAnswer, ofMeasure, ofFit}
+use Rattle.host_beside.specs.declared.BesideCode.{BesideCode}
+use Rattle.host_beside.specs.CodeBeside.{besideCode}
 use Rattle.host_fit.specs.FitText.{fitRead, SlotsFilled, placesAfter, FitDone}
 
 abbrev handed : Code → Code
@@ -24,6 +27,9 @@ module _ (w : Written) (a : WriteAnswer) (out : List ℕ) (e : record { answer =
 
   pub text-left : out ≡ w .buffer
   text-left = ap (λ (t : Written). t .buffer) e
+
+pub beside-handed : (x y : Beside) (r : BesideCode) → x ≡ y → r ≡ besideCode x → record { code = handed (r .code); text = r .text } ≡ besideCode y
+beside-handed x y r e q = q ∙ ap besideCode e
 
 pub measure-handed : (m : Measure) (r : Code) → r ≡ code (ofMeasure m) → handed r ≡ code (ofMeasure m)
 measure-handed m r q = q

@@ -1,4 +1,5 @@
 // The C interface of the placer, as a static library: bytes and numbers in, a number and a value out. embed/jizdovel.h declares the functions for C.
+use host_beside::beside_code;
 use host_codes::answer_code;
 use host_codes::chip_code;
 use host_codes::record_code;
@@ -10,7 +11,9 @@ ghost use Rattle.chip_text.specs.Text.{readChip};
 ghost use Rattle.record_text.specs.Text.{readRecord};
 ghost use Rattle.search.specs.Place.{placeText};
 ghost use Rattle.quote.specs.Quote.{quoteText};
+ghost use Rattle.beside_check.specs.Beside.{checkBeside};
 ghost use Rattle.host_codes.specs.Code.{code, ofReading, ofAnswer, ofMeasure, ofFit};
+ghost use Rattle.host_beside.specs.CodeBeside.{besideCode};
 ghost use Rattle.host_measure.specs.MeasureText.{measureText};
 ghost use Rattle.host_fit.specs.FitText.{fitText, SlotsFilled, placesAfter};
 
@@ -54,6 +57,23 @@ pub extern "C" fn jizdovel_check_record(text: &[u8], value: &mut u64) -> u64
     let r = record_code(record_read::read_record(text));
     *value = r.value;
     r.number
+}
+
+// A record text, checked beside its chip's text; the text at fault too.
+#[no_mangle]
+pub extern "C" fn jizdovel_check_beside(
+    chip: &[u8],
+    beside: &[u8],
+    value: &mut u64,
+    fault: &mut u64,
+) -> u64
+    ensures { λ r. ⌜ record { code = record { number = r; value = now (value .exit) }; text = now (fault .exit) } ≡ besideCode (checkBeside (now (chip .entry)) (now (beside .entry))) ⌝ }
+{
+    let r = beside_code(beside_check::check_beside(chip, beside));
+    let code = r.code;
+    *value = code.value;
+    *fault = r.text;
+    code.number
 }
 
 // Positions x1, y1, x2, y2 .. of the macros of a chip text, measured.

@@ -17,7 +17,7 @@ pub enum MeasureAnswer {
 }
 
 // The sum of the lengths of the chip's nets.
-fn length_of(c: Chip, spots: [Spot; Mac::COUNT]) -> u64
+pub fn length_of(c: Chip, spots: [Spot; Mac::COUNT]) -> u64
     ensures { λ r. ⌜ r ≡ lengthHeld c spots ⌝ }
 {
     let nets = c.nets;

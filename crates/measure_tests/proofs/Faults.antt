@@ -40,7 +40,7 @@ module _ (c : HeldChip) (p : Passed c) where
       pub its-spots : firstOf blankSpot count s ≡ take (c .n) s
       its-spots = rw e (first-take blankSpot (c .n) s (omega (arith, few-macros)))
 
-      as-many : eqb (length (firstOf blankSpot count s)) (length (chipOf c .macs)) ≡ true
+      pub as-many : eqb (length (firstOf blankSpot count s)) (length (chipOf c .macs)) ≡ true
       as-many = eq-eqb _ _ (length-first blankSpot count s (omega (arith, few-macros)) ∙ e ∙ sym (p .macs))
 
       module _ (r : Bool) (q : r ≡ inRange (take (c .n) s)) where

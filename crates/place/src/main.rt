@@ -1,4 +1,4 @@
 // Places the chip of a file, or of standard input, and prints its record, or `refused,no,4,line,1` with the number and the line of the refusal.
 fn main() {
-    place_console::run();
+    console::place::run();
 }

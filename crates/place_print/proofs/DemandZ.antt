@@ -15,9 +15,9 @@ use Rattle.search.proofs.Demand3.{none-illegal, illegal-none, place-means}
 use Rattle.place_print.specs.DemandZ.{SaysNoneZ, SaysLeastZ, PlacedZ}
 
 -- the record of every chip says one or the other
-says : (c : Chip) → SaysNoneZ c (chipRecord c) ⊎ SaysLeastZ c (chipRecord c)
+pub record-says : (c : Chip) → SaysNoneZ c (chipRecord c) ⊎ SaysLeastZ c (chipRecord c)
 unfolding chipRecord
-says c = by (earliestLeast c) refl
+record-says c = by (earliestLeast c) refl
   where
     by : (b : Best) → earliestLeast c ≡ b → SaysNoneZ c (bestRecord (earliestLeast c)) ⊎ SaysLeastZ c (bestRecord (earliestLeast c))
     by nothing e = inl (record { is = ap bestRecord e; illegal = nothing-legal-integers c e })
@@ -26,7 +26,7 @@ says c = by (earliestLeast c) refl
 pub place-means-integers : (text out : List ℕ) (k : ℕ) → placeText text out .answer ≡ wrote k → PlacedZ text out k (placeText text out .buffer)
 place-means-integers text out k e =
     let p = place-means text out k e in
-    record { chip = p .chip; read = p .read; result = chipRecord (p .chip); count = p .count; room = p .room; bytes = p .bytes; says = says (p .chip) }
+    record { chip = p .chip; read = p .read; result = chipRecord (p .chip); count = p .count; room = p .room; bytes = p .bytes; says = record-says (p .chip) }
 
 -- `none` exactly when no whole-number placement is legal
 pub none-illegal-integers : (c : Chip) → chipRecord c ≡ none → (qs : List Corner) → legalZ c qs ≡ true → ⊥

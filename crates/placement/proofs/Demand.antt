@@ -8,9 +8,9 @@ use mathlib.Core.Bool.{Bool, true, or-true}
 use mathlib.Core.List.{List, [], _∷_, _++_, map, List·Memᴰ, List·Memᴰ·head, List·Memᴰ·tail, List·Memᴰ·not-nil, List·Memᴰ·cases-cons, List·Memᴰ·append-cases, List·Memᴰ·eq-of-singleton, Memᴰ·cast, Memᴰ·map, Memᴰ·of-map, Memᴰ·append-left, Memᴰ·append-right, zipWith, flatMap}
 use native.Mathlib.Decide.{ℕ-discrete}
 use native.Mathlib.Omega.{arith}
-use lib.Dec.{ltb, leb, eqb}
+use lib.Dec.{ltb}
 use lib.ListN.{length}
-use borrow.Author.Tests.{lt-ltb, le-ltb, eq-eqb, eqb-true, leb-true}
+use borrow.Author.Tests.{lt-ltb, le-ltb, eq-eqb}
 use Rattle.num_text.specs.Number.{allOf}
 use Rattle.model.specs.declared.Mac.{Mac}
 use Rattle.model.specs.declared.Spot.{Spot}
@@ -18,7 +18,7 @@ use Rattle.model.specs.Meaning.{Chip}
 use Rattle.text_grammar.proofs.Every.{Every}
 use Rattle.text_grammar.proofs.Lacks.{and-left, and-right}
 use Rattle.geometry.specs.Box.{boxAt, inDie}
-use Rattle.placement.specs.Legal.{boxes, allApart, within, legal}
+use Rattle.placement.specs.Legal.{boxes, within, legal}
 use Rattle.placement.specs.Length.{wirelength}
 use Rattle.placement.specs.Order.{keys, firstSmaller, before}
 use Rattle.placement.specs.Least.{upFrom, corners, placements, Best, nothing, found, tryAll, firstLeast, earliestLeast, fitOf}
@@ -27,6 +27,7 @@ use Rattle.placement.specs.Integers.{Corner, legalZ, EarliestLeastZ, int
 use Rattle.placement.specs.Letters.{Letter, keepsLettersZ}
 use Rattle.placement.specs.Pairs.{pairs, keepsAll, keepsLetters}
 use Rattle.placement.proofs.Integers.{legal-same, letters-same, legal-natural, natural-legal, letters-natural, natural-letters, naturals, length-same, earliest-integers}
+use Rattle.placement.proofs.Nearby.{corner-inside, within-long, boxes-inside, legal-inside}
 use Rattle.placement.proofs.FirstLeast.{Is, LeastAt, NonePasses, first-least}
 
 abbrev spot : ℕ → ℕ → Spot
@@ -206,20 +207,16 @@ unfolding zipWith allOf
 spots-in-corners c ms [] e h = tt
 spots-in-corners c [] (p ∷ ps) e h = absurd (omega arith)
 spots-in-corners c (m ∷ ms) (p ∷ ps) e h =
-    let a = and-left (inDie (c .die) (boxAt m p)) (allOf (inDie (c .die)) (boxes ms ps)) h in
-    let u = leb-true (p .x + m .w) (c .die .w) (and-left (leb (p .x + m .w) (c .die .w)) (leb (p .y + m .h) (c .die .h)) a) in
-    let v = leb-true (p .y + m .h) (c .die .h) (and-right (leb (p .x + m .w) (c .die .w)) (leb (p .y + m .h) (c .die .h)) a) in
-    (corners-have c p (omega arith) (omega arith), spots-in-corners c ms ps (omega arith) (and-right (inDie (c .die) (boxAt m p)) (allOf (inDie (c .die)) (boxes ms ps)) h))
+    let a = corner-inside c m p (and-left (inDie (c .die) (boxAt m p)) (allOf (inDie (c .die)) (boxes ms ps)) h) in
+    (corners-have c p (a .0) (a .1), spots-in-corners c ms ps (omega arith) (and-right (inDie (c .die) (boxAt m p)) (allOf (inDie (c .die)) (boxes ms ps)) h))
 
 pub within-in-corners : (c : Chip) (ps : List Spot) → within c ps ≡ true → List·Memᴰ ps (placements (c .macs) (corners c))
-unfolding within
 within-in-corners c ps h =
-    let e = eqb-true (length ps) (length (c .macs)) (and-left (eqb (length ps) (length (c .macs))) (allOf (inDie (c .die)) (boxes (c .macs) ps)) h) in
-    placements-have (c .macs) (corners c) ps e (spots-in-corners c (c .macs) ps e (and-right (eqb (length ps) (length (c .macs))) (allOf (inDie (c .die)) (boxes (c .macs) ps)) h))
+    let e = within-long c ps h in
+    placements-have (c .macs) (corners c) ps e (spots-in-corners c (c .macs) ps e (boxes-inside c ps h))
 
 pub legal-in-corners : (c : Chip) (ps : List Spot) → legal c ps ≡ true → List·Memᴰ ps (placements (c .macs) (corners c))
-unfolding legal
-legal-in-corners c ps h = within-in-corners c ps (and-left (within c ps) (allApart c (boxes (c .macs) ps)) h)
+legal-in-corners c ps h = within-in-corners c ps (legal-inside c ps h)
 
 -- for every test that only a placement of the list can pass
 module _ (c : Chip) (passesZ : List Corner → Bool) (passes : List Spot → Bool) (same : (ps : List Spot) → passesZ (integers ps) ≡ passes ps) (listed : (qs : List Spot) → passes qs ≡ true → List·Memᴰ qs (placements (c .macs) (corners c))) where

@@ -6,5 +6,6 @@ pub mod Demand
 pub mod Unique
 pub mod Spans
 pub mod LengthBound
+pub mod Nearby
 pub mod FitIs
 pub mod Integers

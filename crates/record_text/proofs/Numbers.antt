@@ -1,14 +1,15 @@
--- The refusal numbers of reading a record are 1 to 10, whatever the text: `record-number`.
+-- The refusal numbers of reading a record are 1 to 10, and the line of a refusal is at most 16,385, whatever the text: `record-number`, `record-line`.
 use Prim.{tt}
-use Prim.Native.Nat.{ℕ, suc}
+use Prim.Native.Nat.{ℕ, suc, _≤_}
 use mathlib.Core.Path.{_≡_, refl}
 use mathlib.Core.List.{List}
 use lib.Dec.{eqb}
 use lib.ListN.{length}
+use Rattle.model.specs.Limits.{mostBytes}
 use Rattle.text_grammar.specs.Line.{Value}
 use Rattle.text_grammar.specs.Words.{size}
 use Rattle.text_grammar.specs.Reading.{refused}
-use Rattle.text_grammar.proofs.Numbers.{Numbered, in-table, OfStep, check-numbered, read-number}
+use Rattle.text_grammar.proofs.Numbers.{Numbered, in-table, OfStep, check-numbered, read-number, read-line}
 use Rattle.record_text.specs.declared.RecordWord.{RecordWord}
 use Rattle.record_text.specs.declared.RecordWord.the-variants as word
 use Rattle.record_text.specs.Kind.{Part, start, spotsOf, spotOf, withSpot, readTo, add, recordKind}
@@ -24,3 +25,7 @@ adds s word.Done vs = tt
 pub record-number : (t : List ℕ) (n l : ℕ) → readRecord t ≡ refused n l → Numbered 10 n
 unfolding readRecord
 record-number = read-number recordKind adds start (λ (s : Part). s .result)
+
+pub record-line : (t : List ℕ) (n l : ℕ) → readRecord t ≡ refused n l → l ≤ suc mostBytes
+unfolding readRecord
+record-line = read-line recordKind start (λ (s : Part). s .result)

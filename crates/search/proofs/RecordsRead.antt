@@ -9,8 +9,7 @@ use Rattle.record_test.proofs.InRange.{none-accepted, least-accepted}
 use Rattle.placement.specs.Least.{Best, nothing, found, earliestLeast, bestRecord, chipRecord}
 use Rattle.placement.proofs.Demand.{earliest-least-found}
 use Rattle.placement.proofs.LengthBound.{wirelength-bound}
-use Rattle.search_branches.proofs.Closing.{legal-inside}
-use Rattle.search_join.proofs.Nearby.{within-long, within-near}
+use Rattle.placement.proofs.Nearby.{within-long, within-near, legal-inside}
 
 module _ (c : Chip) (v : Valid c) where
   best-read : (b : Best) → earliestLeast c ≡ b → readRecord (recordText (bestRecord b)) ≡ accepted (bestRecord b)

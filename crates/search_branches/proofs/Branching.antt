@@ -12,7 +12,7 @@ use Rattle.placement.specs.Letters.{dot}
 use Rattle.placement.specs.Pairs.{Pair, pairs, keepsAll, keepsLetters}
 use Rattle.search_branches.specs.Branch.{inBranch}
 use Rattle.search_branches.proofs.Unions.{passes-long}
-use Rattle.search_branches.proofs.Closing.{legal-inside}
+use Rattle.placement.proofs.Nearby.{legal-inside}
 use Rattle.text_grammar.proofs.Lacks.{and-both}
 use Rattle.search_branches.proofs.Overlaps.{}
 

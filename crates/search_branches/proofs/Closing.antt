@@ -8,7 +8,7 @@ use lib.ListN.{length}
 use Rattle.model.specs.declared.Spot.{Spot}
 use Rattle.model.specs.Meaning.{Chip}
 use Rattle.text_grammar.proofs.Lacks.{and-left, and-right}
-use Rattle.placement.specs.Legal.{boxes, allApart, within, legal}
+use Rattle.placement.specs.Legal.{within, legal}
 use Rattle.placement.specs.Length.{wirelength}
 use Rattle.placement.specs.Order.{before}
 use Rattle.placement.specs.Letters.{Letter, keepsLettersZ}
@@ -20,11 +20,6 @@ use Rattle.search_branches.specs.Branch.{replaces, inBranch}
 use Rattle.search_branches.proofs.Replaces.{true-false, not-true-false, says-replaces}
 use Rattle.search_branches.proofs.Betters.{Sized}
 use Rattle.search_branches.proofs.Unions.{Inside, Stands, earliest-stands, first-sized}
-
--- the tests pass only placements within the die
-pub legal-inside : (c : Chip) → Inside c (legal c)
-unfolding legal
-legal-inside c ps h = and-left (within c ps) (allApart c (boxes (c .macs) ps)) h
 
 module _ (c : Chip) (ls : List Letter) where
   pub letters-inside : Inside c (keepsLetters c ls)

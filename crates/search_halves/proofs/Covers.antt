@@ -30,7 +30,8 @@ use Rattle.search_branches.proofs.Replaces.{true-false, not-true-false, replace
 use Rattle.search_branches.proofs.Betters.{Sized}
 use Rattle.search_branches.proofs.Overlaps.{keepsAt, keeps-set}
 use Rattle.search_branches.proofs.Unions.{Stands, passes-long, earliest-stands}
-use Rattle.search_branches.proofs.Closing.{legal-inside, branch-inside, fit-sized, fit-first}
+use Rattle.placement.proofs.Nearby.{legal-inside}
+use Rattle.search_branches.proofs.Closing.{branch-inside, fit-sized, fit-first}
 use Rattle.search_halves.specs.Half.{otherWay}
 use Rattle.search_halves.specs.Kept.{keepsOne, asksAt, oppositeAt}
 use Rattle.search_halves.specs.Result.{placed, NotAfter, Real}

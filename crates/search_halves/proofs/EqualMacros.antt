@@ -14,7 +14,7 @@ use Rattle.placement.specs.Order.{before}
 use Rattle.placement.proofs.OrderLaws.{before-irreflexive, before-transitive}
 use Rattle.placement.specs.Demand.{EarliestLeast}
 use Rattle.search_branches.proofs.Unions.{passes-long}
-use Rattle.search_branches.proofs.Closing.{legal-inside}
+use Rattle.placement.proofs.Nearby.{legal-inside}
 use Rattle.search_halves.specs.Exchange.{exchanged, Alike}
 use Rattle.search_halves.proofs.Exchanging.{exchanged-earlier}
 use Rattle.search_halves.proofs.StillLegal.{still-legal}

@@ -41,7 +41,7 @@ use Rattle.search_join.specs.Joined.{HalfSaid, spotsWith, ChildHeld, Bes
 use Rattle.search_join.proofs.Cornering.{take-with}
 use Rattle.search_node.proofs.Records.{no-best, none-counted}
 use Rattle.search_node.proofs.Lettering.{letters-long}
-use Rattle.search_join.proofs.Nearby.{within-near}
+use Rattle.placement.proofs.Nearby.{within-near}
 
 -- the placement of a record is its first n corners
 pub held-spots : (n : ℕ) (r : HeldRecord) → Counted n r → (l : ℕ) (ps : List Spot) → bestOf r ≡ found l ps → ps ≡ take n (r .spots)

@@ -1,4 +1,3 @@
-pub mod Nearby
 pub mod FitRecords
 pub mod Cornering
 pub mod Joining

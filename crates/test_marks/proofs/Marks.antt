@@ -10,14 +10,17 @@ use Rattle.text_grammar.proofs.Every.{Every}
 use Rattle.geometry.specs.Box.{clearOf}
 use Rattle.chip_text.specs.Kind.{pinCount, addPin}
 use Rattle.chip_text.specs.Text.{readChip}
-use Rattle.record_text.specs.Text.{atItems, recordItems, recordText}
+use Rattle.record_text.specs.Text.{atItems, recordItems, recordText, readRecord}
 use Rattle.placement.specs.Integers.{withinZ, eachTwo, pairsZ, legalZ, greatest, least as smallest, span, netsLengthZ}
 use Rattle.placement.specs.Letters.{keepsAllZ, keepsLettersZ}
 use Rattle.placement.specs.Least.{upFrom, placements, tryAll, firstLeast, chipRecord}
 use Rattle.place_print.specs.Printed.{printed}
 use Rattle.host_fit.specs.FitText.{fitText}
 use Rattle.quote.specs.Quote.{quoteText}
-use Rattle.test_marks.specs.Marks.{bytes, text, RecordCase, FitCase, QuoteCase, blank, markedRecords, markedFits, markedQuotes}
+use Rattle.text_refusal.specs.Refusal.{refusalLine}
+use Rattle.beside_check.specs.Beside.{checkBeside}
+use Rattle.beside_print.specs.Printed.{printedBeside}
+use Rattle.test_marks.specs.Marks.{bytes, text, RecordCase, FitCase, QuoteCase, BesideCase, blank, markedRecords, markedFits, markedQuotes, markedBesides}
 
 pub marked-records : Every (λ (c : RecordCase). printed (text (c .chip)) ≡ text (c .prints)) markedRecords
 unfolding bytes text digitsIn digits fieldsText itemText itemsText atItems recordItems recordText allOf valueFrom plain numeralOf lines upTo from strip fields isIn same wordIn stepBytes readLines readText pinCount clearOf addPin readChip zipWith withinZ eachTwo product pairsZ legalZ greatest smallest span netsLengthZ keepsAllZ keepsLettersZ upFrom flatMap placements tryAll firstLeast chipRecord
@@ -31,3 +34,7 @@ marked-fits = (refl, (refl, (refl, (refl, (refl, (refl, (refl, (refl, tt))))))))
 pub marked-quotes : Every (λ (c : QuoteCase). quoteText (text (c .chip)) (blank (c .room)) ≡ c .left) markedQuotes
 unfolding bytes text digitsIn digits fieldsText itemText itemsText atItems recordItems recordText allOf valueFrom plain numeralOf lines upTo from strip fields isIn same wordIn stepBytes readLines readText pinCount clearOf addPin readChip zipWith withinZ eachTwo product pairsZ legalZ greatest smallest span netsLengthZ keepsAllZ keepsLettersZ upFrom flatMap placements tryAll firstLeast chipRecord
 marked-quotes = (refl, (refl, (refl, (refl, (refl, (refl, (refl, (refl, tt))))))))
+
+pub marked-besides : Every (λ (c : BesideCase). (checkBeside (text (c .chip)) (text (c .beside)) ≡ c .answer) × (printedBeside (text (c .chip)) (text (c .beside)) ≡ text (c .prints ∷ []))) markedBesides
+unfolding bytes text digitsIn digits refusalLine firstFailed allOf valueFrom plain numeralOf lines upTo from strip fields isIn same wordIn stepBytes readLines readText pinCount clearOf addPin readChip readRecord zipWith withinZ eachTwo product pairsZ legalZ greatest smallest span netsLengthZ
+marked-besides = ((refl, refl), ((refl, refl), ((refl, refl), ((refl, refl), ((refl, refl), ((refl, refl), ((refl, refl), ((refl, refl), tt))))))))

@@ -1,5 +1,5 @@
--- The marked cases of document 01, and those of Cards 11 and 12 in document 02, from bytes to bytes: what is printed for a chip's text, the fit of a
--- letter string, and what the quoting page says and writes.
+-- The marked cases of document 01, and those of Cards 1, 11 and 12 in document 02, from bytes to bytes: what is printed for a chip's text, the fit of a
+-- letter string, what the quoting page says and writes, and what is answered and printed for a record beside its chip.
 use Prim.Native.Nat.{ℕ}
 use Prim.Native.Char.{code}
 use Prim.Native.String.{String, [] as empty, _∷_ as _▹_}
@@ -7,6 +7,8 @@ use mathlib.Core.List.{List, [], _∷_, _++_}
 use lib.ListN.{replicate}
 use Rattle.text_grammar.specs.Line.{lineFeed}
 use Rattle.text_grammar.specs.Writing.{Written, wrote, refuse}
+use Rattle.beside_check.specs.declared.AtFault.the-variants as at
+use Rattle.beside_check.specs.Beside.{Beside, passed, refused}
 use Rattle.fit_slots.specs.Fit.{Fit, refusedBy, noFit, placed}
 
 -- the bytes of ASCII characters
@@ -35,6 +37,13 @@ pub record QuoteCase : Type 0 where
   pub chip : List String
   pub room : ℕ
   pub left : Written
+
+-- a chip, a record, what is answered for the record beside the chip, and what is printed
+pub record BesideCase : Type 0 where
+  pub chip : List String
+  pub beside : List String
+  pub answer : Beside
+  pub prints : String
 
 -- what n lent bytes hold before
 abbrev pub blank : ℕ → List ℕ
@@ -93,4 +102,16 @@ markedQuotes =
     record { chip = threeFixes; room = 50; left = refuse 22 0 (blank 50) } ∷
     record { chip = seventeenPins; room = 50; left = refuse 22 0 (blank 50) } ∷
     record { chip = atLimits; room = 10; left = record { answer = wrote 10; buffer = text ("none" ∷ "done" ∷ []) } } ∷
+    []
+
+abbrev pub markedBesides : List BesideCase
+markedBesides =
+    record { chip = example; beside = "least,wl,3" ∷ "at,m,1,x,0,y,1" ∷ "at,m,2,x,0,y,0" ∷ "done" ∷ []; answer = passed; prints = "passed" } ∷
+    record { chip = example; beside = "least,wl,6" ∷ "at,m,1,x,0,y,0" ∷ "at,m,2,x,0,y,2" ∷ "done" ∷ []; answer = passed; prints = "passed" } ∷
+    record { chip = example; beside = "none" ∷ "done" ∷ []; answer = passed; prints = "passed" } ∷
+    record { chip = example; beside = "least,wl,1" ∷ "at,m,1,x,0,y,0" ∷ "done" ∷ []; answer = refused 13 0 at.Neither; prints = "refused,no,13,line,0" } ∷
+    record { chip = example; beside = "least,wl,1" ∷ "at,m,1,x,0,y,0" ∷ "at,m,2,x,2,y,0" ∷ "done" ∷ []; answer = refused 16 0 at.Neither; prints = "refused,no,16,line,0" } ∷
+    record { chip = example; beside = "least,wl,4" ∷ "at,m,1,x,0,y,1" ∷ "at,m,2,x,0,y,0" ∷ "done" ∷ []; answer = refused 17 0 at.Neither; prints = "refused,no,17,line,0" } ∷
+    record { chip = example; beside = "least,wl,3" ∷ "at,m,1,x,0,y,1" ∷ "at,m,2,x,0,y,0" ∷ []; answer = refused 5 4 at.Record; prints = "refused,no,5,line,4" } ∷
+    record { chip = "die,w,5" ∷ []; beside = "x" ∷ []; answer = refused 2 1 at.Chip; prints = "refused,no,2,line,1" } ∷
     []

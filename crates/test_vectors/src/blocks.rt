@@ -1,4 +1,6 @@
-// Blocks of small chips: the search's record, the fit of the empty string, or the quoting page's record, and what is found by trying every position, compared.
+// Blocks of small chips: the search's record, the fit of the empty string, or the quoting page's record, and what is found by trying every position, compared; or
+// the records of every placement beside the chip.
+use crate::besides;
 use crate::count::pin_count;
 use crate::every::Found;
 use crate::every::first;
@@ -8,6 +10,7 @@ use crate::fields::number_at;
 use crate::report::FILL;
 use crate::report::untouched;
 use crate::rule::Block;
+use crate::rule::block_at;
 use crate::rule::chip_of;
 use crate::written::put_record;
 use fit::FitAnswer;
@@ -15,20 +18,22 @@ use fit::FitOutcome;
 use model::Chip;
 use model::WriteAnswer;
 
-// What is asked of each chip: its record, the fit of the empty string, or its record from the quoting page.
+// What is asked of each chip: its record, the fit of the empty string, its record from the quoting page, or records beside it.
 pub(crate) enum Asked {
     Record,
     Undecided,
     Quote,
+    Beside,
 }
 
 // What a block of chips came to; `differs` is one more than the first case that differs.
-struct Tally {
-    compared: u64,
-    none: u64,
-    several: u64,
-    beyond: u64,
-    differs: u64,
+pub(crate) struct Tally {
+    pub compared: u64,
+    pub none: u64,
+    pub several: u64,
+    pub beyond: u64,
+    pub passed: u64,
+    pub differs: u64,
 }
 
 // Whether the record given was written, into a buffer of the same length.
@@ -92,21 +97,15 @@ fn quote_refuses(c: Chip) -> bool {
     }
 }
 
-// More than 4 macros, 2 fixes or 16 pins, where the page is asked.
-fn is_beyond(c: Chip, asked: Asked) -> bool {
-    match asked {
-        Asked::Record => false,
-        Asked::Undecided => false,
-        Asked::Quote => {
-            if 4 < c.n {
-                return true;
-            }
-            if 2 < c.k {
-                return true;
-            }
-            16 < pin_count(c)
-        }
+// More than 4 macros, 2 fixes or 16 pins.
+fn is_beyond(c: Chip) -> bool {
+    if 4 < c.n {
+        return true;
     }
+    if 2 < c.k {
+        return true;
+    }
+    16 < pin_count(c)
 }
 
 // What a fit placed, as it is found by trying; a refusal is not whole.
@@ -150,6 +149,7 @@ fn agrees(c: Chip, asked: Asked, found: Found) -> bool {
         Asked::Record => search_gives(c, &expected, length),
         Asked::Undecided => fit_gives(c, &expected, length),
         Asked::Quote => quote_gives(c, &expected, length),
+        Asked::Beside => false,
     }
 }
 
@@ -158,11 +158,12 @@ fn is_undecided(asked: Asked) -> bool {
         Asked::Record => false,
         Asked::Undecided => true,
         Asked::Quote => false,
+        Asked::Beside => false,
     }
 }
 
 // No count comes near the limit.
-fn more(a: u64) -> u64 {
+pub(crate) fn more(a: u64) -> u64 {
     if a < 65536 {
         return a + 1;
     }
@@ -170,7 +171,7 @@ fn more(a: u64) -> u64 {
 }
 
 // With one case more that agrees or not.
-fn compared(t: Tally, case: u64, agrees: bool) -> Tally {
+pub(crate) fn compared(t: Tally, case: u64, agrees: bool) -> Tally {
     let mut t = t;
     t.compared = more(t.compared);
     if t.differs == 0 {
@@ -200,12 +201,21 @@ fn with_found(t: Tally, case: u64, c: Chip, asked: Asked) -> Tally {
     t
 }
 
-fn with_case(t: Tally, case: u64, b: Block, asked: Asked) -> Tally {
-    let c = chip_of(case, b);
-    if is_beyond(c, asked) {
+fn with_quoted(t: Tally, case: u64, c: Chip) -> Tally {
+    if is_beyond(c) {
         return with_beyond(t, case, c);
     }
-    with_found(t, case, c, asked)
+    with_found(t, case, c, Asked::Quote)
+}
+
+fn with_case(t: Tally, case: u64, b: Block, asked: Asked) -> Tally {
+    let c = chip_of(case, b);
+    match asked {
+        Asked::Record => with_found(t, case, c, asked),
+        Asked::Undecided => with_found(t, case, c, asked),
+        Asked::Quote => with_quoted(t, case, c),
+        Asked::Beside => besides::with_records(t, case, c),
+    }
 }
 
 // The cases from `from` up to `to`.
@@ -215,6 +225,7 @@ fn compare(b: Block, from: u64, to: u64, asked: Asked) -> Tally {
         none: 0,
         several: 0,
         beyond: 0,
+        passed: 0,
         differs: 0,
     };
     let mut case = from;
@@ -225,9 +236,19 @@ fn compare(b: Block, from: u64, to: u64, asked: Asked) -> Tally {
     t
 }
 
-fn print_tally(t: Tally) {
-    io::print_decimal(1, t.compared);
-    io::write_all(1, b" compared, ");
+// Prints that all cases are the same, or the first that differs; `differs` is one more than it.
+fn print_difference(differs: u64) {
+    if differs == 0 {
+        io::write_all(1, b"same\n");
+    } else {
+        io::write_all(1, b"first that differs: ");
+        io::print_decimal(1, differs - 1);
+        io::write_all(1, b"\n");
+    }
+}
+
+// Prints what was found of the chips.
+fn print_found(t: Tally) {
     io::print_decimal(1, t.none);
     io::write_all(1, b" none, ");
     io::print_decimal(1, t.several);
@@ -236,24 +257,21 @@ fn print_tally(t: Tally) {
         io::print_decimal(1, t.beyond);
         io::write_all(1, b" beyond the page, ");
     }
-    if t.differs == 0 {
-        io::write_all(1, b"same\n");
-    } else {
-        io::write_all(1, b"first that differs: ");
-        io::print_decimal(1, t.differs - 1);
-        io::write_all(1, b"\n");
-    }
 }
 
-// every NAME N K T W H SIDE FROM TO; undecided and quoted the same
+fn print_tally(t: Tally) {
+    io::print_decimal(1, t.compared);
+    io::write_all(1, b" compared, ");
+    if 0 < t.passed {
+        io::print_decimal(1, t.passed);
+        io::write_all(1, b" passed, ");
+    } else {
+        print_found(t);
+    }
+    print_difference(t.differs);
+}
+
+// every NAME N K T W H SIDE FROM TO; undecided, quoted and besides the same
 pub(crate) fn every(s: &[u8], asked: Asked) {
-    let b = Block {
-        n: number_at(s, 2) as usize,
-        k: number_at(s, 3) as usize,
-        t: number_at(s, 4) as usize,
-        die_w: number_at(s, 5),
-        die_h: number_at(s, 6),
-        side: number_at(s, 7),
-    };
-    print_tally(compare(b, number_at(s, 8), number_at(s, 9), asked));
+    print_tally(compare(block_at(s), number_at(s, 8), number_at(s, 9), asked));
 }

@@ -20,9 +20,9 @@ pub(crate) struct Found {
 }
 
 // Positions, or that there are no later ones.
-struct Turn {
-    over: bool,
-    spots: [Spot; Mac::COUNT],
+pub(crate) struct Turn {
+    pub over: bool,
+    pub spots: [Spot; Mac::COUNT],
 }
 
 // What a is above b.
@@ -129,7 +129,7 @@ fn allowed_macro(c: Chip, spots: [Spot; Mac::COUNT], j: usize, undecided: bool) 
     clear_of_macs(c, spots, j)
 }
 
-fn allowed(c: Chip, spots: [Spot; Mac::COUNT], undecided: bool) -> bool {
+pub(crate) fn allowed(c: Chip, spots: [Spot; Mac::COUNT], undecided: bool) -> bool {
     let mut j: usize = 0;
     while j < Mac::COUNT {
         if c.n <= j {
@@ -227,7 +227,7 @@ fn after(from: usize, net: Net) -> usize {
     Pin::COUNT
 }
 
-fn length_of(c: Chip, spots: [Spot; Mac::COUNT]) -> u64 {
+pub(crate) fn length_of(c: Chip, spots: [Spot; Mac::COUNT]) -> u64 {
     let nets = c.nets;
     let pins = c.pins;
     let t = c.t;
@@ -248,7 +248,7 @@ fn length_of(c: Chip, spots: [Spot; Mac::COUNT]) -> u64 {
 }
 
 // The positions that come next: the last macro's y first, up to the die's sides.
-fn next(spots: [Spot; Mac::COUNT], n: usize, die: Die) -> Turn {
+pub(crate) fn next(spots: [Spot; Mac::COUNT], n: usize, die: Die) -> Turn {
     let mut spots = spots;
     let mut i: usize = Mac::COUNT;
     while 0 < i {

@@ -19,8 +19,11 @@
 //     print NAME ROOM                what the program prints for the text
 //     place NAME ROOM                the record of the text
 //     search NAME ROOM               the record of the chip as a value
+//     beside NAME TEXT               a record beside the text of the chip: `passed`, or number,line and the text at fault
+//     besides NAME N K T W H SIDE FROM TO  small chips made by a rule: records of every placement beside them, right and wrong
 //     every NAME N K T W H SIDE FROM TO  small chips made by a rule: the search's records beside those found by trying every position
 //     undecided NAME N K T W H SIDE FROM TO  the same chips: the fits of the empty string beside those found by trying every position in the die
+mod besides;
 mod blocks;
 mod chips;
 mod count;

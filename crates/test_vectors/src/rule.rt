@@ -1,6 +1,7 @@
 // Small chips made by a rule from a case's number.
 use crate::every::clear;
 use crate::every::lesser;
+use crate::fields::number_at;
 use model::Chip;
 use model::Die;
 use model::Fix;
@@ -17,6 +18,18 @@ pub(crate) struct Block {
     pub die_w: u64,
     pub die_h: u64,
     pub side: u64,
+}
+
+// The block of a line, from field 2 on.
+pub(crate) fn block_at(s: &[u8]) -> Block {
+    Block {
+        n: number_at(s, 2) as usize,
+        k: number_at(s, 3) as usize,
+        t: number_at(s, 4) as usize,
+        die_w: number_at(s, 5),
+        die_h: number_at(s, 6),
+        side: number_at(s, 7),
+    }
 }
 
 // A step of a linear congruential generator, with the upper bits added.

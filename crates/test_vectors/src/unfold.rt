@@ -1,6 +1,7 @@
 // Texts of cases unfolded: escapes and repetitions.
 use crate::fields::after;
 use crate::fields::index_of;
+use crate::fields::part;
 use num_text::Number;
 ghost use Prim.Native.Nat.{_+_, _≤_, _<_};
 ghost use lib.ListN.{length};
@@ -106,7 +107,7 @@ fn put_repeated(s: &[u8], j: usize, e: usize, out: &mut [u8], at: usize) -> usiz
 }
 
 // The text that a vector stands for; the answer is its length.
-pub(crate) fn unfold(s: &[u8], out: &mut [u8]) -> usize {
+fn unfold(s: &[u8], out: &mut [u8]) -> usize {
     let mut a: usize = 0;
     let mut i: usize = 0;
     while i < s.len() {
@@ -117,4 +118,12 @@ pub(crate) fn unfold(s: &[u8], out: &mut [u8]) -> usize {
         i = after(s, e);
     }
     a
+}
+
+// The text of field j of a line; the answer is its length.
+pub(crate) fn text_at(s: &[u8], j: usize, text: &mut [u8]) -> usize {
+    let p = part(s, j);
+    let a = p.a;
+    let e = p.e;
+    unfold(&s[a..e], text)
 }

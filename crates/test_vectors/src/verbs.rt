@@ -1,17 +1,17 @@
 // The lines of standard input, each by its verb.
+use crate::besides;
 use crate::blocks;
 use crate::blocks::Asked;
 use crate::chips;
 use crate::fields::index_of;
 use crate::fields::is_at;
 use crate::fields::number_at;
-use crate::fields::part;
 use crate::fields::print_at;
 use crate::fitting;
 use crate::measuring;
 use crate::reading;
 use crate::searching;
-use crate::unfold::unfold;
+use crate::unfold::text_at;
 use crate::values;
 use model::Chip;
 ghost use Prim.Native.Nat.{_≤_};
@@ -21,14 +21,6 @@ ghost use lib.ListN.{length};
 pub(crate) struct State {
     pub chip: Chip,
     pub n: usize,
-}
-
-// The text of field 1, unfolded; the answer is its length.
-fn text_of(s: &[u8], text: &mut [u8]) -> usize {
-    let p = part(s, 1);
-    let a = p.a;
-    let e = p.e;
-    unfold(&s[a..e], text)
 }
 
 // n, or 0 where a text has fewer bytes.
@@ -62,13 +54,13 @@ fn read_first(s: &[u8], text: &[u8], n: usize) {
 // chip TEXT, record TEXT
 fn read_back(s: &[u8]) {
     let mut text = io::large_buffer();
-    let n = text_of(s, &mut text);
+    let n = text_at(s, 1, &mut text);
     read_first(s, &text, n);
 }
 
 // on TEXT
 fn chip_on(s: &[u8], text: &mut [u8]) -> State {
-    let n = text_of(s, text);
+    let n = text_at(s, 1, text);
     let chip = chip_in(text, n);
     State { chip, n }
 }
@@ -135,6 +127,14 @@ fn about_records(s: &[u8], text: &[u8], c: Chip) {
     }
     if is_at(s, 0, b"search") {
         searching::search(s, c);
+        return;
+    }
+    if is_at(s, 0, b"beside") {
+        besides::beside(s, text);
+        return;
+    }
+    if is_at(s, 0, b"besides") {
+        blocks::every(s, Asked::Beside);
         return;
     }
     if is_at(s, 0, b"every") {

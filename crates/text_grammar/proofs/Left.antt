@@ -1,11 +1,13 @@
 -- Reading line by line: what is left to read, and each end of the reading.
-use mathlib.Core.Path.{_≡_, sym, _∙_}
+use mathlib.Core.Path.{_≡_, sym, ap, _∙_}
 use mathlib.Core.List.{List}
 use Prim.Native.Nat.{ℕ, suc, _+_, _≤_, _<_}
 use native.Mathlib.Numerals.{add-one}
+use native.Mathlib.Decide.{decLe}
 use native.Mathlib.Omega.{arith}
 use lib.Dec.{leb}
-use lib.ListN.{length, drop, drop-of-length-le}
+use lib.ListN.{length, take, drop, drop-of-length-le}
+use lib.Seq.{length-take-le, take-all}
 use borrow.Author.Tests.{le-leb, lt-leb}
 use Rattle.model.specs.Step.{Step, next, fault}
 use Rattle.text_grammar.specs.Line.{lines}
@@ -56,3 +58,12 @@ module _ {W S : Type 0} (k : Kind W S) (start : S) (text : List ℕ) where
     pub text-ends : length text ≤ a → readText k start text ≡ ending k s line
     unfolding readLines lines
     text-ends h = left .rest ∙ rw (drop-of-length-le text {i = a} h)
+
+-- the bytes past the greatest length do not count
+module _ {W S A : Type 0} (k : Kind W S) (start : S) (f : S → A) where
+  pub text-start : (text : List ℕ) (n : ℕ) → k .mostBytes < n → partRead f (readText k start (take n text)) ≡ partRead f (readText k start text)
+  text-start text n h = by (decLe (length text) n)
+    where
+      by : Dec (length text ≤ n) → partRead f (readText k start (take n text)) ≡ partRead f (readText k start text)
+      by (yes l) = ap (λ (t : List ℕ). partRead f (readText k start t)) (take-all n text l)
+      by (no l) = sym (text-too-long k start (take n text) f (rw (length-take-le n text (omega arith)) h)) ∙ text-too-long k start text f (omega arith)

@@ -16,7 +16,6 @@ use Rattle.model.specs.declared.WriteAnswer.the-variants as write
 use Rattle.text_grammar.specs.Writing.{wrote, notWritten, answerOf, refuse, ifRoom}
 use Rattle.text_grammar.proofs.Fit.{too-short, all-fits}
 use Rattle.text_grammar.proofs.Lengths.{digits-short}
-use Rattle.text_grammar.proofs.Numbers.{Numbered}
 use Rattle.text_refusal.specs.Refusal.{refusedNo, inLine, refusalLine, shown}
 
 pub line-written : (n l : ℕ) (b m k a : List ℕ) (at i j r : ℕ) → length b < 2 ^ 64 → Wrote b m (refusedNo ++ digits n) at i → Wrote m k (inLine ++ digits l) i j → Wrote k a (lineFeed ∷ []) j r → Wrote b a (refusalLine n l) at r
@@ -41,10 +40,9 @@ module _ (n l : ℕ) (x y b : List ℕ) (k : ℕ) (h : n < 2 ^ 64) (g : l < 2 ^ 
   line-fits = let s = line-short n l h g in all-fits (refusalLine n l) x y b k (omega arith) told
 
 -- `refused,no,10,line,16385` and LF
-pub refusal-short : (n l : ℕ) → Numbered 10 n → l ≤ 16385 → length (refusalLine n l) ≤ 25
+pub refusal-short : (n l : ℕ) → n ≤ 99 → l ≤ 16385 → length (refusalLine n l) ≤ 25
 unfolding refusalLine
 refusal-short n l h g =
-    let w = h .within in
     let a = digits-short n 1 (omega arith) in
     let b = digits-short l 4 (omega arith) in
     simp length-append (omega arith)

@@ -28,7 +28,7 @@ fn put_refusal(out: &mut [u8], at: usize, f: Refusal) -> usize
 }
 
 // The line of a refusal: 15 where the buffer is shorter.
-fn write_refusal(f: Refusal, out: &mut [u8]) -> WriteAnswer
+pub fn write_refusal(f: Refusal, out: &mut [u8]) -> WriteAnswer
     ensures { λ a. ⌜ record { answer = answerOf a; buffer = now (out .exit) } ≡ ifRoom (leb (length (refusalLine (f .no) (f .line))) (length (now (out .entry)))) (refusalLine (f .no) (f .line)) (now (out .entry)) ⌝ }
 {
     let mut scratch = [0u8; 1];

@@ -1,0 +1,7 @@
+// The programs `place` and `beside`: their arguments, the reading of texts, and the writing of what is printed for them.
+//
+// No contract can say what is read or written. Of these functions it is proved that they are safe and end; the bytes written are those of
+// `place_print::print_text` and `beside_print::print_beside`.
+pub mod beside;
+mod files;
+pub mod place;
