@@ -30,6 +30,7 @@ use Rattle.search.proofs.Demand3.{place-means}
 use Rattle.search.proofs.RecordsRead.{chip-record-read}
 use Rattle.quote.specs.Quote.{quoteText}
 use Rattle.place_print.specs.DemandZ.{SaysNoneZ, SaysLeastZ}
+use Rattle.place_print.specs.Printed.{printedRead, printed}
 use Rattle.place_print.proofs.DemandZ.{record-says}
 use Rattle.host_laws.proofs.QuotingPage.{page-writes}
 
@@ -133,21 +134,27 @@ record-placed c (inr s) =
       own = s .first .long;
     })
 
+record-passes : (text : List ℕ) (c : Chip) → readChip text ≡ accepted c → checkBeside text (recordText (chipRecord c)) ≡ passed
+record-passes text c e = belongs-passes text (recordText (chipRecord c)) (record {
+  of = c;
+  result = chipRecord c;
+  chipRead = e;
+  recordRead = chip-record-read c (accepted-valid text c e);
+  says = record-placed c (record-says c);
+})
+
 pub placed-passes : (text out : List ℕ) (k : ℕ) → placeText text out .answer ≡ wrote k → checkBeside text (take k (placeText text out .buffer)) ≡ passed
 placed-passes text out k e =
     let p = place-means text out k e in
-    let c = p .chip in
-    let t : take k (placeText text out .buffer) ≡ recordText (chipRecord c) = ap (take k) (p .bytes) ∙ take-at (recordText (chipRecord c)) _ k (sym (p .count)) in
-    ap (checkBeside text) t
-    ∙ belongs-passes text (recordText (chipRecord c)) (record {
-      of = c;
-      result = chipRecord c;
-      chipRead = p .read;
-      recordRead = chip-record-read c (accepted-valid text c (p .read));
-      says = record-placed c (record-says c);
-    })
+    let r = recordText (chipRecord (p .chip)) in
+    let t : take k (placeText text out .buffer) ≡ r = ap (take k) (p .bytes) ∙ take-at r _ k (sym (p .count)) in
+    ap (checkBeside text) t ∙ record-passes text (p .chip) (p .read)
 
--- the quoting page's records too
+-- what the program `place` prints for a chip too
+pub printed-passes : (text : List ℕ) (c : Chip) → readChip text ≡ accepted c → checkBeside text (printed text) ≡ passed
+printed-passes text c e = ap (λ (r : Reading Chip). checkBeside text (printedRead r)) e ∙ record-passes text c e
+
+-- and the quoting page's records
 pub quoted-passes : (text out : List ℕ) (k : ℕ) → quoteText text out .answer ≡ wrote k → checkBeside text (take k (quoteText text out .buffer)) ≡ passed
 quoted-passes text out k e =
     let s = page-writes text out k e in
