@@ -45,5 +45,6 @@ besideRead (notRead number line) r = refused number line text.Chip
 besideRead (accepted c) (notRead number line) = refused number line text.Record
 besideRead (accepted c) (accepted r) = unlessFailed notOfChip (firstFailed (besideTests c r)) passed
 
+-- the same of the text of a chip and the text of a record
 abbrev pub checkBeside : List ℕ → List ℕ → Beside
 checkBeside chip beside = besideRead (readChip chip) (readRecord beside)

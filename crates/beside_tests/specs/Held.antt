@@ -12,6 +12,7 @@ use Rattle.refusals.specs.Tests.{Test, test}
 use Rattle.legal.specs.Turn.{legalHeld}
 use Rattle.measure_held.specs.Held.{lengthHeld}
 
+-- of what a record says, with its corners; `none` has no tests
 abbrev pub outcomeTests : HeldChip → Outcome → List Spot → List Test
 outcomeTests c outcome.None s = []
 outcomeTests c (outcome.Least wl count) s =
@@ -20,5 +21,6 @@ outcomeTests c (outcome.Least wl count) s =
     ∷ test 17 (eqb wl (lengthHeld c s))
     ∷ []
 
+-- of a record
 abbrev pub heldTests : HeldChip → HeldRecord → List Test
 heldTests c r = outcomeTests c (r .outcome) (r .spots)
