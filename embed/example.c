@@ -1,5 +1,5 @@
 /* The C interface in use: one chip, through every function of the library, chips at the limits of the
- * quoting page, and records beside the chip. */
+ * quoting page, chips without boxes and with a box off the die, and records beside the chip. */
 #include <inttypes.h>
 #include <stdio.h>
 #include <string.h>
@@ -14,6 +14,22 @@ static const char chip[] =
     "net,w,3\n"
     "pin,m,1,x,0,y,0\n"
     "pin,m,2,x,0,y,0\n"
+    "end\n";
+/* No legal placement. */
+static const char crowded[] =
+    "die,w,3,h,1\n"
+    "mac,w,2,h,1\n"
+    "mac,w,2,h,1\n"
+    "net,w,1\n"
+    "pin,m,1,x,0,y,0\n"
+    "pin,m,2,x,0,y,0\n"
+    "end\n";
+/* A net whose pads lie off the die. */
+static const char pads[] =
+    "die,w,4,h,1\n"
+    "net,w,2\n"
+    "pin,m,0,x,-2,y,0\n"
+    "pin,m,0,x,3,y,1\n"
     "end\n";
 
 /* An answer: yes or no with its value, or the refusal's number and line. */
@@ -98,6 +114,24 @@ static void quote_row(int fixes, int macros, int pins)
     quote(what, text);
 }
 
+/* The record with its boxes into a buffer of that length; of a refusal, whether the buffer is as it
+ * was. */
+static void boxes(const char *what, const char *text, size_t length)
+{
+    uint8_t out[JIZDOVEL_BOXES_BYTES], before[JIZDOVEL_BOXES_BYTES];
+    uint64_t value;
+
+    memset(out, '?', sizeof out);
+    memset(before, '?', sizeof before);
+    uint64_t number = jizdovel_boxes((const uint8_t *)text, strlen(text), out, length, &value);
+    printf("%s, ", what);
+    tell("boxes", number, value);
+    if (number == JIZDOVEL_YES)
+        fwrite(out, 1, value, stdout);
+    else
+        printf("the buffer %s\n", memcmp(out, before, sizeof out) ? "has changed" : "is as it was");
+}
+
 static void measure(const uint8_t *text, size_t length, uint64_t x, uint64_t y)
 {
     const uint64_t positions[4] = {x, y, 0, 0};
@@ -144,6 +178,10 @@ int main(void)
     quote_row(JIZDOVEL_PAGE_FIXES, JIZDOVEL_PAGE_MACROS + 1, JIZDOVEL_PAGE_PINS);
     quote_row(JIZDOVEL_PAGE_FIXES + 1, JIZDOVEL_PAGE_MACROS, JIZDOVEL_PAGE_PINS);
     quote_row(JIZDOVEL_PAGE_FIXES, JIZDOVEL_PAGE_MACROS, JIZDOVEL_PAGE_PINS + 1);
+    boxes("the same chip", chip, JIZDOVEL_BOXES_BYTES);
+    boxes("room for its record alone", chip, 46);
+    boxes("no legal placement", crowded, JIZDOVEL_BOXES_BYTES);
+    boxes("pads off the die", pads, JIZDOVEL_BOXES_BYTES);
     measure(text, length, 0, 1);
     measure(text, length, 0, 0);
     fit(text, length, "ALL");

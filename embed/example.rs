@@ -1,8 +1,9 @@
-// The library from Rust: one chip, through every function, chips at the limits of the quoting page, and records beside the chip; it prints what
+// The library from Rust: one chip, through every function, chips at the limits of the quoting page,
+// chips without boxes and with a box off the die, and records beside the chip; it prints what
 // example.c prints.
 mod jizdovel;
 
-use jizdovel::{Answer, AtFault, PAGE_FIXES, PAGE_MACROS, PAGE_PINS};
+use jizdovel::{Answer, AtFault, BOXES_BYTES, PAGE_FIXES, PAGE_MACROS, PAGE_PINS};
 
 const CHIP: &str = "die,w,5,h,3
 fix,x,2,y,0,w,1,h,2
@@ -11,6 +12,22 @@ mac,w,2,h,1
 net,w,3
 pin,m,1,x,0,y,0
 pin,m,2,x,0,y,0
+end
+";
+// No legal placement.
+const CROWDED: &str = "die,w,3,h,1
+mac,w,2,h,1
+mac,w,2,h,1
+net,w,1
+pin,m,1,x,0,y,0
+pin,m,2,x,0,y,0
+end
+";
+// A net whose pads lie off the die.
+const PADS: &str = "die,w,4,h,1
+net,w,2
+pin,m,0,x,-2,y,0
+pin,m,0,x,3,y,1
 end
 ";
 
@@ -74,6 +91,21 @@ fn quote_row(fixes: usize, macros: usize, pins: usize) {
     quote(&format!("{macros} macros, {fixes} fixes, {pins} pins"), &text);
 }
 
+// The record with its boxes into a buffer of that length; of a refusal, whether the buffer is as it
+// was.
+fn boxes(what: &str, text: &str, length: usize) {
+    let mut out = [b'?'; BOXES_BYTES];
+    let answer = jizdovel::boxes(text.as_bytes(), &mut out[..length]);
+    print!("{what}, ");
+    tell("boxes", answer);
+    if let Answer::Yes(length) = answer {
+        print!("{}", String::from_utf8_lossy(&out[..length as usize]));
+    } else {
+        let unchanged = out.iter().all(|&byte| byte == b'?');
+        println!("the buffer {}", if unchanged { "is as it was" } else { "has changed" });
+    }
+}
+
 fn measure(text: &[u8], x: u64, y: u64) {
     print!("macro 1 at {x},{y}, ");
     tell("measure", jizdovel::measure(text, &[x, y, 0, 0]));
@@ -105,6 +137,10 @@ fn main() {
     quote_row(PAGE_FIXES, PAGE_MACROS + 1, PAGE_PINS);
     quote_row(PAGE_FIXES + 1, PAGE_MACROS, PAGE_PINS);
     quote_row(PAGE_FIXES, PAGE_MACROS, PAGE_PINS + 1);
+    boxes("the same chip", CHIP, BOXES_BYTES);
+    boxes("room for its record alone", CHIP, 46);
+    boxes("no legal placement", CROWDED, BOXES_BYTES);
+    boxes("pads off the die", PADS, BOXES_BYTES);
     measure(text, 0, 1);
     measure(text, 0, 0);
     fit(text, "ALL");

@@ -5,8 +5,9 @@
  *
  * The answer is a number, and a value beside it that is written through `value`:
  *
- *   JIZDOVEL_YES  the text is accepted, the record is written or passes beside its chip, the
- *                 positions are legal, or the letters have a fit; `value` as each function says
+ *   JIZDOVEL_YES  the text is accepted, the record is written, alone or with its boxes, or passes
+ *                 beside its chip, the positions are legal, or the letters have a fit; `value` as
+ *                 each function says
  *   JIZDOVEL_NO   the positions are not legal, or the letters have no fit; `value` as each says
  *   1 .. 254      refused with that number of the refusal table; `value` is the line, 0 where the
  *                 refusal has no line
@@ -37,8 +38,11 @@ extern "C" {
 #define JIZDOVEL_NO 255
 
 /* Enough for every chip: bytes of a record (it has at most 192, by theorem: `chip-record-short` in
- * crates/place_print/proofs/PrintedShort.antt), slots of a fit, numbers of a position list. */
+ * crates/place_print/proofs/PrintedShort.antt), bytes of a record with its boxes (at most 1,495, by
+ * theorem: `boxes-short` in crates/place_boxes/proofs/Short.antt), slots of a fit, numbers of a
+ * position list. */
 #define JIZDOVEL_RECORD_BYTES 256
+#define JIZDOVEL_BOXES_BYTES 1495
 #define JIZDOVEL_SLOTS 728
 #define JIZDOVEL_POSITIONS 16
 
@@ -58,6 +62,18 @@ uint64_t jizdovel_place(const uint8_t *text, size_t text_length,
 #define JIZDOVEL_PAGE_FIXES 2
 #define JIZDOVEL_PAGE_PINS 16
 uint64_t jizdovel_quote(const uint8_t *text, size_t text_length,
+                        uint8_t *out, size_t out_length,
+                        uint64_t *value);
+
+/* Chip text to record text with the box of each net: writes the record of the chip and, directly
+ * after its `done` line, one line for each net in file order, `box,n,1,l,0,r,0,b,0,t,1` and LF: the
+ * net's number from 1, then left, right, bottom and top, the least and the greatest x and the least
+ * and the greatest y of the net's pins at the record's placement; these may be negative, or
+ * beyond the die. A `none` record gets no boxes: what is written is then what jizdovel_place writes.
+ * With boxes it is no record text any more: jizdovel_check_record refuses it by 2 at the first box.
+ * YES: `value` is the number of bytes written; bytes past them are not touched. Refusals: those of
+ * reading a chip, then 15 where `out` is shorter than the whole text, record and boxes together. */
+uint64_t jizdovel_boxes(const uint8_t *text, size_t text_length,
                         uint8_t *out, size_t out_length,
                         uint64_t *value);
 

@@ -19,8 +19,10 @@ pub enum AtFault {
     Record,
 }
 
-/// The most that a chip can need: bytes of a record, slots of a fit, numbers of a position list.
+/// The most that a chip can need: bytes of a record, bytes of a record with its boxes, slots of a
+/// fit, numbers of a position list.
 pub const RECORD_BYTES: usize = 256;
+pub const BOXES_BYTES: usize = 1495;
 pub const SLOTS: usize = 728;
 pub const POSITIONS: usize = 16;
 
@@ -37,6 +39,7 @@ const RECORD: u64 = 2;
 extern "C" {
     fn jizdovel_place(text: *const u8, n: usize, out: *mut u8, m: usize, value: *mut u64) -> u64;
     fn jizdovel_quote(text: *const u8, n: usize, out: *mut u8, m: usize, value: *mut u64) -> u64;
+    fn jizdovel_boxes(text: *const u8, n: usize, out: *mut u8, m: usize, value: *mut u64) -> u64;
     fn jizdovel_check_chip(text: *const u8, n: usize, value: *mut u64) -> u64;
     fn jizdovel_check_record(text: *const u8, n: usize, value: *mut u64) -> u64;
     fn jizdovel_check_beside(chip: *const u8, n: usize, record: *const u8, m: usize, value: *mut u64, at_fault: *mut u64) -> u64;
@@ -73,6 +76,14 @@ pub fn place(text: &[u8], out: &mut [u8]) -> Answer {
 pub fn quote(text: &[u8], out: &mut [u8]) -> Answer {
     let mut value = 0;
     let number = unsafe { jizdovel_quote(text.as_ptr(), text.len(), out.as_mut_ptr(), out.len(), &mut value) };
+    answer(number, value)
+}
+
+/// Chip text to record text and, after its `done`, the box of each net: they go into `out`; yes with
+/// the number of bytes written. A `none` record gets no boxes.
+pub fn boxes(text: &[u8], out: &mut [u8]) -> Answer {
+    let mut value = 0;
+    let number = unsafe { jizdovel_boxes(text.as_ptr(), text.len(), out.as_mut_ptr(), out.len(), &mut value) };
     answer(number, value)
 }
 

@@ -1,5 +1,5 @@
 #!/usr/bin/env python3
-"""Draws a chip and its record: python3 pictures/draw.py CHIP RECORD > OUT.svg
+"""Draws a chip and its record, which is what place or boxes prints: python3 pictures/draw.py CHIP RECORD > OUT.svg
 
 A viewer outside the promise: nothing proves it, and it does not check that a placement is the least. The record is what counts.
 """
@@ -105,10 +105,10 @@ class View:
     def net(self, k, weight, pins):
         """Net k: its line in the list; the box around its pins, grown so that a flat one shows; its pins with its number."""
         left, low = EDGE + k % COLUMNS * WIDE / COLUMNS, self.bottom + LIST + k // COLUMNS * 18
-        xs, ys, name = [pin[0] for pin in pins], [pin[1] for pin in pins], f"net {k + 1}, w {weight}"
+        (x, right, y, top), name = ends_of(pins), f"net {k + 1}, w {weight}"
         dash = f' stroke-dasharray="{DASHES[k % len(DASHES)]}"'
         out = [line("net", [(left, low), (left + 30, low)], dash), text(left + 35, low, 12, name, "start"),
-               self.box("net", min(xs), min(ys), max(xs) - min(xs), max(ys) - min(ys), name, PIN + 1 + k % 4, dash)]
+               self.box("net", x, y, right - x, top - y, name, PIN + 1 + k % 4, dash)]
         out += [self.pin(*pin, k + 1, name) for pin in pins]
         return [f'<g color="#{COLOURS[k]}">', *out, "</g>"]
 
@@ -134,6 +134,12 @@ def beside(w, h, macros):
     return corners
 
 
+def ends_of(pins):
+    """The box of a net: left, right, bottom, top."""
+    xs, ys = [pin[0] for pin in pins], [pin[1] for pin in pins]
+    return [min(xs), max(xs), min(ys), max(ys)]
+
+
 def nets_of(chip, corners):
     """The weight of each net, and its pins: x, y, and whether it is a pad."""
     nets, corners = [], [(0, 0), *corners]
@@ -150,9 +156,17 @@ def need_of_chip(w, h, fixes, boxes, nets, wl):
     """The legality and the length of a record beside its chip (document 02, Card 1); draw() has tested the count."""
     need(all(x + wide <= w and y + tall <= h for x, y, wide, tall in boxes), "a macro leaves the die")
     need(all(apart(box, other) for k, box in enumerate(boxes) for other in boxes[:k] + fixes), "a macro overlaps another or a fix")
-    spans = ((weight, [[pin[axis] for pin in pins] for axis in (0, 1)]) for weight, pins in nets)
-    length = sum(weight * sum(max(places) - min(places) for places in axes) for weight, axes in spans)
+    ends = ((weight, ends_of(pins)) for weight, pins in nets)
+    length = sum(weight * (right - left + top - bottom) for weight, (left, right, bottom, top) in ends)
     need(length == wl, f"its wl is {wl}, and the wirelength is {length}")
+
+
+def need_of_boxes(printed, nets):
+    """The box lines after a record, where there are any (document 02, Card 2); a none record gets none."""
+    own = [[k, *ends_of(pins)] for k, (_, pins) in enumerate(nets, 1)]
+    need(len(printed) in (0, len(own)), f"it has {len(printed)} box lines, expected {len(own)}")
+    for line, (k, left, right, bottom, top) in zip(printed, own):
+        need(line == [k, left, right, bottom, top], f"expected box,n,{k},l,{left},r,{right},b,{bottom},t,{top}")
 
 
 def draw(chip, record):
@@ -164,6 +178,7 @@ def draw(chip, record):
     pins, boxes = [pin for _, pins in nets for pin in pins], [corner + size for corner, size in zip(corners, macros)]
     if placed:
         need_of_chip(w, h, fixes, boxes, nets, record[0][1][0])
+    need_of_boxes([values for word, values in record if word == "box"], nets)
     view = View(w, h, pins + corners + [(x + a, y + b) for x, y, a, b in boxes], max(w, h) if placed else math.inf)
     out = [view.box("die", 0, 0, w, h, "die"), *(view.box("fix", *fix, "fix") for fix in fixes)]
     out += [view.box("macro", *box, f"macro {k}, {box[2]} x {box[3]}") for k, box in enumerate(boxes, 1)]

@@ -114,6 +114,13 @@ mod raw {
             out_length: usize,
             value: *mut u64,
         ) -> u64;
+        pub fn jizdovel_boxes(
+            text: *const u8,
+            text_length: usize,
+            out: *mut u8,
+            out_length: usize,
+            value: *mut u64,
+        ) -> u64;
         pub fn jizdovel_check_chip(text: *const u8, text_length: usize, value: *mut u64) -> u64;
         pub fn jizdovel_check_record(text: *const u8, text_length: usize, value: *mut u64) -> u64;
         pub fn jizdovel_check_beside(
@@ -204,6 +211,10 @@ pub fn place(text: &[u8], out: &mut [u8]) -> Answer {
 
 pub fn quote(text: &[u8], out: &mut [u8]) -> Answer {
     write(raw::jizdovel_quote, text, out)
+}
+
+pub fn boxes(text: &[u8], out: &mut [u8]) -> Answer {
+    write(raw::jizdovel_boxes, text, out)
 }
 
 pub fn fit(text: &[u8], letters: &[u8], slots: &mut [u16], positions: &mut [u64]) -> Answer {

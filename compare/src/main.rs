@@ -3,6 +3,7 @@
 #![deny(unsafe_code)]
 
 mod besides;
+mod boxing;
 mod chips;
 mod counting;
 mod damage;
@@ -28,7 +29,7 @@ use std::process::ExitCode;
 use std::thread;
 
 use library::{NO, YES};
-use placing::{DESK, PAGE};
+use placing::{BOXES, DESK, PAGE};
 use random::Random;
 use report::{grouped, Difference, Tally};
 
@@ -77,6 +78,8 @@ fn compare(random: &mut Random) -> Result<u64, String> {
         + finish(placing::small(random, 4_000), &[YES, 15])?
         + finish(placing::large(random, 1_000), &[YES, 15])?
         + finish(placing::refused(random, DESK, "refused chips", 2_000), &chip_refusals)?
+        + finish(boxing::boxes(random, 4_000), &[YES, 15])?
+        + finish(placing::refused(random, BOXES, "refused chips of boxes", 2_000), &chip_refusals)?
         + finish(quoting::quotes(random, 4_000), &[YES, 15, 22])?
         + finish(
             placing::refused(random, PAGE, "refused chips of the page", 2_000),
@@ -120,6 +123,7 @@ fn in_one_thread(seed: u64) -> Result<Tally, Difference> {
     tally.add(besides::records(&mut random, 500)?);
     tally.add(fits::fits(&mut random, 500)?);
     tally.add(placing::small(&mut random, 100)?);
+    tally.add(boxing::boxes(&mut random, 100)?);
     tally.add(quoting::quotes(&mut random, 100)?);
     Ok(tally)
 }

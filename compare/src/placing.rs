@@ -1,5 +1,7 @@
-//! Chip text to record text: compared byte for byte with the slow ways, for buffers of any length.
+//! Chip text to record text, alone or with boxes: compared byte for byte with the slow ways, for
+//! buffers of any length.
 
+use crate::boxing;
 use crate::chips::Chip;
 use crate::damage;
 use crate::generating::{self, Bounds, FEW, SMALL, THIN};
@@ -10,21 +12,30 @@ use crate::records::{record_text, Placed};
 use crate::report::{shown, Difference, Tally, OWN};
 use crate::trying::{by_letters, by_positions, placements, Least};
 
-/// A service from chip text to record text.
+/// A service that writes a text for a chip text; `text` makes it of the chip and its earliest least
+/// placement.
 #[derive(Clone, Copy)]
 pub struct Service {
     pub name: &'static str,
     call: fn(&[u8], &mut [u8]) -> Answer,
+    text: fn(&Chip, Option<&Placed>) -> Vec<u8>,
 }
 
-/// The design desk's search, and the quoting page's.
-pub const DESK: Service = Service { name: "records", call: library::place };
-pub const PAGE: Service = Service { name: "records of the page", call: library::quote };
+/// The design desk's search, the quoting page's, and the desk's with the boxes of the nets.
+pub const DESK: Service = Service { name: "records", call: library::place, text: record };
+pub const PAGE: Service =
+    Service { name: "records of the page", call: library::quote, text: record };
+pub const BOXES: Service =
+    Service { name: "records with boxes", call: library::boxes, text: boxing::text };
+
+fn record(_: &Chip, best: Option<&Placed>) -> Vec<u8> {
+    record_text(best)
+}
 
 /// Up to so many placements of a small chip are tried.
 pub const TRIED: i64 = 60_000;
 /// Up to so many letters are decided in all ways.
-const DECIDED: usize = 12;
+pub const DECIDED: usize = 12;
 
 /// Small chips by trying every position.
 pub fn small(random: &mut Random, count: usize) -> Result<Tally, Difference> {
@@ -116,7 +127,8 @@ pub fn chosen(random: &mut Random, bounds: &Bounds, wanted: impl Fn(&Chip) -> bo
     }
 }
 
-/// Places a chip into a buffer that is too short, then into one that is exact or longer.
+/// Places a chip into a buffer that is too short, then into one that is exact or longer. One that
+/// has room for the record alone is too short where boxes follow.
 pub fn compare_chip(
     random: &mut Random,
     service: Service,
@@ -124,27 +136,36 @@ pub fn compare_chip(
     best: Option<Placed>,
     tally: &mut Tally,
 ) -> Result<(), Difference> {
-    let record = record_text(best.as_ref());
-    let below = random.below(record.len());
-    let short = random.pick(&[0, below, record.len() - 1]);
+    let text = (service.text)(chip, best.as_ref());
+    let below = random.below(text.len());
+    let record = record_text(best.as_ref()).len();
+    let short = random.pick(&[0, below, record, text.len() - 1]).min(text.len() - 1);
     compare(service, &chip.text(), short, &[], Answer::new(15, 0), tally)?;
-    let enough = record.len() + random.pick(&[0, 1, 5, 300]);
-    let written = Answer::new(YES, record.len() as u64);
-    compare(service, &chip.text(), enough, &record, written, tally)
+    let enough = text.len() + random.pick(&[0, 1, 5, 300]);
+    let written = Answer::new(YES, text.len() as u64);
+    compare(service, &chip.text(), enough, &text, written, tally)
 }
 
-/// The buffer must begin with `record` and hold what it held from there on.
+/// What a service writes into a buffer of that length; not tested.
+pub fn output(service: Service, text: &[u8], length: usize) -> Vec<u8> {
+    let mut out = blank_bytes(length);
+    let answer = (service.call)(text, &mut out);
+    out.truncate(if answer.number == YES { answer.value as usize } else { 0 });
+    out
+}
+
+/// The buffer must begin with `written` and hold what it held from there on.
 pub fn compare(
     service: Service,
     text: &[u8],
     length: usize,
-    record: &[u8],
+    written: &[u8],
     expected: Answer,
     tally: &mut Tally,
 ) -> Result<(), Difference> {
     let mut wanted = blank_bytes(length);
     let mut out = wanted.clone();
-    wanted[..record.len()].copy_from_slice(record);
+    wanted[..written.len()].copy_from_slice(written);
     let found = (service.call)(text, &mut out);
     if found != expected || out != wanted {
         return Err(Difference {

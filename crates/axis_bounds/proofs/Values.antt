@@ -6,7 +6,8 @@ use native.Mathlib.Omega.{arith}
 use lib.ListN.{length, getD, length-map, List·getD-append}
 use lib.Seq.{getD-append-add}
 use Rattle.num_laws.proofs.Sums.{sum-eq, sum-add}
-use Rattle.num_laws.proofs.Spreads.{AtMost, top, bottom, top-bottom, each-le-top, bottom-le-each, top-le}
+use Rattle.num_laws.specs.Spread.{top, bottom}
+use Rattle.num_laws.proofs.Spreads.{AtMost, top-bottom, each-le-top, bottom-le-each, top-le}
 use Rattle.flow_laws.specs.Flow.{weigh}
 use Rattle.axis_bounds.specs.Axis.{Axis, NetOn, bareNet, valueAt, Keeps, places, lengthOn, WellFormed}
 use Rattle.axis_bounds.specs.Listed.{amount, hiNode, loNode, weightOf}

@@ -16,8 +16,7 @@ use Rattle.num_laws.specs.Spread.{spread}
 use Rattle.num_laws.proofs.Differences.{sub-up, sub-down}
 use Rattle.placement.specs.Length as plane
 use Rattle.placement.specs.Length.{origin, pinX, pinY, netLength, wirelength}
-use Rattle.placement.specs.Integers.{span}
-use Rattle.placement.proofs.Spans.{shifted, span-shift, add-shift}
+use Rattle.placement.proofs.Spans.{shifted, across, span-shift, add-shift}
 use Rattle.axis_bounds.specs.Axis.{valueAt, places, netsLength, lengthOn}
 use Rattle.placement.specs.Letters.{Letter}
 use Rattle.fit_slots.specs.declared.Direction.{Direction}
@@ -58,8 +57,8 @@ pins-at : (d : Direction) (n : ℕ) (ps : List Spot) (qs : List Pin) → ((i : �
 pins-at d n ps [] h = refl
 pins-at d n ps (q ∷ qs) h = rw (pin-at d n ps q (h 0 (omega arith)), pins-at d n ps qs (λ i l. h (suc i) (omega arith)))
 
-net-span : (d : Direction) (n : ℕ) (ps : List Spot) (t : Net) → ValidNet n t → span (map (placeAt d ps) (t .pins)) ≡ spread (places (cornersOn d ps) (map (axisPin d) (t .pins)))
-net-span d n ps t v = ap span (pins-at d n ps (t .pins) (v .pin)) ∙ span-shift 4096 (places (cornersOn d ps) (map (axisPin d) (t .pins)))
+net-span : (d : Direction) (n : ℕ) (ps : List Spot) (t : Net) → ValidNet n t → across (map (placeAt d ps) (t .pins)) ≡ spread (places (cornersOn d ps) (map (axisPin d) (t .pins)))
+net-span d n ps t v = ap across (pins-at d n ps (t .pins) (v .pin)) ∙ span-shift 4096 (places (cornersOn d ps) (map (axisPin d) (t .pins)))
 
 nets-split : (n : ℕ) (ps : List Spot) (ts : List Net) → ((j : ℕ) → j < length ts → ValidNet n (getD ts j noNet)) → plane.netsLength ps ts ≡ netsLength (cornersOn horizontal ps) (map (axisNet horizontal) ts) + netsLength (cornersOn vertical ps) (map (axisNet vertical) ts)
 unfolding plane.netsLength netsLength netLength

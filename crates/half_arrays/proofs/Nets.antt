@@ -7,9 +7,9 @@ use native.Mathlib.Omega.{arith}
 use lib.ListN.{length, getD}
 use borrow.Author.Tests.{eq-eqb, ne-eqb}
 use Rattle.num_laws.specs.Sum.{sum}
-use Rattle.num_laws.specs.Spread.{spread}
+use Rattle.num_laws.specs.Spread.{top, bottom, spread}
 use Rattle.num_laws.proofs.Sums.{sum-eq, sum-first}
-use Rattle.num_laws.proofs.Spreads.{top, bottom, each-le-top, bottom-le-each}
+use Rattle.num_laws.proofs.Spreads.{each-le-top, bottom-le-each}
 use Rattle.axis_bounds.specs.declared.AxisPin.{AxisPin}
 use Rattle.axis_bounds.specs.Axis.{netsLength, places, placeOf, valueAt, noPin}
 use Rattle.axis_bounds.proofs.Places.{length-places, place-at}

@@ -25,12 +25,13 @@ use Rattle.placement.proofs.Integers.{legal-same}
 use Rattle.placement.proofs.Nearby.{within-long, legal-inside}
 use Rattle.beside_check.specs.declared.AtFault.the-variants as text
 use Rattle.beside_check.specs.Beside.{passed, refused, besideTests, notOfChip, besideRead, checkBeside}
-use Rattle.search.specs.Place.{placeText}
+use Rattle.search.specs.Place.{recordFor, placeText}
 use Rattle.search.proofs.Demand3.{place-means}
 use Rattle.search.proofs.RecordsRead.{chip-record-read}
 use Rattle.quote.specs.Quote.{quoteText}
 use Rattle.place_print.specs.DemandZ.{SaysNoneZ, SaysLeastZ}
-use Rattle.place_print.specs.Printed.{printedRead, printed}
+use Rattle.text_refusal.specs.Refusal.{printedFor}
+use Rattle.place_print.specs.Printed.{printed}
 use Rattle.place_print.proofs.DemandZ.{record-says}
 use Rattle.host_laws.proofs.QuotingPage.{page-writes}
 
@@ -152,7 +153,7 @@ placed-passes text out k e =
 
 -- what the program `place` prints for a chip too
 pub printed-passes : (text : List ℕ) (c : Chip) → readChip text ≡ accepted c → checkBeside text (printed text) ≡ passed
-printed-passes text c e = ap (λ (r : Reading Chip). checkBeside text (printedRead r)) e ∙ record-passes text c e
+printed-passes text c e = ap (λ (r : Reading Chip). checkBeside text (printedFor recordFor r)) e ∙ record-passes text c e
 
 -- and the quoting page's records
 pub quoted-passes : (text out : List ℕ) (k : ℕ) → quoteText text out .answer ≡ wrote k → checkBeside text (take k (quoteText text out .buffer)) ≡ passed

@@ -11,6 +11,7 @@ ghost use Rattle.chip_text.specs.Text.{readChip};
 ghost use Rattle.record_text.specs.Text.{readRecord};
 ghost use Rattle.search.specs.Place.{placeText};
 ghost use Rattle.quote.specs.Quote.{quoteText};
+ghost use Rattle.place_boxes.specs.Boxes.{boxesText};
 ghost use Rattle.beside_check.specs.Beside.{checkBeside};
 ghost use Rattle.host_codes.specs.Code.{code, ofReading, ofAnswer, ofMeasure, ofFit};
 ghost use Rattle.host_beside.specs.CodeBeside.{besideCode};
@@ -35,6 +36,17 @@ pub extern "C" fn jizdovel_quote(text: &[u8], out: &mut [u8], value: &mut u64) -
     ensures { λ r. ⌜ now (out .exit) ≡ quoteText (now (text .entry)) (now (out .entry)) .buffer ⌝ }
 {
     let r = answer_code(quote::quote_text(text, out));
+    *value = r.value;
+    r.number
+}
+
+// Chip text to record text, and after it the box of each net.
+#[no_mangle]
+pub extern "C" fn jizdovel_boxes(text: &[u8], out: &mut [u8], value: &mut u64) -> u64
+    ensures { λ r. ⌜ record { number = r; value = now (value .exit) } ≡ code (ofAnswer (boxesText (now (text .entry)) (now (out .entry)) .answer)) ⌝ }
+    ensures { λ r. ⌜ now (out .exit) ≡ boxesText (now (text .entry)) (now (out .entry)) .buffer ⌝ }
+{
+    let r = answer_code(place_boxes::boxes_text(text, out));
     *value = r.value;
     r.number
 }

@@ -1,10 +1,10 @@
--- The nets of a tested chip held as a value: no number of theirs reaches the limit up to which it counts, so the sum of their lengths in raised numbers is the wirelength.
+-- The nets of a tested chip held as a value: no number of theirs reaches the limit up to which it counts, so their held boxes are their boxes (`box-told`), and the sum of their lengths in raised numbers is the wirelength (`length-whole`).
 use mathlib.Core.Path.{_≡_, refl, sym, ap, _∙_}
 use mathlib.Core.List.{List, [], _∷_, map}
-use Prim.Native.Nat.{ℕ, zero, suc, _+_, _*_, _≤_, _<_, min}
+use Prim.Native.Nat.{ℕ, zero, suc, _+_, _-_, _*_, _≤_, _<_, min}
 use native.Mathlib.Nat.{zero-add, suc-add}
 use native.Mathlib.Omega.{arith}
-use lib.ListN.{length, getD, take, drop, drop-of-length-le}
+use lib.ListN.{length, getD, take, drop, drop-of-length-le, length-map}
 use lib.Seq.{slice, take-nil, drop-cons, getD-take, getD-drop, length-slice}
 use Rattle.model.specs.declared.Spot.{Spot}
 use Rattle.model.specs.declared.Net.{Net as HeldNet}
@@ -14,13 +14,15 @@ use Rattle.model.specs.Meaning.{Net, chipOf, pinsOf, blankNet, blankPin, blankS
 use Rattle.chip_text.specs.Valid.{noNet, pinsBefore, HeldValidPin, HeldValid}
 use Rattle.chip_text.proofs.HeldNets.{pins-before-more, pins-before-up}
 use Rattle.chip_text.proofs.HeldMeaning.{weight-held, nets-held, pins-held}
-use Rattle.placement.specs.Length.{origin, netLength, netsLength, wirelength}
+use Rattle.placement.specs.Length.{origin, netBox, netLength, netsLength, wirelength}
 use Rattle.placement.specs.Corners.{CornersWithin}
-use Rattle.placement.proofs.Spans.{upX, upY, held-length}
+use Rattle.placement.proofs.Spans.{upX, upY, least-of-shift, greatest-of-shift, held-box, held-length}
 use Rattle.placement.proofs.LengthBound.{origin-near}
-use Rattle.num_laws.specs.Spread.{spread}
-use Rattle.measure_nets.specs.Held.{limited, heldX, heldY, halfPerimeter, netHeld}
-use Rattle.measure_held.specs.Held.{lengthTo, lengthHeld}
+use Rattle.num_laws.specs.Spread.{top, bottom, spread}
+use Rattle.num_laws.proofs.Spreads.{top-bottom}
+use Rattle.measure_nets.specs.Box.{boxOf}
+use Rattle.measure_nets.specs.Held.{limited, heldX, heldY, boxLengthHeld}
+use Rattle.measure_held.specs.Held.{boxAt, lengthTo, lengthHeld}
 
 -- the corners of the first n macros
 origin-first : (n : ℕ) (s : List Spot) (m : ℕ) → m ≤ n → origin (take n s) m ≡ origin s m
@@ -77,34 +79,57 @@ module _ (c : HeldChip) (fine : HeldValid c) (s : List Spot) (near : CornersWith
           let k : from + i < to = omega (arith, fine .pins, within, length-slice from to (c .pins) (omega (arith, fine .pins, within))) in
           rw (getD-drop from (take to (c .pins)) i blankPin, getD-take to (c .pins) (from + i) blankPin k) (fine .pin (from + i) (omega (arith, within)))
 
-      -- half the way around its pins
-      abbrev half : ℕ
-      half = spread (map (upX its-spots) its) + spread (map (upY its-spots) its)
+      -- where its pins lie, 4,096 higher
+      abbrev xs : List ℕ
+      xs = map (upX its-spots) its
 
-      half-held : halfPerimeter s its ≡ half
-      half-held = rw (
+      abbrev ys : List ℕ
+      ys = map (upY its-spots) its
+
+      box-held : boxAt s (c .nets) (c .pins) j ≡ record { left = bottom xs; right = top xs; bottom = bottom ys; top = top ys }
+      box-held = rw (
         map-same (heldX s) (upX its-spots) its (λ i l. x-held (getD its i blankPin) (each-fine i l)),
         map-same (heldY s) (upY its-spots) its (λ i l. y-held (getD its i blankPin) (each-fine i l)),
       )
+
+      same-net : (t : Net) (w : ℕ) → t .weight ≡ w → t .pins ≡ pinsOf its → t ≡ record { weight = w; pins = pinsOf its }
+      same-net t w e f = rw (← e, ← f)
+
+      its-net : getD (chipOf c .nets) j noNet ≡ record { weight = net .weight; pins = pinsOf its }
+      its-net = same-net (getD (chipOf c .nets) j noNet) (net .weight) (weight-held c j h) its-pins
+
+      -- its box
+      pub box-told : boxOf (boxAt s (c .nets) (c .pins) j) ≡ netBox its-spots (getD (chipOf c .nets) j noNet)
+      box-told =
+          let some = fine .net j h .some in
+          let l : length its ≡ net .pins = let k = length-slice from (from + net .pins) (c .pins) (omega (arith, fine .pins, within)) in omega arith in
+          let a : 0 < length xs = rw (length-map its (upX its-spots)) (omega arith) in
+          let b : 0 < length ys = rw (length-map its (upY its-spots)) (omega arith) in
+          ap boxOf box-held
+          ∙ sym (ap (netBox its-spots) its-net
+          ∙ held-box its-spots (net .weight) its
+          ∙ rw (least-of-shift 4096 xs a, greatest-of-shift 4096 xs a, least-of-shift 4096 ys b, greatest-of-shift 4096 ys b))
+
+      -- and its length
+      abbrev half : ℕ
+      half = spread xs + spread ys
 
       abbrev long : ℕ
       long = netLength its-spots (getD (chipOf c .nets) j noNet)
 
       net-long : long ≡ net .weight * half
-      unfolding netLength
-      net-long = same (getD (chipOf c .nets) j noNet) (net .weight) (weight-held c j h) its-pins ∙ held-length its-spots (net .weight) its
-        where
-          same : (t : Net) (w : ℕ) → t .weight ≡ w → t .pins ≡ pinsOf its → netLength its-spots t ≡ netLength its-spots (record { weight = w; pins = pinsOf its })
-          same t w e f = rw (e, f)
+      net-long = ap (netLength its-spots) its-net ∙ held-length its-spots (net .weight) its
 
-      net-same : long ≤ 589824000 → netHeld s (c .pins) net from ≡ long
-      unfolding netHeld
+      net-same : long ≤ 589824000 → boxLengthHeld (net .weight) (boxAt s (c .nets) (c .pins) j) ≡ long
       net-same few =
           let v = fine .net j h .weight in
           let e : limited (net .weight) ≡ net .weight = omega (arith, v .high) in
           let k = times-least (net .weight) half (v .low) in
-          let f : limited half ≡ half = omega (arith, net-long) in
-          ap (λ (t : ℕ). limited (net .weight) * limited t) half-held ∙ ap (λ (t : ℕ). t * limited half) e ∙ ap (λ (t : ℕ). net .weight * t) f ∙ sym net-long
+          let p = top-bottom xs in
+          let q = top-bottom ys in
+          let x : limited (top xs - bottom xs) ≡ spread xs = omega (arith, net-long) in
+          let y : limited (top ys - bottom ys) ≡ spread ys = omega (arith, net-long) in
+          ap (boxLengthHeld (net .weight)) box-held ∙ ap (λ (t : ℕ). t * (limited (top xs - bottom xs) + limited (top ys - bottom ys))) e ∙ ap (λ (t : ℕ). net .weight * (t + limited (top ys - bottom ys))) x ∙ ap (λ (t : ℕ). net .weight * (spread xs + t)) y ∙ sym net-long
 
     module _ (bound : wirelength (chipOf c) its-spots ≤ 589824000) where
       -- the lengths of the first j nets, and of those left

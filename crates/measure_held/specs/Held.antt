@@ -10,13 +10,18 @@ use Rattle.model.specs.declared.Pin.{Pin as HeldPin}
 use Rattle.model.specs.Meaning.{blankNet}
 use Rattle.model.specs.Limits.{mostNets}
 use Rattle.chip_text.specs.Valid.{pinsBefore}
-use Rattle.measure_nets.specs.Held.{netHeld}
+use Rattle.measure_nets.specs.declared.NetBox.{NetBox as HeldBox}
+use Rattle.measure_nets.specs.Held.{netBoxHeld, boxLengthHeld}
 use Rattle.measure_held.specs.Answer.{Measure, refused, measured}
 
--- the lengths of the first j nets
+-- the box of net j
+abbrev pub boxAt : List Spot → List HeldNet → List HeldPin → ℕ → HeldBox
+boxAt ps ts hs j = netBoxHeld ps hs (getD ts j blankNet) (pinsBefore j ts)
+
+-- the lengths of the first j nets, each from its box
 unfoldable pub lengthTo : List Spot → List HeldNet → List HeldPin → ℕ → ℕ
 lengthTo ps ts hs zero = 0
-lengthTo ps ts hs (suc j) = min (lengthTo ps ts hs j) 4294967296 + min (netHeld ps hs (getD ts j blankNet) (pinsBefore j ts)) 4294967296
+lengthTo ps ts hs (suc j) = min (lengthTo ps ts hs j) 4294967296 + min (boxLengthHeld (getD ts j blankNet .weight) (boxAt ps ts hs j)) 4294967296
 
 -- the lengths of a chip's nets
 abbrev pub lengthHeld : HeldChip → List Spot → ℕ

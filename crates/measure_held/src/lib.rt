@@ -30,7 +30,8 @@ pub fn length_of(c: Chip, spots: [Spot; Mac::COUNT]) -> u64
             return total;
         }
         let net = nets[j];
-        total = sum(total, measure_nets::net_length(spots, pins, net, from));
+        let b = measure_nets::net_box(spots, pins, from, net.pins);
+        total = sum(total, measure_nets::net_length(net.weight, b));
         from = measure_nets::end_of(from, net.pins);
         j += 1;
     }

@@ -1,18 +1,17 @@
-// How long a net is, for any net, pins and positions (document 01, "Legal, and how long").
+// The box of a net, for any pins and positions (document 02, Card 2), and how long a net with a box is (document 01, "Legal, and how long").
 // Numbers count up to a limit that those of a tested chip do not reach.
 use model::Mac;
-use model::Net;
 use model::Pin;
 use model::Spot;
 use num_limits::greater;
 use num_limits::lesser;
 ghost use mathlib.Core.Path.{_≡_};
-ghost use Prim.Native.Nat.{_+_, min};
+ghost use Prim.Native.Nat.{_+_, _-_, min};
 ghost use lib.Seq.{slice};
 ghost use Rattle.placement.specs.Length.{origin};
-ghost use Rattle.measure_nets.specs.Held.{heldX, heldY, withPin, halfPerimeter, netHeld};
+ghost use Rattle.measure_nets.specs.Held.{limited, heldX, heldY, withPin, boxHeld, boxLengthHeld};
 
-// Coordinates and weights count up to this, and the way around a net's pins.
+// Coordinates and weights count up to this, and the sides of a box.
 const MOST: u64 = 2147483648;
 
 // The corner that a pin's x and y are added to: the macro's, or 0,0 for a pad and for a macro that there is not.
@@ -38,27 +37,27 @@ fn place_of(spots: [Spot; Mac::COUNT], p: Pin) -> Spot
     Spot { x, y }
 }
 
-// The least and the greatest places of some pins.
-struct Extent {
-    left: u64,
-    right: u64,
-    low: u64,
-    high: u64,
+// The box of a net: its least and greatest x and y, each held higher by Pin::UP.
+pub struct NetBox {
+    pub left: u64,
+    pub right: u64,
+    pub bottom: u64,
+    pub top: u64,
 }
 
 // The same with one pin more.
-fn with_pin(e: Extent, p: Spot) -> Extent
-    ensures { λ r. ⌜ r ≡ withPin e p ⌝ }
+fn with_pin(b: NetBox, p: Spot) -> NetBox
+    ensures { λ r. ⌜ r ≡ withPin b p ⌝ }
 {
-    let left = lesser(e.left, p.x);
-    let right = greater(e.right, p.x);
-    let low = lesser(e.low, p.y);
-    let high = greater(e.high, p.y);
-    Extent {
+    let left = lesser(b.left, p.x);
+    let right = greater(b.right, p.x);
+    let bottom = lesser(b.bottom, p.y);
+    let top = greater(b.top, p.y);
+    NetBox {
         left,
         right,
-        low,
-        high,
+        bottom,
+        top,
     }
 }
 
@@ -75,39 +74,55 @@ pub fn end_of(from: usize, count: usize) -> usize
     from + count
 }
 
-// Greatest x less least x, plus greatest y less least y, over as many pins from `from` on.
-fn half_perimeter(
+// The box of a net with as many pins from `from` on; of none, all ends are held as 0.
+pub fn net_box(
     spots: [Spot; Mac::COUNT],
     pins: [Pin; Pin::COUNT],
     from: usize,
     count: usize,
-) -> u64
-    ensures { λ r. ⌜ r ≡ halfPerimeter spots (slice from (from + count) pins) ⌝ }
+) -> NetBox
+    ensures { λ r. ⌜ r ≡ boxHeld spots (slice from (from + count) pins) ⌝ }
 {
     let to = end_of(from, count);
     if to <= from {
-        return 0;
+        return NetBox {
+            left: 0,
+            right: 0,
+            bottom: 0,
+            top: 0,
+        };
     }
     let first = place_of(spots, pins[from]);
-    let mut e = Extent {
+    let mut b = NetBox {
         left: first.x,
         right: first.x,
-        low: first.y,
-        high: first.y,
+        bottom: first.y,
+        top: first.y,
     };
     let mut i = from + 1;
     while i < to {
         let p = place_of(spots, pins[i]);
-        e = with_pin(e, p);
+        b = with_pin(b, p);
         i += 1;
     }
-    (e.right - e.left) + (e.high - e.low)
+    b
 }
 
-// The length of a net whose pins stand from `from` on: its weight times half the way around them.
-pub fn net_length(spots: [Spot; Mac::COUNT], pins: [Pin; Pin::COUNT], net: Net, from: usize) -> u64
-    ensures { λ r. ⌜ r ≡ netHeld spots pins net from ⌝ }
+// A side of a box: from its least place to its greatest.
+fn side(least: u64, greatest: u64) -> u64
+    ensures { λ r. ⌜ r ≡ limited (greatest - least) ⌝ }
 {
-    let half = half_perimeter(spots, pins, from, net.pins);
-    lesser(net.weight, MOST) * lesser(half, MOST)
+    if greatest < least {
+        return 0;
+    }
+    lesser(greatest - least, MOST)
+}
+
+// The length of a net of that weight with that box: the weight times its width plus its height.
+pub fn net_length(weight: u64, b: NetBox) -> u64
+    ensures { λ r. ⌜ r ≡ boxLengthHeld weight b ⌝ }
+{
+    let width = side(b.left, b.right);
+    let height = side(b.bottom, b.top);
+    lesser(weight, MOST) * (width + height)
 }

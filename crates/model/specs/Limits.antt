@@ -1,5 +1,5 @@
--- The limits of document 01, "The chip file" and "The search and its record", each with the thing that it limits.
-use Prim.Native.Nat.{ℕ}
+-- The limits of document 01, "The chip file" and "The search and its record", and of document 02, Card 2, each with the thing that it limits.
+use Prim.Native.Nat.{ℕ, _+_}
 use mathlib.Core.Bool.{Bool, _&&_}
 use lib.IntN.{ℤ, pos, negℤ}
 use lib.Signed.{leZ}
@@ -80,3 +80,11 @@ placedMacro = record { least = pos 1; most = pos mostMacs }
 -- x and y of a record: a macro's corner
 abbrev pub placedCorner : Range
 placedCorner = record { least = pos 0; most = pos 1024 }
+
+-- n of a box line: the number of a net (document 02, Card 2)
+abbrev pub boxedNet : Range
+boxedNet = record { least = pos 1; most = pos mostNets }
+
+-- l, r, b and t of a box line: where a pin of a net can lie, beside 0 or a corner up to 1,024
+abbrev pub boxEnd : Range
+boxEnd = record { least = negℤ (pos mostPlace); most = pos (1024 + mostPlace) }

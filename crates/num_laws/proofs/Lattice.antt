@@ -4,8 +4,8 @@ use mathlib.Core.Path.{_≡_}
 use mathlib.Core.List.{List, [], _∷_}
 use native.Mathlib.Omega.{arith}
 use lib.ListN.{length, getD}
-use Rattle.num_laws.specs.Spread.{spread}
-use Rattle.num_laws.proofs.Spreads.{top, bottom, top-bottom, each-le-top, bottom-le-each, top-le, le-bottom}
+use Rattle.num_laws.specs.Spread.{top, bottom, spread}
+use Rattle.num_laws.proofs.Spreads.{top-bottom, each-le-top, bottom-le-each, top-le, le-bottom}
 
 -- s and t are equally long; u holds the smaller and v the larger of each two of their numbers
 pub record Extremes (s t u v : List ℕ) : Type 0 where

@@ -5,7 +5,7 @@ use mathlib.Core.List.{List, [], _∷_}
 use native.Mathlib.Nat.{le-of-suc-le-suc}
 use native.Mathlib.Omega.{arith}
 use lib.ListN.{length, getD}
-use Rattle.num_laws.specs.Spread.{most, fewest, spread}
+use Rattle.num_laws.specs.Spread.{most, fewest, top, bottom, spread}
 
 -- every number of the list is at most b
 pub record AtMost (b : ℕ) (s : List ℕ) : Type 0 where
@@ -72,14 +72,7 @@ unfolding fewest
 le-fewest b a [] l h = l
 le-fewest b a (c ∷ s) l h = let g = first-at-least b c s h in le-fewest b (min a c) s (omega arith) (rest-at-least b c s h)
 
--- the greatest and the least of a list; of none, 0
-unfoldable pub top : List ℕ → ℕ
-top [] = 0
-top (a ∷ s) = most a s
-
-unfoldable pub bottom : List ℕ → ℕ
-bottom [] = 0
-bottom (a ∷ s) = fewest a s
+-- ---- the greatest and the least of a list
 
 pub top-bottom : (s : List ℕ) → top s ≡ bottom s + spread s
 unfolding top bottom spread

@@ -1,4 +1,4 @@
--- The spread of a list of numbers: the greatest less the least.
+-- The greatest and the least of a list of numbers, and its spread: the greatest less the least.
 use Prim.Native.Nat.{ℕ, _-_, min, max}
 use mathlib.Core.List.{List, [], _∷_}
 
@@ -11,6 +11,15 @@ most a (b ∷ s) = most (max a b) s
 unfoldable pub fewest : ℕ → List ℕ → ℕ
 fewest a [] = a
 fewest a (b ∷ s) = fewest (min a b) s
+
+-- the greatest and the least of a list; of none, 0
+unfoldable pub top : List ℕ → ℕ
+top [] = 0
+top (a ∷ s) = most a s
+
+unfoldable pub bottom : List ℕ → ℕ
+bottom [] = 0
+bottom (a ∷ s) = fewest a s
 
 -- no number, no spread
 unfoldable pub spread : List ℕ → ℕ

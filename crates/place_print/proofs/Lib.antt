@@ -1,4 +1,4 @@
-pub mod PrintedShort
 pub mod Printing
+pub mod PrintedShort
 pub mod Refusals
 pub mod DemandZ

@@ -11,7 +11,7 @@ use Rattle.model.specs.declared.Spot.{Spot}
 use Rattle.model.specs.Meaning.{Chip, Record}
 use Rattle.refusals.specs.Tests.{Test, firstFailed, unlessFailed}
 use Rattle.text_grammar.specs.Reading.{Reading, accepted, refused}
-use Rattle.text_grammar.specs.Writing.{notWritten, ifRoom, writeText}
+use Rattle.text_grammar.specs.Writing.{notWritten, ifRoom, writeText, writeRead}
 use Rattle.text_grammar.proofs.Lacks.{and-left, and-right}
 use Rattle.chip_text.specs.Text.{readChip, chipText, writeChip}
 use Rattle.record_text.specs.Text.{readRecord, recordText, writeRecord}
@@ -21,7 +21,7 @@ use Rattle.measure_tests.specs.Positions.{measureTests}
 use Rattle.measure_held.specs.Answer.{Measure, measured, refused as notMeasured}
 use Rattle.measure.specs.Measuring.{afterReading, measurePassed, measurePositions}
 use Rattle.fit_slots.specs.Fit.{refusedBy, lettersOf, slotCount, bestFit, stringFor, fitTests, fitChip, fitLetters}
-use Rattle.search.specs.Place.{searchChip, placeRead, placeText}
+use Rattle.search.specs.Place.{recordFor, searchChip, placeText}
 use Rattle.place_print.specs.Printed.{printed, printText}
 use Rattle.text_grammar.proofs.Numbers.{Numbered}
 use Rattle.chip_text.proofs.Numbers.{chip-number}
@@ -56,12 +56,16 @@ module _ (out : List ℕ) (n l : ℕ) where
   pub search-number : (c : Chip) → searchChip c out .answer ≡ notWritten n l → Numbered 15 n
   search-number c e = write-told (readChip (chipText c)) (recordText (chipRecord c)) out n l (chip-number (chipText c)) e
 
-  pub place-number : (text : List ℕ) → placeText text out .answer ≡ notWritten n l → Numbered 15 n
-  place-number text e = by (readChip text) refl e
+  -- whatever text belongs to a chip
+  pub read-number : (f : Chip → List ℕ) (text : List ℕ) → writeRead f (readChip text) out .answer ≡ notWritten n l → Numbered 15 n
+  read-number f text e = by (readChip text) refl e
     where
-      by : (r : Reading Chip) → readChip text ≡ r → placeRead r out .answer ≡ notWritten n l → Numbered 15 n
-      by (accepted c) t q = room-told (leb (length (recordText (chipRecord c))) (length out)) (recordText (chipRecord c)) out n l q
+      by : (r : Reading Chip) → readChip text ≡ r → writeRead f r out .answer ≡ notWritten n l → Numbered 15 n
+      by (accepted c) t q = room-told (leb (length (f c)) (length out)) (f c) out n l q
       by (refused k m) t q = wider k n (chip-number text k m t) cc
+
+  pub place-number : (text : List ℕ) → placeText text out .answer ≡ notWritten n l → Numbered 15 n
+  place-number = read-number recordFor
 
   pub print-number : (text : List ℕ) → printText text out .answer ≡ notWritten n l → Numbered 15 n
   print-number text e = room-told (leb (length (printed text)) (length out)) (printed text) out n l e

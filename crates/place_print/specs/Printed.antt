@@ -4,22 +4,14 @@ use Prim.Native.Nat.{ℕ}
 use mathlib.Core.List.{List}
 use lib.Dec.{leb}
 use lib.ListN.{length}
-use Rattle.model.specs.Meaning.{Chip}
-use Rattle.text_grammar.specs.Reading.{Reading, accepted, refused}
 use Rattle.text_grammar.specs.Writing.{Written, ifRoom}
 use Rattle.chip_text.specs.Text.{readChip}
-use Rattle.record_text.specs.Text.{recordText}
-use Rattle.placement.specs.Least.{chipRecord}
-use Rattle.text_refusal.specs.Refusal.{refusalLine}
+use Rattle.text_refusal.specs.Refusal.{printedFor}
+use Rattle.search.specs.Place.{recordFor}
 
--- the text of the chip's record, or the line of the refusal
-abbrev pub printedRead : Reading Chip → List ℕ
-printedRead (accepted c) = recordText (chipRecord c)
-printedRead (refused n l) = refusalLine n l
-
--- the bytes that are printed for a text
+-- the bytes that are printed for a text: the text of the chip's record, or the line of the refusal
 abbrev pub printed : List ℕ → List ℕ
-printed text = printedRead (readChip text)
+printed text = printedFor recordFor (readChip text)
 
 -- the same into a lent buffer: in its first bytes, and the rest as it was; 15 where the buffer is shorter, and all of it as it was
 abbrev pub printText : List ℕ → List ℕ → Written

@@ -1,5 +1,5 @@
--- Legality, letters, wirelength and order over integer corners are those over natural corners, and a placement that is legal or keeps letters over the integers has natural corners: nothing is lost.
-use Prim.Native.Nat.{ℕ, zero, suc, _+_, _*_, _<_}
+-- Legality, letters, boxes, wirelength and order over integer corners are those over natural corners, and a placement that is legal or keeps letters over the integers has natural corners: nothing is lost.
+use Prim.Native.Nat.{ℕ, zero, suc, _+_, _<_}
 use mathlib.Core.Path.{_≡_, refl, sym, ap, _∙_, fun-ext}
 use mathlib.Core.List.{List, [], _∷_, _++_, map, zipWith, flatMap, product, map-append}
 use mathlib.Core.Bool.{Bool, true, false, _&&_, _||_, false≢true}
@@ -18,10 +18,10 @@ use Rattle.model.specs.Meaning.{Pin, Net, Chip, blankSpot}
 use Rattle.text_grammar.proofs.Lacks.{and-left, and-right}
 use Rattle.geometry.specs.declared.Box.{Box}
 use Rattle.geometry.specs.Box.{apart, inDie, boxOf}
-use Rattle.placement.specs.Integers.{Corner, Rect, rectAt, rectOf, gapOf, apartZ, inDieZ, rects, withinZ, eachTwo, pairsZ, legalZ, span, zeroCorner, originZ, pinXZ, pinYZ, netsLengthZ, wirelengthZ, smallerFirst, beforeZ, EarliestLeastZ, integers}
+use Rattle.placement.specs.Integers.{Corner, Rect, rectAt, rectOf, gapOf, apartZ, inDieZ, rects, withinZ, eachTwo, pairsZ, legalZ, zeroCorner, originZ, pinXZ, pinYZ, NetBox, boxAround, netBoxZ, boxLength, netsLengthZ, wirelengthZ, smallerFirst, beforeZ, EarliestLeastZ, integers}
 use Rattle.placement.specs.Letters.{Letter, left, right, low, high, dot, keepsZ, keepsAllZ, keepsLettersZ}
 use Rattle.placement.specs.Legal.{boxes, fixBoxes, within, legal}
-use Rattle.placement.specs.Length.{origin, pinX, pinY, netLength, netsLength, wirelength}
+use Rattle.placement.specs.Length.{origin, pinX, pinY, netBox, netLength, netsLength, wirelength}
 use Rattle.placement.specs.Order.{keys, firstSmaller, before}
 use Rattle.placement.specs.Pairs.{keeps, Pair, with, pairsOf, withEach, pairs, keepsAll, keepsLetters}
 use Rattle.placement.specs.Demand.{EarliestLeast}
@@ -182,7 +182,7 @@ module _ (c : Chip) where
   pub natural-letters : (ls : List Letter) (ps : List Corner) → keepsLettersZ c ls ps ≡ true → keepsLetters c ls (naturals ps) ≡ true
   natural-letters ls ps e = sym (letters-same c ls (naturals ps)) ∙ ap (keepsLettersZ c ls) (sym (letters-natural ls ps e)) ∙ e
 
--- ---- how long
+-- ---- the boxes of nets, and how long
 
 corner-at : (ps : List Spot) (i : ℕ) → getD (integers ps) i zeroCorner ≡ cornerOf (getD ps i blankSpot)
 corner-at [] i = refl
@@ -199,13 +199,17 @@ pin-x-same ps = fun-ext (λ (p : Pin). ap (λ (q : Corner). q .x +ℤ p .x) (ori
 pin-y-same : (ps : List Spot) → pinYZ (integers ps) ≡ pinY ps
 pin-y-same ps = fun-ext (λ (p : Pin). ap (λ (q : Corner). q .y +ℤ p .y) (origin-same ps (p .m)))
 
+pub box-same : (ps : List Spot) (t : Net) → netBoxZ (integers ps) t ≡ netBox ps t
+box-same ps t =
+    ap (λ (f : Pin → ℤ). boxAround (map f (t .pins)) (map (pinYZ (integers ps)) (t .pins))) (pin-x-same ps)
+    ∙ ap (λ (f : Pin → ℤ). boxAround (map (pinX ps) (t .pins)) (map f (t .pins))) (pin-y-same ps)
+
 nets-same : (ps : List Spot) (ts : List Net) → netsLengthZ (integers ps) ts ≡ netsLength ps ts
 unfolding netsLengthZ netsLength netLength
 nets-same ps [] = refl
 nets-same ps (t ∷ ts) =
-    ap (λ (f : Pin → ℤ). t .weight * (span (map f (t .pins)) + span (map (pinYZ (integers ps)) (t .pins))) + netsLengthZ (integers ps) ts) (pin-x-same ps)
-    ∙ ap (λ (f : Pin → ℤ). t .weight * (span (map (pinX ps) (t .pins)) + span (map f (t .pins))) + netsLengthZ (integers ps) ts) (pin-y-same ps)
-    ∙ ap (λ (k : ℕ). t .weight * (span (map (pinX ps) (t .pins)) + span (map (pinY ps) (t .pins))) + k) (nets-same ps ts)
+    ap (λ (b : NetBox). boxLength (t .weight) b + netsLengthZ (integers ps) ts) (box-same ps t)
+    ∙ ap (λ (k : ℕ). boxLength (t .weight) (netBox ps t) + k) (nets-same ps ts)
 
 pub length-same : (c : Chip) (ps : List Spot) → wirelengthZ c (integers ps) ≡ wirelength c ps
 length-same c ps = nets-same ps (c .nets)

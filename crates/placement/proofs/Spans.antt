@@ -1,4 +1,4 @@
--- The span of places in natural numbers. The program holds each place 4,096 higher, so that none is negative; a shift of all places keeps their order and every difference, so the span of the integers is the spread of the raised numbers: `span-shift`. `held-length` is a held net's length in raised numbers.
+-- The ends of places in natural numbers. The program holds each place 4,096 higher, so that none is negative; a shift of all places keeps their order and every difference, so the least and the greatest of the integers are those of the raised numbers, shifted back (`ends-shift`), and the one less the other is the spread of the raised numbers (`span-shift`). `held-box` and `held-length` are a held net's box and length in raised numbers.
 use Prim.Native.Nat.{ℕ, zero, suc, _+_, _-_, _*_, _≤_, _<_, min, max}
 use mathlib.Core.Path.{_≡_, refl, ap, _∙_}
 use mathlib.Core.List.{List, [], _∷_, map}
@@ -6,22 +6,23 @@ use mathlib.Core.Bool.{cond}
 use native.Mathlib.Decide.{decLe, decLt}
 use native.Mathlib.Omega.{arith}
 use lib.IntN.{ℤ, pos, negsuc, negℤ, _+ℤ_, subℕ, natAbs}
+use lib.ListN.{length}
 use lib.Signed.{leZ}
 use borrow.Author.Tests.{le-leb, lt-leb}
 use Rattle.model.specs.declared.Spot.{Spot}
 use Rattle.model.specs.declared.Pin.{Pin as HeldPin}
 use Rattle.model.specs.Meaning.{Pin, pinOf, pinsOf}
-use Rattle.num_laws.specs.Spread.{most, fewest, spread}
+use Rattle.num_laws.specs.Spread.{most, fewest, top, bottom, spread}
 use Rattle.num_laws.proofs.Differences.{sub-up, sub-down, shift-order}
 use Rattle.num_laws.proofs.Spreads.{fewest-le-most}
-use Rattle.placement.specs.Length.{origin, pinX, pinY, netLength}
-use Rattle.placement.specs.Integers.{greatest, least, span}
+use Rattle.placement.specs.Length.{origin, pinX, pinY, netBox, netLength}
+use Rattle.placement.specs.Integers.{greatest, least, greatestOf, leastOf, NetBox, boxAround, span, boxLength}
 
 -- the larger and the smaller of two places
-abbrev larger : ℤ → ℤ → ℤ
+abbrev pub larger : ℤ → ℤ → ℤ
 larger a b = cond (leZ a b) b a
 
-abbrev smaller : ℤ → ℤ → ℤ
+abbrev pub smaller : ℤ → ℤ → ℤ
 smaller a b = cond (leZ a b) a b
 
 shift-larger : (b p q : ℕ) → larger (subℕ p b) (subℕ q b) ≡ subℕ (max p q) b
@@ -66,8 +67,23 @@ unfolding least fewest
 least-shift b a [] = refl
 least-shift b a (u ∷ us) = ap (λ (z : ℤ). least z (shifted b us)) (shift-smaller b a u) ∙ least-shift b (min a u) us
 
-pub span-shift : (b : ℕ) (us : List ℕ) → span (shifted b us) ≡ spread us
-unfolding span spread
+-- of places of which there is one
+pub greatest-of-shift : (b : ℕ) (us : List ℕ) → 0 < length us → greatestOf (shifted b us) ≡ subℕ (top us) b
+unfolding greatestOf top
+greatest-of-shift b [] l = absurd (omega arith)
+greatest-of-shift b (a ∷ us) l = greatest-shift b a us
+
+pub least-of-shift : (b : ℕ) (us : List ℕ) → 0 < length us → leastOf (shifted b us) ≡ subℕ (bottom us) b
+unfolding leastOf bottom
+least-of-shift b [] l = absurd (omega arith)
+least-of-shift b (a ∷ us) l = least-shift b a us
+
+-- from the least to the greatest of places
+abbrev pub across : List ℤ → ℕ
+across s = span (leastOf s) (greatestOf s)
+
+pub span-shift : (b : ℕ) (us : List ℕ) → across (shifted b us) ≡ spread us
+unfolding greatestOf leastOf spread
 span-shift b [] = refl
 span-shift b (a ∷ us) = rw (greatest-shift b a us, least-shift b a us) (shift-less b (most a us) (fewest a us) (fewest-le-most a us))
 
@@ -100,10 +116,16 @@ module _ (ps : List Spot) where
   pub pin-y : (p : HeldPin) → pinY ps (pinOf p) ≡ subℕ (upY ps p) 4096
   pin-y p = add-shift (origin ps (p .m) .y) (p .yup) 4096
 
-  -- the length of a net of weight w with the held pins hs
+  -- its box and its length, of weight w, with the held pins hs
+  abbrev pub upBox : List HeldPin → NetBox
+  upBox hs = boxAround (shifted 4096 (map (upX ps) hs)) (shifted 4096 (map (upY ps) hs))
+
+  pub held-box : (w : ℕ) (hs : List HeldPin) → netBox ps (record { weight = w; pins = pinsOf hs }) ≡ upBox hs
+  held-box w hs = rw (pins-shifted (pinX ps) (upX ps) pin-x hs, pins-shifted (pinY ps) (upY ps) pin-y hs)
+
   abbrev pub upLength : ℕ → List HeldPin → ℕ
   upLength w hs = w * (spread (map (upX ps) hs) + spread (map (upY ps) hs))
 
   pub held-length : (w : ℕ) (hs : List HeldPin) → netLength ps (record { weight = w; pins = pinsOf hs }) ≡ upLength w hs
   unfolding netLength
-  held-length w hs = rw (pins-shifted (pinX ps) (upX ps) pin-x hs, pins-shifted (pinY ps) (upY ps) pin-y hs, span-shift 4096 (map (upX ps) hs), span-shift 4096 (map (upY ps) hs))
+  held-length w hs = ap (boxLength w) (held-box w hs) ∙ rw (span-shift 4096 (map (upX ps) hs), span-shift 4096 (map (upY ps) hs))

@@ -77,7 +77,7 @@ pairsZ c ps = eachTwo (rects c ps) ++ product (rects c ps) (map rectOf (c .fixes
 unfoldable pub legalZ : Chip → List Corner → Bool
 legalZ c ps = withinZ c ps && allOf (apartZ c) (pairsZ c ps)
 
--- ---- how long
+-- ---- the box of a net
 
 -- the greatest and the least of a and the places s
 unfoldable pub greatest : ℤ → List ℤ → ℤ
@@ -88,10 +88,14 @@ unfoldable pub least : ℤ → List ℤ → ℤ
 least a [] = a
 least a (b ∷ s) = least (cond (leZ a b) a b) s
 
--- greatest less least (a net has a pin)
-unfoldable pub span : List ℤ → ℕ
-span [] = 0
-span (a ∷ s) = natAbs (greatest a s +ℤ negℤ (least a s))
+-- the greatest and the least of places (a net has a pin)
+unfoldable pub greatestOf : List ℤ → ℤ
+greatestOf [] = pos 0
+greatestOf (a ∷ s) = greatest a s
+
+unfoldable pub leastOf : List ℤ → ℤ
+leastOf [] = pos 0
+leastOf (a ∷ s) = least a s
 
 -- the corner 0,0
 abbrev pub zeroCorner : Corner
@@ -109,10 +113,35 @@ pinXZ ps p = originZ ps (p .m) .x +ℤ p .x
 abbrev pub pinYZ : List Corner → Pin → ℤ
 pinYZ ps p = originZ ps (p .m) .y +ℤ p .y
 
+-- the box of a net (document 02, Card 2): its least and greatest x, its least and greatest y
+pub record NetBox : Type 0 where
+  pub left : ℤ
+  pub right : ℤ
+  pub bottom : ℤ
+  pub top : ℤ
+
+-- the box around the places xs and ys of pins
+abbrev pub boxAround : List ℤ → List ℤ → NetBox
+boxAround xs ys = record { left = leastOf xs; right = greatestOf xs; bottom = leastOf ys; top = greatestOf ys }
+
+-- what measuring a net promises
+abbrev pub netBoxZ : List Corner → Net → NetBox
+netBoxZ ps t = boxAround (map (pinXZ ps) (t .pins)) (map (pinYZ ps) (t .pins))
+
+-- ---- how long
+
+-- from one place to another that is at least as great
+abbrev pub span : ℤ → ℤ → ℕ
+span a b = natAbs (b +ℤ negℤ a)
+
+-- the length of a net of weight w with the box b: its weight times (greatest x - least x + greatest y - least y)
+abbrev pub boxLength : ℕ → NetBox → ℕ
+boxLength w b = w * (span (b .left) (b .right) + span (b .bottom) (b .top))
+
 -- the sum of the lengths of nets
 unfoldable pub netsLengthZ : List Corner → List Net → ℕ
 netsLengthZ ps [] = 0
-netsLengthZ ps (t ∷ ts) = t .weight * (span (map (pinXZ ps) (t .pins)) + span (map (pinYZ ps) (t .pins))) + netsLengthZ ps ts
+netsLengthZ ps (t ∷ ts) = boxLength (t .weight) (netBoxZ ps t) + netsLengthZ ps ts
 
 -- the wirelength of a placement
 abbrev pub wirelengthZ : Chip → List Corner → ℕ

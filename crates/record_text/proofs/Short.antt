@@ -68,7 +68,7 @@ within-short (least wl ps) e =
     let b = ats-short 1 ps (e .1) in
     rw length-append (omega arith)
 
-accepted-within : (t : List ℕ) (r : Record) → readRecord t ≡ accepted r → Every (Within recordWords) (recordItems r)
+pub accepted-within : (t : List ℕ) (r : Record) → readRecord t ≡ accepted r → Every (Within recordWords) (recordItems r)
 unfolding readRecord
 accepted-within t r e =
     let b = part-accepted (λ (s : Part). s .result) (readText recordKind start t) r e in

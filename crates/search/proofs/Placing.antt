@@ -13,10 +13,12 @@ use Rattle.model.specs.declared.Refusal.{Refusal}
 use Rattle.model.specs.declared.Tested.{Tested}
 use Rattle.model.specs.declared.Tested.the-variants as tested
 use Rattle.model.specs.Meaning.{Chip, Record, none, least, chipOf, recordOf}
-use Rattle.text_grammar.specs.Reading.{Reading, accepted}
+use Rattle.text_grammar.specs.Reading.{Reading, accepted, refused}
 use Rattle.text_grammar.specs.Writing.{Written, testedAs, refuse, writeText}
 use Rattle.chip_text.specs.Text.{readChip, chipText}
 use Rattle.chip_text.specs.Passed.{Passed}
+use Rattle.chip_text.specs.Valid.{Valid}
+use Rattle.chip_text.proofs.Accepted.{accepted-valid}
 use Rattle.chip_read.specs.declared.ChipAnswer.{ChipAnswer}
 use Rattle.chip_read.specs.declared.ChipAnswer.the-variants as answer
 use Rattle.chip_read.specs.Answer.{meant}
@@ -44,7 +46,8 @@ use Rattle.search_node.specs.Node.{noRecord, Arrayed}
 use Rattle.search_close.specs.Step.{Searched}
 use Rattle.search.specs.Search.{RootOk}
 use Rattle.search_node.specs.declared.Node.{Node}
-use Rattle.search.specs.Place.{searchChip, placeText, placeRead}
+use Rattle.search.specs.Place.{placedRead, foundAs, meantFound, searchChip, placeText, placeRead}
+use Rattle.search.specs.declared.service.Found.{Found}
 use Rattle.search_node.proofs.Lettering.{dots-in}
 use Rattle.search_node.proofs.Records.{no-best, none-counted}
 use Rattle.search.proofs.RecordsRead.{chip-record-read}
@@ -98,22 +101,59 @@ arrays-stand c tx ty ax ay ok x y = record { x = x .passed ok .tabled; y = y .pa
 pub start-counted : (c : HeldChip) (o : HeldRecord) → Passed c → o ≡ noRecord → Counted (c .n) o
 start-counted c o ok q = rw q (none-counted (c .n) (ok .fine .macCount))
 
+-- ---- what the search finds for a text
+
+module _ (c : HeldChip) (text : List ℕ) (a : ChipAnswer) (e : meant a c ≡ readChip text) where
+  pub found-refused : (f : Refusal) → a ≡ answer.Refused f → refused (f .no) (f .line) ≡ placedRead (readChip text)
+  found-refused f q = ap placedRead (ap (λ (t : ChipAnswer). meant t c) (sym q) ∙ e)
+
+  pub found-placed : a ≡ answer.Accepted → (r : HeldRecord) → recordOf r ≡ chipRecord (chipOf c) → accepted (chipOf c, recordOf r) ≡ placedRead (readChip text)
+  found-placed q r o = rw o (ap placedRead (ap (λ (t : ChipAnswer). meant t c) (sym q) ∙ e))
+
+-- back to the reading of the text
+read-refused : (x : Reading Chip) (n l : ℕ) → refused n l ≡ placedRead x → x ≡ refused n l
+read-refused (accepted c) n l e = let z : _≡_ {A = ℕ} 0 1 = cc in absurd (omega arith)
+read-refused (refused k m) n l e = cc
+
+read-found : (x : Reading Chip) (c : Chip) (r : Record) → accepted (c, r) ≡ placedRead x → (x ≡ accepted c) × (r ≡ chipRecord c)
+read-found (accepted d) c r e =
+    let p : _≡_ {A = Chip × Record} (c, r) (d, chipRecord d) = cc in
+    let q : c ≡ d = ap (λ (t : Chip × Record). t .0) p in
+    (ap accepted (sym q), ap (λ (t : Chip × Record). t .1) p ∙ ap chipRecord (sym q))
+read-found (refused k m) c r e = let z : _≡_ {A = ℕ} 0 1 = cc in absurd (omega arith)
+
+module _ (text : List ℕ) (p : Found) (e : meantFound p ≡ placedRead (readChip text)) where
+  pub text-refused : (f : Refusal) → p .answer ≡ answer.Refused f → readChip text ≡ refused (f .no) (f .line)
+  text-refused f q = read-refused (readChip text) (f .no) (f .line) (ap (λ (t : ChipAnswer). foundAs t (p .chip) (p .record)) (sym q) ∙ e)
+
+  module _ (q : p .answer ≡ answer.Accepted) where
+    its : (readChip text ≡ accepted (chipOf (p .chip))) × (recordOf (p .record) ≡ chipRecord (chipOf (p .chip)))
+    its = read-found (readChip text) (chipOf (p .chip)) (recordOf (p .record)) (ap (λ (t : ChipAnswer). foundAs t (p .chip) (p .record)) (sym q) ∙ e)
+
+    pub text-accepted : readChip text ≡ accepted (chipOf (p .chip))
+    text-accepted = its .0
+
+    pub record-found : recordOf (p .record) ≡ chipRecord (chipOf (p .chip))
+    record-found = its .1
+
 -- ---- what is written
 
-module _ (c : HeldChip) (ok : Passed c) (r : HeldRecord) (q : recordOf r ≡ chipRecord (chipOf c)) (out : List ℕ) where
+module _ (c : Chip) (v : Valid c) (r : HeldRecord) (q : recordOf r ≡ chipRecord c) (out : List ℕ) (w : Written) (e : w ≡ writeRecord (recordOf r) out) where
   -- the record is not refused when it is tested
-  written : (w : Written) → w ≡ writeRecord (recordOf r) out → w ≡ writeText (accepted (chipOf c)) (recordText (chipRecord (chipOf c))) out
-  written w e = e ∙ rw (q, chip-record-read (chipOf c) (ok .valid))
+  written : w ≡ writeText (accepted c) (recordText (chipRecord c)) out
+  written = e ∙ rw (q, chip-record-read c v)
 
-  pub record-searched : (w : Written) → w ≡ writeRecord (recordOf r) out → w ≡ searchChip (chipOf c) out
-  record-searched w e = written w e ∙ ap (λ (t : Reading Chip). writeText t (recordText (chipRecord (chipOf c))) out) (ok .read)
+pub record-searched : (c : HeldChip) → Passed c → (r : HeldRecord) → recordOf r ≡ chipRecord (chipOf c) → (out : List ℕ) (w : Written) → w ≡ writeRecord (recordOf r) out → w ≡ searchChip (chipOf c) out
+record-searched c ok r q out w e = written (chipOf c) (ok .valid) r q out w e ∙ ap (λ (t : Reading Chip). writeText t (recordText (chipRecord (chipOf c))) out) (ok .read)
 
-  pub record-placed : (text : List ℕ) (a : ChipAnswer) → meant a c ≡ readChip text → a ≡ answer.Accepted → (w : Written) → w ≡ writeRecord (recordOf r) out → w ≡ placeText text out
-  record-placed text a e g w o = written w o ∙ ap (λ (t : Reading Chip). placeRead t out) (ap (λ (t : ChipAnswer). meant t c) (sym g) ∙ e)
+pub search-refused : (c : HeldChip) (out : List ℕ) (f : Refusal) (t : Tested) → testedAs (chipOf c) t ≡ readChip (chipText (chipOf c)) → t ≡ tested.Refused f → refuse (f .no) (f .line) out ≡ searchChip (chipOf c) out
+search-refused c out f t e q = ap (λ (s : Reading Chip). writeText s (recordText (chipRecord (chipOf c))) out) (ap (testedAs (chipOf c)) (sym q) ∙ e)
 
-module _ (c : HeldChip) (out : List ℕ) (f : Refusal) where
-  pub search-refused : (t : Tested) → testedAs (chipOf c) t ≡ readChip (chipText (chipOf c)) → t ≡ tested.Refused f → refuse (f .no) (f .line) out ≡ searchChip (chipOf c) out
-  search-refused t e q = ap (λ (s : Reading Chip). writeText s (recordText (chipRecord (chipOf c))) out) (ap (testedAs (chipOf c)) (sym q) ∙ e)
+module _ (text out : List ℕ) (p : Found) (e : meantFound p ≡ placedRead (readChip text)) where
+  pub place-refused : (f : Refusal) → p .answer ≡ answer.Refused f → refuse (f .no) (f .line) out ≡ placeText text out
+  place-refused f q = ap (λ (t : Reading Chip). placeRead t out) (sym (text-refused text p e f q))
 
-  pub place-refused : (text : List ℕ) (a : ChipAnswer) → meant a c ≡ readChip text → a ≡ answer.Refused f → refuse (f .no) (f .line) out ≡ placeText text out
-  place-refused text a e q = ap (λ (s : Reading Chip). placeRead s out) (ap (λ (t : ChipAnswer). meant t c) (sym q) ∙ e)
+  pub record-placed : p .answer ≡ answer.Accepted → (w : Written) → w ≡ writeRecord (recordOf (p .record)) out → w ≡ placeText text out
+  record-placed q w o =
+      let t = text-accepted text p e q in
+      written (chipOf (p .chip)) (accepted-valid text (chipOf (p .chip)) t) (p .record) (record-found text p e q) out w o ∙ ap (λ (x : Reading Chip). placeRead x out) (sym t)

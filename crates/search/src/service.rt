@@ -22,8 +22,9 @@ ghost use Rattle.model.specs.Blocks.{blocksOf};
 ghost use Rattle.model.specs.Meaning.{chipOf, recordOf};
 ghost use Rattle.text_grammar.specs.Writing.{answerOf};
 ghost use Rattle.chip_text.specs.Passed.{Passed};
+ghost use Rattle.chip_text.specs.Text.{readChip};
 ghost use Rattle.placement.specs.Least.{chipRecord};
-ghost use Rattle.search.specs.Place.{searchChip, placeText};
+ghost use Rattle.search.specs.Place.{meantFound, placedRead, searchChip, placeText};
 
 // The parts of a chip that the search reads.
 fn parts_of(c: Chip) -> Parts
@@ -85,15 +86,42 @@ pub fn search_chip(c: Chip, out: &mut [u8]) -> WriteAnswer
     }
 }
 
+// What the search finds for a chip text: the refusal, or the chip that was read and its record.
+pub struct Found {
+    pub answer: ChipAnswer,
+    pub chip: Chip,
+    pub record: Record,
+}
+
+// The chip of a text and its record.
+pub fn placed(text: &[u8]) -> Found
+    ensures { λ r. ⌜ meantFound r ≡ placedRead (readChip (now (text .entry))) ⌝ }
+{
+    let read = chip_read::read_chip(text);
+    let answer = read.answer;
+    let chip = read.chip;
+    match answer {
+        ChipAnswer::Refused(f) => Found {
+            answer: ChipAnswer::Refused(f),
+            chip,
+            record: no_record(),
+        },
+        ChipAnswer::Accepted => Found {
+            answer: ChipAnswer::Accepted,
+            chip,
+            record: chip_record(chip),
+        },
+    }
+}
+
 // From chip text to record text.
 pub fn place_text(text: &[u8], out: &mut [u8]) -> WriteAnswer
     ensures { λ r. ⌜ record { answer = answerOf r; buffer = now (out .exit) } ≡ placeText (now (text .entry)) (now (out .entry)) ⌝ }
 {
-    let read = chip_read::read_chip(text);
-    let answer = read.answer;
-    let c = read.chip;
+    let found = placed(text);
+    let answer = found.answer;
     match answer {
         ChipAnswer::Refused(f) => WriteAnswer::Refused(f),
-        ChipAnswer::Accepted => record_write::write_record(chip_record(c), out),
+        ChipAnswer::Accepted => record_write::write_record(found.record, out),
     }
 }

@@ -4,8 +4,8 @@ use mathlib.Core.Path.{_≡_, ap}
 use mathlib.Core.List.{List}
 use native.Mathlib.Omega.{arith}
 use lib.ListN.{length, getD}
-use Rattle.num_laws.specs.Spread.{spread}
-use Rattle.num_laws.proofs.Spreads.{top, bottom, top-bottom, each-le-top, bottom-le-each, top-le, le-bottom}
+use Rattle.num_laws.specs.Spread.{top, bottom, spread}
+use Rattle.num_laws.proofs.Spreads.{top-bottom, each-le-top, bottom-le-each, top-le, le-bottom}
 use Rattle.axis_bounds.specs.declared.AxisPin.{AxisPin}
 use Rattle.axis_bounds.specs.Axis.{noPin, valueAt, places}
 use Rattle.axis_bounds.proofs.Places.{length-places, place-at}

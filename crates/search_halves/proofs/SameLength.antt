@@ -11,9 +11,9 @@ use Rattle.model.specs.declared.Spot.{Spot}
 use Rattle.model.specs.Meaning.{Pin, Chip}
 use Rattle.chip_text.specs.Valid.{Valid, noPin, noNet}
 use Rattle.num_laws.specs.Sum.{sum, when}
-use Rattle.num_laws.specs.Spread.{spread}
+use Rattle.num_laws.specs.Spread.{top, bottom, spread}
 use Rattle.num_laws.proofs.Sums.{sum-eq, sum-pick}
-use Rattle.num_laws.proofs.Spreads.{top, bottom, top-bottom, each-le-top, bottom-le-each, top-le, le-bottom}
+use Rattle.num_laws.proofs.Spreads.{top-bottom, each-le-top, bottom-le-each, top-le, le-bottom}
 use Rattle.flow_laws.specs.Flow.{atNode, weigh}
 use Rattle.flow_laws.proofs.Duality.{exchange}
 use Rattle.placement.specs.Length.{origin, wirelength}

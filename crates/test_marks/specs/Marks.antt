@@ -1,5 +1,6 @@
--- The marked cases of document 01, and those of Cards 1, 11 and 12 in document 02, from bytes to bytes: what is printed for a chip's text, the fit of a
--- letter string, what the quoting page says and writes, and what is answered and printed for a record beside its chip.
+-- The marked cases of document 01, and those of Cards 1, 2, 11 and 12 in document 02, from bytes to bytes: what is printed for a chip's text, with boxes and
+-- without, the fit of a letter string, what the quoting page and the service with boxes say and write, and what is answered and printed for a record beside its
+-- chip.
 use Prim.Native.Nat.{ℕ}
 use Prim.Native.Char.{code}
 use Prim.Native.String.{String, [] as empty, _∷_ as _▹_}
@@ -32,8 +33,8 @@ pub record FitCase : Type 0 where
   pub letters : String
   pub answer : Fit
 
--- a chip, how many bytes are lent for its record, and what the quoting page answers and leaves there
-pub record QuoteCase : Type 0 where
+-- a chip, how many bytes are lent, and what is answered and left there
+pub record WriteCase : Type 0 where
   pub chip : List String
   pub room : ℕ
   pub left : Written
@@ -92,7 +93,7 @@ atLimits =
     "die,w,2,h,1" ∷ "fix,x,0,y,0,w,1,h,1" ∷ "fix,x,1,y,0,w,1,h,1" ∷ "mac,w,3,h,1" ∷ "mac,w,3,h,1" ∷ "mac,w,3,h,1" ∷ "mac,w,3,h,1" ∷ "net,w,1" ∷
     pads 9 ++ ("net,w,1" ∷ pads 7 ++ ("end" ∷ []))
 
-abbrev pub markedQuotes : List QuoteCase
+abbrev pub markedQuotes : List WriteCase
 markedQuotes =
     record { chip = example; room = 50; left = record { answer = wrote 46; buffer = text ("least,wl,3" ∷ "at,m,1,x,0,y,1" ∷ "at,m,2,x,0,y,0" ∷ "done" ∷ []) ++ blank 4 } } ∷
     record { chip = example; room = 45; left = refuse 15 0 (blank 45) } ∷
@@ -114,4 +115,26 @@ markedBesides =
     record { chip = example; beside = "least,wl,4" ∷ "at,m,1,x,0,y,1" ∷ "at,m,2,x,0,y,0" ∷ "done" ∷ []; answer = refused 17 0 at.Neither; prints = "refused,no,17,line,0" } ∷
     record { chip = example; beside = "least,wl,3" ∷ "at,m,1,x,0,y,1" ∷ "at,m,2,x,0,y,0" ∷ []; answer = refused 5 4 at.Record; prints = "refused,no,5,line,4" } ∷
     record { chip = "die,w,5" ∷ []; beside = "x" ∷ []; answer = refused 2 1 at.Chip; prints = "refused,no,2,line,1" } ∷
+    []
+
+-- what is printed with the boxes: of the example, of a chip with a net and without a placement, of pads off the die, of nets of one macro that a pad draws to
+-- x 4, the second of one pin outside it, and of a text that is refused
+abbrev pub boxedExample : List String
+boxedExample = "least,wl,3" ∷ "at,m,1,x,0,y,1" ∷ "at,m,2,x,0,y,0" ∷ "done" ∷ "box,n,1,l,0,r,0,b,0,t,1" ∷ []
+
+abbrev pub markedBoxes : List RecordCase
+markedBoxes =
+    record { chip = example; prints = boxedExample } ∷
+    record { chip = "die,w,3,h,1" ∷ "mac,w,2,h,1" ∷ "mac,w,2,h,1" ∷ "net,w,1" ∷ "pin,m,1,x,0,y,0" ∷ "end" ∷ []; prints = "none" ∷ "done" ∷ [] } ∷
+    record { chip = "die,w,4,h,1" ∷ "net,w,2" ∷ "pin,m,0,x,-2,y,0" ∷ "pin,m,0,x,3,y,1" ∷ "end" ∷ []; prints = "least,wl,12" ∷ "done" ∷ "box,n,1,l,-2,r,3,b,0,t,1" ∷ [] } ∷
+    record { chip = "die,w,5,h,1" ∷ "mac,w,1,h,1" ∷ "net,w,1" ∷ "pin,m,1,x,0,y,0" ∷ "pin,m,0,x,4,y,0" ∷ "net,w,2" ∷ "pin,m,1,x,-6,y,3" ∷ "end" ∷ []; prints = "least,wl,0" ∷ "at,m,1,x,4,y,0" ∷ "done" ∷ "box,n,1,l,4,r,4,b,0,t,0" ∷ "box,n,2,l,-2,r,-2,b,3,t,3" ∷ [] } ∷
+    record { chip = "die,w,5" ∷ []; prints = "refused,no,2,line,1" ∷ [] } ∷
+    []
+
+-- the same into lent bytes: 70 are enough for the example, 69 are not, and the 46 of its record alone are not
+abbrev pub markedBoxesLent : List WriteCase
+markedBoxesLent =
+    record { chip = example; room = 72; left = record { answer = wrote 70; buffer = text boxedExample ++ blank 2 } } ∷
+    record { chip = example; room = 69; left = refuse 15 0 (blank 69) } ∷
+    record { chip = example; room = 46; left = refuse 15 0 (blank 46) } ∷
     []

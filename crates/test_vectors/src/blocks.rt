@@ -1,7 +1,8 @@
-// Blocks of small chips: the search's record, the fit of the empty string, or the quoting page's record, and what is found by trying every position, compared; or
-// the records of every placement beside the chip.
+// Blocks of small chips: the search's record, the fit of the empty string, the quoting page's record, or the record with the box of each net, and what is found
+// by trying every position, compared; or the records of every placement beside the chip.
 use crate::besides;
 use crate::count::pin_count;
+use crate::count::sum;
 use crate::every::Found;
 use crate::every::first;
 use crate::every::nothing;
@@ -12,32 +13,40 @@ use crate::report::untouched;
 use crate::rule::Block;
 use crate::rule::block_at;
 use crate::rule::chip_of;
+use crate::searching::Service;
+use crate::searching::answer_to;
+use crate::written::put_boxed;
 use crate::written::put_record;
 use fit::FitAnswer;
 use fit::FitOutcome;
 use model::Chip;
 use model::WriteAnswer;
 
-// What is asked of each chip: its record, the fit of the empty string, its record from the quoting page, or records beside it.
+// What is asked of each chip: its record, the fit of the empty string, its record from the quoting page, its record with boxes, or records beside it.
 pub(crate) enum Asked {
     Record,
     Undecided,
     Quote,
+    Boxes,
     Beside,
 }
+
+// How many bytes the lent buffers have: more than the record of a small chip needs, with the boxes of a dozen nets.
+const ROOM: usize = 512;
 
 // What a block of chips came to; `differs` is one more than the first case that differs.
 pub(crate) struct Tally {
     pub compared: u64,
     pub none: u64,
     pub several: u64,
+    pub boxes: u64,
     pub beyond: u64,
     pub passed: u64,
     pub differs: u64,
 }
 
-// Whether the record given was written, into a buffer of the same length.
-fn is_written(answer: WriteAnswer, out: &[u8; 256], expected: &[u8; 256], length: usize) -> bool {
+// Whether the text given was written, into a buffer of the same length.
+fn is_written(answer: WriteAnswer, out: &[u8; ROOM], expected: &[u8; ROOM], length: usize) -> bool {
     match answer {
         WriteAnswer::Refused(_) => false,
         WriteAnswer::Text(n) => {
@@ -49,40 +58,40 @@ fn is_written(answer: WriteAnswer, out: &[u8; 256], expected: &[u8; 256], length
     }
 }
 
-fn search_gives(c: Chip, expected: &[u8; 256], length: usize) -> bool {
-    let mut out = [FILL; 256];
+fn search_gives(c: Chip, expected: &[u8; ROOM], length: usize) -> bool {
+    let mut out = [FILL; ROOM];
     let answer = search::service::search_chip(c, &mut out);
     is_written(answer, &out, expected, length)
 }
 
-// The page's answer to the first n bytes of a text.
-fn quote_first(text: &[u8], n: usize, out: &mut [u8]) -> WriteAnswer {
+// The answer to the first n bytes of a text.
+fn answer_first(text: &[u8], n: usize, service: Service, out: &mut [u8]) -> WriteAnswer {
     if text.len() < n {
         return WriteAnswer::Text(0);
     }
-    quote::quote_text(&text[0..n], out)
+    answer_to(&text[0..n], service, out)
 }
 
-// The page's answer to a chip's text.
-fn quoted(c: Chip, out: &mut [u8]) -> WriteAnswer {
+// The answer to a chip's text.
+fn answered(c: Chip, service: Service, out: &mut [u8]) -> WriteAnswer {
     let mut text = [FILL; 4096];
     let written = chip_write::write_chip(c, &mut text);
     match written {
         WriteAnswer::Refused(f) => WriteAnswer::Refused(f),
-        WriteAnswer::Text(n) => quote_first(&text, n, out),
+        WriteAnswer::Text(n) => answer_first(&text, n, service, out),
     }
 }
 
-fn quote_gives(c: Chip, expected: &[u8; 256], length: usize) -> bool {
-    let mut out = [FILL; 256];
-    let answer = quoted(c, &mut out);
+fn service_gives(c: Chip, service: Service, expected: &[u8; ROOM], length: usize) -> bool {
+    let mut out = [FILL; ROOM];
+    let answer = answered(c, service, &mut out);
     is_written(answer, &out, expected, length)
 }
 
 // Whether the page refuses a chip by 22, line 0, and writes nothing.
 fn quote_refuses(c: Chip) -> bool {
-    let mut out = [FILL; 256];
-    let answer = quoted(c, &mut out);
+    let mut out = [FILL; ROOM];
+    let answer = answered(c, Service::Quote, &mut out);
     match answer {
         WriteAnswer::Text(_) => false,
         WriteAnswer::Refused(f) => {
@@ -124,10 +133,10 @@ fn placed(answer: FitAnswer) -> Found {
 }
 
 // The same of the fit of the empty string, written as a record.
-fn fit_gives(c: Chip, expected: &[u8; 256], length: usize) -> bool {
+fn fit_gives(c: Chip, expected: &[u8; ROOM], length: usize) -> bool {
     let mut flow = [0u16; 800];
     let found = placed(fit::fit_letters(c, b"", &mut flow));
-    let mut out = [FILL; 256];
+    let mut out = [FILL; ROOM];
     let n = put_record(&mut out, found, c.n);
     if !found.whole {
         return false;
@@ -138,17 +147,26 @@ fn fit_gives(c: Chip, expected: &[u8; 256], length: usize) -> bool {
     check::same(&out, expected)
 }
 
+// What belongs to what was found: its record, with the boxes where they are asked; the answer is its length.
+fn put_asked(out: &mut [u8], c: Chip, asked: Asked, found: Found) -> usize {
+    if let Asked::Boxes = asked {
+        return put_boxed(out, found, c);
+    }
+    put_record(out, found, c.n)
+}
+
 // All positions were tried, and the answers are the same.
 fn agrees(c: Chip, asked: Asked, found: Found) -> bool {
-    let mut expected = [FILL; 256];
-    let length = put_record(&mut expected, found, c.n);
+    let mut expected = [FILL; ROOM];
+    let length = put_asked(&mut expected, c, asked, found);
     if !found.whole {
         return false;
     }
     match asked {
         Asked::Record => search_gives(c, &expected, length),
         Asked::Undecided => fit_gives(c, &expected, length),
-        Asked::Quote => quote_gives(c, &expected, length),
+        Asked::Quote => service_gives(c, Service::Quote, &expected, length),
+        Asked::Boxes => service_gives(c, Service::Boxes, &expected, length),
         Asked::Beside => false,
     }
 }
@@ -158,6 +176,7 @@ fn is_undecided(asked: Asked) -> bool {
         Asked::Record => false,
         Asked::Undecided => true,
         Asked::Quote => false,
+        Asked::Boxes => false,
         Asked::Beside => false,
     }
 }
@@ -189,10 +208,12 @@ fn with_beyond(t: Tally, case: u64, c: Chip) -> Tally {
     t
 }
 
-fn with_found(t: Tally, case: u64, c: Chip, asked: Asked) -> Tally {
-    let found = try_every(c, is_undecided(asked));
-    let mut t = compared(t, case, agrees(c, asked, found));
-    if !found.any {
+// With what was found: no placement, or so many boxes, and whether several placements are least.
+fn with_found(t: Tally, found: Found, boxes: u64) -> Tally {
+    let mut t = t;
+    if found.any {
+        t.boxes = sum(t.boxes, boxes);
+    } else {
         t.none = more(t.none);
     }
     if 1 < found.count {
@@ -201,19 +222,29 @@ fn with_found(t: Tally, case: u64, c: Chip, asked: Asked) -> Tally {
     t
 }
 
+fn with_tried(t: Tally, case: u64, c: Chip, asked: Asked) -> Tally {
+    let found = try_every(c, is_undecided(asked));
+    let t = compared(t, case, agrees(c, asked, found));
+    if let Asked::Boxes = asked {
+        return with_found(t, found, c.t as u64);
+    }
+    with_found(t, found, 0)
+}
+
 fn with_quoted(t: Tally, case: u64, c: Chip) -> Tally {
     if is_beyond(c) {
         return with_beyond(t, case, c);
     }
-    with_found(t, case, c, Asked::Quote)
+    with_tried(t, case, c, Asked::Quote)
 }
 
 fn with_case(t: Tally, case: u64, b: Block, asked: Asked) -> Tally {
     let c = chip_of(case, b);
     match asked {
-        Asked::Record => with_found(t, case, c, asked),
-        Asked::Undecided => with_found(t, case, c, asked),
+        Asked::Record => with_tried(t, case, c, asked),
+        Asked::Undecided => with_tried(t, case, c, asked),
         Asked::Quote => with_quoted(t, case, c),
+        Asked::Boxes => with_tried(t, case, c, asked),
         Asked::Beside => besides::with_records(t, case, c),
     }
 }
@@ -224,6 +255,7 @@ fn compare(b: Block, from: u64, to: u64, asked: Asked) -> Tally {
         compared: 0,
         none: 0,
         several: 0,
+        boxes: 0,
         beyond: 0,
         passed: 0,
         differs: 0,
@@ -253,6 +285,10 @@ fn print_found(t: Tally) {
     io::write_all(1, b" none, ");
     io::print_decimal(1, t.several);
     io::write_all(1, b" with several least, ");
+    if 0 < t.boxes {
+        io::print_decimal(1, t.boxes);
+        io::write_all(1, b" boxes, ");
+    }
     if 0 < t.beyond {
         io::print_decimal(1, t.beyond);
         io::write_all(1, b" beyond the page, ");
@@ -271,7 +307,7 @@ fn print_tally(t: Tally) {
     print_difference(t.differs);
 }
 
-// every NAME N K T W H SIDE FROM TO; undecided, quoted and besides the same
+// every NAME N K T W H SIDE FROM TO; undecided, quoted, boxed and besides the same
 pub(crate) fn every(s: &[u8], asked: Asked) {
     print_tally(compare(block_at(s), number_at(s, 8), number_at(s, 9), asked));
 }

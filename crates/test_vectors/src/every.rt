@@ -173,10 +173,10 @@ fn greater(a: u64, b: u64) -> u64 {
     a
 }
 
-// The least and the greatest coordinates of some pins.
-struct Extent {
-    least: Spot,
-    most: Spot,
+// The least and the greatest coordinates of some pins, 4,096 higher.
+pub(crate) struct Extent {
+    pub least: Spot,
+    pub most: Spot,
 }
 
 fn wider(e: Extent, p: Spot) -> Extent {
@@ -194,13 +194,13 @@ fn wider(e: Extent, p: Spot) -> Extent {
     }
 }
 
-// Greatest less least x, plus greatest less least y, of count pins from `from` on.
-fn half_perimeter(
+// The least and the greatest coordinates of count pins from `from` on.
+pub(crate) fn extent_of(
     spots: [Spot; Mac::COUNT],
     pins: [Pin; Pin::COUNT],
     from: usize,
     count: usize,
-) -> u64 {
+) -> Extent {
     let mut e = Extent {
         least: Spot { x: 65535, y: 65535 },
         most: Spot { x: 0, y: 0 },
@@ -214,11 +214,18 @@ fn half_perimeter(
         }
         i += 1;
     }
-    sum(above(e.most.x, e.least.x), above(e.most.y, e.least.y))
+    e
+}
+
+// Greatest less least x, plus greatest less least y.
+fn half_perimeter(e: Extent) -> u64 {
+    let least = e.least;
+    let most = e.most;
+    sum(above(most.x, least.x), above(most.y, least.y))
 }
 
 // The place after a net's pins.
-fn after(from: usize, net: Net) -> usize {
+pub(crate) fn after(from: usize, net: Net) -> usize {
     if from <= Pin::COUNT {
         if net.pins <= Pin::COUNT {
             return from + net.pins;
@@ -239,7 +246,7 @@ pub(crate) fn length_of(c: Chip, spots: [Spot; Mac::COUNT]) -> u64 {
             return total;
         }
         let net = nets[j];
-        let half = half_perimeter(spots, pins, from, net.pins);
+        let half = half_perimeter(extent_of(spots, pins, from, net.pins));
         total = sum(total, product(net.weight, half));
         from = after(from, net);
         j += 1;

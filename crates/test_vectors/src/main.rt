@@ -16,12 +16,17 @@
 //     strings NAME P COUNT           fits of the first COUNT strings of P letters
 //     spoil NAME LETTERS I A J B     a fit whose list is changed at I and J before it is counted
 //     amounts NAME LETTERS N         the first N amounts of a fit's list
-//     print NAME ROOM                what the program prints for the text
+//     print NAME ROOM                what the program `place` prints for the text
+//     print-boxes NAME ROOM          what the program `boxes` prints for the text
 //     place NAME ROOM                the record of the text
+//     quote NAME ROOM                the record of the text from the quoting page
+//     boxes NAME ROOM                the record of the text with the box of each net
 //     search NAME ROOM               the record of the chip as a value
 //     beside NAME TEXT               a record beside the text of the chip: `passed`, or number,line and the text at fault
 //     besides NAME N K T W H SIDE FROM TO  small chips made by a rule: records of every placement beside them, right and wrong
 //     every NAME N K T W H SIDE FROM TO  small chips made by a rule: the search's records beside those found by trying every position
+//     quoted NAME N K T W H SIDE FROM TO  the same chips: the quoting page's records, or 22
+//     boxed NAME N K T W H SIDE FROM TO  the same chips: their records with the box of each net
 //     undecided NAME N K T W H SIDE FROM TO  the same chips: the fits of the empty string beside those found by trying every position in the die
 mod besides;
 mod blocks;

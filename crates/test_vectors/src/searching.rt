@@ -1,45 +1,43 @@
-// Records: what the program prints for a text, the record of a text, also from the quoting page, and that of a chip as a value.
+// Records: what the programs print for a text, the record of a text, also from the quoting page or with the box of each net, and that of a chip as a value.
 use crate::fields::number_at;
 use crate::report::FILL;
 use crate::report::print_text;
 use model::Chip;
 use model::WriteAnswer;
 
-// How many bytes the lent buffers have room for: more than any record needs.
-const ROOM: usize = 256;
+// How many bytes the lent buffers have room for: more than any record with its boxes needs.
+const ROOM: usize = 2048;
 
-fn lend_print(text: &[u8], room: usize, out: &mut [u8]) {
+// Who is asked about a text: the programs `place` and `boxes`, the design desk's search, the quoting page's, or the desk's with the box of each net.
+pub(crate) enum Service {
+    Print,
+    PrintBoxes,
+    Place,
+    Quote,
+    Boxes,
+}
+
+pub(crate) fn answer_to(text: &[u8], service: Service, out: &mut [u8]) -> WriteAnswer {
+    match service {
+        Service::Print => place_print::print_text(text, out),
+        Service::PrintBoxes => place_boxes::print_boxes(text, out),
+        Service::Place => search::service::place_text(text, out),
+        Service::Quote => quote::quote_text(text, out),
+        Service::Boxes => place_boxes::boxes_text(text, out),
+    }
+}
+
+fn lend(text: &[u8], service: Service, room: usize, out: &mut [u8]) {
     if room <= out.len() {
-        let answer = place_print::print_text(text, &mut out[0..room]);
+        let answer = answer_to(text, service, &mut out[0..room]);
         print_text(answer, out);
     }
 }
 
-// print NAME ROOM
-pub(crate) fn print(s: &[u8], text: &[u8]) {
+// print NAME ROOM; print-boxes, place, quote and boxes the same
+pub(crate) fn ask(s: &[u8], text: &[u8], service: Service) {
     let mut out = [FILL; ROOM];
-    lend_print(text, number_at(s, 2) as usize, &mut out);
-}
-
-// The design desk's search, or the page's.
-fn placed(text: &[u8], page: bool, out: &mut [u8]) -> WriteAnswer {
-    if page {
-        return quote::quote_text(text, out);
-    }
-    search::service::place_text(text, out)
-}
-
-fn lend_place(text: &[u8], page: bool, room: usize, out: &mut [u8]) {
-    if room <= out.len() {
-        let answer = placed(text, page, &mut out[0..room]);
-        print_text(answer, out);
-    }
-}
-
-// place NAME ROOM, quote NAME ROOM
-pub(crate) fn place(s: &[u8], text: &[u8], page: bool) {
-    let mut out = [FILL; ROOM];
-    lend_place(text, page, number_at(s, 2) as usize, &mut out);
+    lend(text, service, number_at(s, 2) as usize, &mut out);
 }
 
 fn lend_search(c: Chip, room: usize, out: &mut [u8]) {

@@ -11,6 +11,7 @@ use crate::fitting;
 use crate::measuring;
 use crate::reading;
 use crate::searching;
+use crate::searching::Service;
 use crate::unfold::text_at;
 use crate::values;
 use model::Chip;
@@ -111,26 +112,39 @@ fn about_fits(s: &[u8], c: Chip) -> bool {
     false
 }
 
-// Verbs about records.
-fn about_records(s: &[u8], text: &[u8], c: Chip) {
+// Verbs about the text of a chip; whether s has one of them.
+fn about_texts(s: &[u8], text: &[u8]) -> bool {
     if is_at(s, 0, b"print") {
-        searching::print(s, text);
-        return;
+        searching::ask(s, text, Service::Print);
+        return true;
+    }
+    if is_at(s, 0, b"print-boxes") {
+        searching::ask(s, text, Service::PrintBoxes);
+        return true;
     }
     if is_at(s, 0, b"place") {
-        searching::place(s, text, false);
-        return;
+        searching::ask(s, text, Service::Place);
+        return true;
     }
     if is_at(s, 0, b"quote") {
-        searching::place(s, text, true);
-        return;
+        searching::ask(s, text, Service::Quote);
+        return true;
     }
-    if is_at(s, 0, b"search") {
-        searching::search(s, c);
-        return;
+    if is_at(s, 0, b"boxes") {
+        searching::ask(s, text, Service::Boxes);
+        return true;
     }
     if is_at(s, 0, b"beside") {
         besides::beside(s, text);
+        return true;
+    }
+    false
+}
+
+// Verbs about records.
+fn about_records(s: &[u8], c: Chip) {
+    if is_at(s, 0, b"search") {
+        searching::search(s, c);
         return;
     }
     if is_at(s, 0, b"besides") {
@@ -149,6 +163,10 @@ fn about_records(s: &[u8], text: &[u8], c: Chip) {
         blocks::every(s, Asked::Quote);
         return;
     }
+    if is_at(s, 0, b"boxed") {
+        blocks::every(s, Asked::Boxes);
+        return;
+    }
     io::write_all(1, b"unknown verb\n");
 }
 
@@ -165,7 +183,10 @@ fn named(s: &[u8], text: &[u8], n: usize, c: Chip) {
     if about_fits(s, c) {
         return;
     }
-    about_records(s, &text[0..n], c);
+    if about_texts(s, &text[0..n]) {
+        return;
+    }
+    about_records(s, c);
 }
 
 // Whether s is a case that is read and written back.

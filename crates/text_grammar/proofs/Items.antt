@@ -33,7 +33,7 @@ module _ {W : Type 0} (d : Words W) where
   Within i = judged (d .form (i .word)) (i .values) ≡ next (i .values)
 
   -- what an item's line says before its LF
-  abbrev lineBytes : Item W → List ℕ
+  abbrev pub lineBytes : Item W → List ℕ
   lineBytes i = d .spell (i .word) ++ fieldsText (d .form (i .word)) (i .values)
 
   item-bytes : (i : Item W) → lineBytes i ++ (lineFeed ∷ []) ≡ itemText d i
@@ -46,7 +46,7 @@ module _ {W : Type 0} (d : Words W) where
         all-append _ (d .spell (i .word)) (fieldsText (d .form (i .word)) (i .values)) (told .no-feed (i .word))
         (fields-lack (d .form (i .word)) (i .values) (told .formed (i .word)) f)
 
-    item-lines : (i : Item W) (t : List ℕ) → Formed i → lines (itemText d i ++ t) ≡ record { bytes = lineBytes i; ended = true } ∷ lines t
+    pub item-lines : (i : Item W) (t : List ℕ) → Formed i → lines (itemText d i ++ t) ≡ record { bytes = lineBytes i; ended = true } ∷ lines t
     item-lines i t f = rw (← item-bytes i, append-snoc (lineBytes i) lineFeed t) (lines-ended (lineBytes i) t (line-lacks i f))
 
 module _ {W S : Type 0} (k : Kind W S) where

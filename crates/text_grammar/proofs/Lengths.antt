@@ -34,9 +34,9 @@ digits-short = by-digits (λ n. (k : ℕ) → n < tenTo (suc k) → length (digi
     large n h ih zero b = absurd (omega arith)
     large n h ih (suc k) b = let q = ih k (omega arith) in rw (digits-large n h, length-append) (omega arith)
 
-number-short : (z : ℤ) → natAbs z < 1000000000 → length (numberText z) ≤ 10
-number-short (pos n) h = let q = digits-short n 8 h in omega arith
-number-short (negsuc n) h = let q = digits-short (suc n) 8 h in omega arith
+pub number-short : (z : ℤ) (k : ℕ) → natAbs z < tenTo (suc k) → length (numberText z) ≤ suc (suc k)
+number-short (pos n) k h = let q = digits-short n k h in omega arith
+number-short (negsuc n) k h = let q = digits-short (suc n) k h in omega arith
 
 -- ---- a field
 
@@ -53,7 +53,7 @@ in-narrow (pos l) m (negsuc n) a b p q = absurd (false≢true p)
 
 value-short : (o : Sort) (v : Value) → narrow o ≡ true → Passes o v → length (valueText v) ≤ 10
 value-short (numbers r) (number z) h p =
-    number-short z
+    number-short z 8
     (in-narrow (r .least) (r .most) z (leb-true _ _ (and-left (leb (natAbs (r .least)) 999999999) _ h)) (leb-true _ _ (and-right (leb (natAbs (r .least)) 999999999) _ h))
     (and-left (leZ (r .least) z) (leZ z (r .most)) p) (and-right (leZ (r .least) z) (leZ z (r .most)) p))
 value-short (numbers r) (string s) h p = absurd p

@@ -18,3 +18,4 @@ pub mod OneLine
 pub mod Lengths
 pub mod Numbers
 pub mod Strings
+pub mod SameText

@@ -44,3 +44,8 @@ ifRoom false text out = refuse 15 0 out
 abbrev pub writeText : {A : Type 0} → Reading A → List ℕ → List ℕ → Written
 writeText (accepted a) text out = ifRoom (leb (length text) (length out)) text out
 writeText (refused n l) text out = refuse n l out
+
+-- what a text that is read so leads to, with a text for each meaning: the refusal of reading, or that text written into the buffer out
+abbrev pub writeRead : {A : Type 0} → (A → List ℕ) → Reading A → List ℕ → Written
+writeRead f (accepted a) out = writeText (accepted a) (f a) out
+writeRead f (refused n l) out = refuse n l out

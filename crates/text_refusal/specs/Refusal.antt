@@ -6,6 +6,7 @@ use lib.Dec.{leb, eqb}
 use lib.ListN.{length}
 use Rattle.num_text.specs.Number.{digits}
 use Rattle.text_grammar.specs.Line.{lineFeed}
+use Rattle.text_grammar.specs.Reading.{Reading, accepted, refused}
 use Rattle.text_grammar.specs.Writing.{Answer, wrote, notWritten, Written, refuse, ifRoom}
 
 -- `refused,no,`
@@ -19,6 +20,11 @@ inLine = 44 ∷ 108 ∷ 105 ∷ 110 ∷ 101 ∷ 44 ∷ []
 -- the line of refusal number n, found in line l
 unfoldable pub refusalLine : ℕ → ℕ → List ℕ
 refusalLine n l = refusedNo ++ (digits n ++ (inLine ++ (digits l ++ (lineFeed ∷ []))))
+
+-- what is printed for a text that is read so, with a text for each meaning: that text, or the line of the refusal
+abbrev pub printedFor : {A : Type 0} → (A → List ℕ) → Reading A → List ℕ
+printedFor f (accepted a) = f a
+printedFor f (refused n l) = refusalLine n l
 
 -- the line of a refusal in a lent buffer: in its first bytes, and the rest as it was; 15 where the buffer is shorter, and all of it as it was
 abbrev pub writeRefusal : ℕ → ℕ → List ℕ → Written

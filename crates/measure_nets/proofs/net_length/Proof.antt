@@ -3,14 +3,17 @@ use borrow.Author.Needs.{needs}
 use Rattle.measure_nets.proofs.net_length.Statement.{statement}
 use Rattle.measure_nets.proofs.net_length.Tie as tie
 
-half-perimeter-requires : tie.Need-half-perimeter-requires
-half-perimeter-requires c κs = search needs
+side-requires : tie.Need-side-requires
+side-requires c κs = search needs
+
+side-requires-2 : tie.Need-side-requires-2
+side-requires-2 c κs = search needs
 
 lesser-requires : tie.Need-lesser-requires
 lesser-requires c κs = search needs
 
-lesser-requires-2 : tie.Need-lesser-requires-2
-lesser-requires-2 c κs = search needs
+add-result : tie.Need-add-result
+add-result c = search needs
 
 mul-result : tie.Need-mul-result
 mul-result c = search product-fits
@@ -21,4 +24,4 @@ returns c = search length-told
 pub net-length-spec : {M : Type 1} → statement M
 net-length-spec =
     tie.close
-    (tie.spec half-perimeter-requires lesser-requires lesser-requires-2 mul-result returns)
+    (tie.spec side-requires side-requires-2 lesser-requires add-result mul-result returns)

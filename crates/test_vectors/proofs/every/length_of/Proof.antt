@@ -21,6 +21,9 @@ mul-net c = search needs
 array-copy-out-net : tie.Need-array-copy-out-net Inv-loop μ-loop
 array-copy-out-net c = search needs
 
+extent-of-requires : tie.Need-extent-of-requires Inv-loop μ-loop
+extent-of-requires c κs = search needs
+
 half-perimeter-requires : tie.Need-half-perimeter-requires Inv-loop μ-loop
 half-perimeter-requires c κs = search needs
 
@@ -55,6 +58,7 @@ length-of-spec =
     returns
     mul-net
     array-copy-out-net
+    extent-of-requires
     half-perimeter-requires
     product-requires
     sum-requires

@@ -1,8 +1,8 @@
 use Rattle.place_print.proofs.PrintedShort.{printed-short}
 use Rattle.console.proofs.Room.{in-buffer}
 use borrow.Author.Needs.{needs}
-use Rattle.console.proofs.place.print.Statement.{statement}
-use Rattle.console.proofs.place.print.Tie as tie
+use Rattle.console.proofs.texts.print_record.Statement.{statement}
+use Rattle.console.proofs.texts.print_record.Tie as tie
 
 slice-aggregate-print-text : tie.Need-slice-aggregate-print-text
 slice-aggregate-print-text c = search needs
@@ -22,8 +22,8 @@ write-answer-requires c κs = search (needs, in-buffer, printed-short)
 returns : tie.Need-returns
 returns c = search needs
 
-pub print-spec : {M : Type 1} → statement M
-print-spec =
+pub print-record-spec : {M : Type 1} → statement M
+print-record-spec =
     tie.close
     (tie.spec
     slice-aggregate-print-text

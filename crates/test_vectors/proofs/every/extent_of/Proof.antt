@@ -1,7 +1,7 @@
 use Prim.Native.Nat.{_≤_, _-_}
 use borrow.Author.Needs.{needs}
-use Rattle.test_vectors.proofs.every.half_perimeter.Statement.{statement}
-use Rattle.test_vectors.proofs.every.half_perimeter.Tie as tie
+use Rattle.test_vectors.proofs.every.extent_of.Statement.{statement}
+use Rattle.test_vectors.proofs.every.extent_of.Tie as tie
 
 abbrev Inv-loop : tie.InvT-loop
 Inv-loop spots from count pins e₀ i₀ e i = i ≤ 128
@@ -33,20 +33,11 @@ loop-less c = search needs
 loop-again : tie.Need-loop-again Inv-loop μ-loop
 loop-again c = search needs
 
-above-requires : tie.Need-above-requires Inv-loop μ-loop
-above-requires c κs = search needs
-
-above-requires-2 : tie.Need-above-requires-2 Inv-loop μ-loop
-above-requires-2 c κs = search needs
-
-sum-requires : tie.Need-sum-requires Inv-loop μ-loop
-sum-requires c κs = search needs
-
 returns : tie.Need-returns Inv-loop μ-loop
 returns c = search needs
 
-pub half-perimeter-spec : {M : Type 1} → statement M
-half-perimeter-spec =
+pub extent-of-spec : {M : Type 1} → statement M
+extent-of-spec =
     tie.close
     (tie.spec
     Inv-loop
@@ -59,7 +50,4 @@ half-perimeter-spec =
     add-i
     loop-less
     loop-again
-    above-requires
-    above-requires-2
-    sum-requires
     returns)

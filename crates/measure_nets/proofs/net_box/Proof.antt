@@ -1,14 +1,14 @@
 use Prim.Native.Nat.{_-_, _≤_}
-use Rattle.measure_nets.proofs.Around.{Around, none-around, first-around, next-around, all-around, left-first, low-first, half-fits}
+use Rattle.measure_nets.proofs.Around.{Around, none-around, first-around, next-around, all-around}
 use borrow.Author.Needs.{needs}
-use Rattle.measure_nets.proofs.half_perimeter.Statement.{statement}
-use Rattle.measure_nets.proofs.half_perimeter.Tie as tie
+use Rattle.measure_nets.proofs.net_box.Statement.{statement}
+use Rattle.measure_nets.proofs.net_box.Tie as tie
 
 abbrev Inv-loop : tie.InvT-loop
-Inv-loop spots from count pins to e₀ i₀ e i = (i ≤ to) × Around spots pins from to i e
+Inv-loop spots from count pins to b₀ i₀ b i = (i ≤ to) × Around spots pins from to i b
 
 abbrev μ-loop : tie.MeasureT-loop
-μ-loop spots from count pins to e₀ i₀ e i = to - i
+μ-loop spots from count pins to b₀ i₀ b i = to - i
 
 end-of-requires : tie.Need-end-of-requires Inv-loop μ-loop
 end-of-requires c κs = search needs
@@ -52,20 +52,11 @@ loop-less c = search needs
 loop-again : tie.Need-loop-again Inv-loop μ-loop
 loop-again c = (search needs, search (needs, next-around))
 
-sub-result : tie.Need-sub-result Inv-loop μ-loop
-sub-result c = search left-first
-
-sub-result-2 : tie.Need-sub-result-2 Inv-loop μ-loop
-sub-result-2 c = search low-first
-
-add-result : tie.Need-add-result Inv-loop μ-loop
-add-result c = search half-fits
-
 returns-2 : tie.Need-returns-2 Inv-loop μ-loop
 returns-2 c = search (needs, all-around)
 
-pub half-perimeter-spec : {M : Type 1} → statement M
-half-perimeter-spec =
+pub net-box-spec : {M : Type 1} → statement M
+net-box-spec =
     tie.close
     (tie.spec
     Inv-loop
@@ -84,7 +75,4 @@ half-perimeter-spec =
     add-i-2
     loop-less
     loop-again
-    sub-result
-    sub-result-2
-    add-result
     returns-2)

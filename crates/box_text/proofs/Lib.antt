@@ -1,0 +1,4 @@
+pub mod SameText
+pub mod Short
+pub mod Ends
+pub mod Holds
