@@ -1,36 +1,21 @@
 -- The text of a record with the boxes of a chip's nets, both held as values, without a test. That it is `boxedText` for a tested chip and a legal placement of it
 -- is box_write/proofs/Meaning.antt `text-meant`.
 use Prim.Native.Nat.{ℕ, suc, min}
-use mathlib.Core.List.{List, [], _∷_, _++_}
-use lib.IntN.{subℕ}
-use Rattle.num_text.specs.Number.{digits, numberText}
+use mathlib.Core.List.{List, [], _++_}
 use Rattle.model.specs.declared.Spot.{Spot}
 use Rattle.model.specs.declared.Chip.{Chip as HeldChip}
 use Rattle.model.specs.declared.Outcome.{Outcome}
 use Rattle.model.specs.declared.Outcome.the-variants as outcome
 use Rattle.model.specs.declared.Record.{Record as HeldRecord}
 use Rattle.model.specs.Limits.{mostNets}
-use Rattle.model.specs.Meaning.{recordOf, pinUp}
+use Rattle.model.specs.Meaning.{recordOf}
 use Rattle.text_grammar.specs.Words.{itemsText}
 use Rattle.text_put.specs.Run.{run}
 use Rattle.record_text.specs.Text.{recordText}
-use Rattle.measure_nets.specs.declared.NetBox.{NetBox as HeldBox}
 use Rattle.measure_nets.specs.Box.{boxOf}
 use Rattle.measure_held.specs.Held.{boxAt}
 use Rattle.box_text.specs.Words.{boxWords}
 use Rattle.box_text.specs.Text.{Item, boxItem}
-
--- `box,n,` and the number of a net
-abbrev pub boxNet : ℕ → List ℕ
-boxNet n = 98 ∷ 111 ∷ 120 ∷ 44 ∷ 110 ∷ 44 ∷ digits n
-
--- `,l,` or so, and an end of a box as held
-abbrev pub boxSide : ℕ → ℕ → List ℕ
-boxSide name v = 44 ∷ name ∷ 44 ∷ numberText (subℕ v pinUp)
-
--- the first fields of a line: the number of the net, left and right
-abbrev pub boxAcross : ℕ → HeldBox → List ℕ
-boxAcross n b = (boxNet n ++ boxSide 108 (b .left)) ++ boxSide 114 (b .right)
 
 -- the line of net j + 1
 abbrev pub boxLine : HeldChip → List Spot → ℕ → Item

@@ -1,6 +1,7 @@
--- The box of a net (document 02, Card 2) holds every pin, and each of its sides touches one: `box-holds`, `box-touches`.
-use Prim.Native.Nat.{ℕ, zero, suc, _≤_, _<_}
-use mathlib.Core.Path.{_≡_, refl, sym, subst, _∙_}
+-- The box of a net (document 02, Card 2) holds every pin (`box-holds`), and each of its sides touches one (`box-touches`); right is left plus the width, and top is bottom plus the height (`box-wide`,
+-- `box-high`).
+use Prim.Native.Nat.{ℕ, zero, suc, _+_, _-_, _≤_, _<_}
+use mathlib.Core.Path.{_≡_, refl, sym, ap, subst, _∙_}
 use mathlib.Core.Bool.{Bool, true, false, cond, false≢true}
 use mathlib.Core.List.{List, [], _∷_, map}
 use mathlib.Core.Logic.{_⊎_, inl, inr}
@@ -8,13 +9,14 @@ use native.Mathlib.Nat.{le-of-suc-le-suc}
 use native.Mathlib.Decide.{decLe}
 use native.Mathlib.Omega.{arith}
 use lib.Dec.{leb}
-use lib.IntN.{ℤ, pos, negsuc}
+use lib.IntN.{ℤ, pos, negsuc, negℤ, _+ℤ_, natAbs, -ℤ-+ℤ-cancel, +ℤ-comm}
 use lib.ListN.{length, getD, length-map, List·getD-map}
 use lib.Signed.{leZ}
 use borrow.Author.Tests.{le-leb, leb-true}
+use Rattle.num_laws.proofs.Differences.{sub-up, sub-sum}
 use Rattle.model.specs.Meaning.{Pin, Net}
 use Rattle.chip_text.specs.Valid.{noPin}
-use Rattle.placement.specs.Integers.{Corner, greatest, least, greatestOf, leastOf, pinXZ, pinYZ, NetBox, netBoxZ}
+use Rattle.placement.specs.Integers.{Corner, greatest, least, greatestOf, leastOf, pinXZ, pinYZ, NetBox, netBoxZ, span}
 use Rattle.placement.proofs.Spans.{larger, smaller}
 
 -- ---- the order of integers
@@ -44,6 +46,19 @@ le-total (pos a) (pos b) e = other-way a b e
 le-total (pos a) (negsuc b) e = refl
 le-total (negsuc a) (pos b) e = absurd (false≢true (sym e))
 le-total (negsuc a) (negsuc b) e = other-way b a e
+
+-- from a place to one that is at least as great
+natural : (z : ℤ) (n : ℕ) → z ≡ pos n → z ≡ pos (natAbs z)
+natural z n e = e ∙ ap (λ (y : ℤ). pos (natAbs y)) (sym e)
+
+difference : (a b : ℤ) → leZ a b ≡ true → b +ℤ negℤ a ≡ pos (span a b)
+difference (pos a) (pos b) e = natural (pos b +ℤ negℤ (pos a)) (b - a) (sym (sub-sum b a) ∙ sub-up b a (leb-true a b e))
+difference (pos a) (negsuc b) e = absurd (false≢true e)
+difference (negsuc a) (pos b) e = natural (pos b +ℤ negℤ (negsuc a)) (b + suc a) refl
+difference (negsuc a) (negsuc b) e = natural (negsuc b +ℤ negℤ (negsuc a)) (suc a - suc b) (sub-up (suc a) (suc b) (let h = leb-true b a e in omega arith))
+
+reached : (a b : ℤ) → leZ a b ≡ true → b ≡ a +ℤ pos (span a b)
+reached a b e = sym (-ℤ-+ℤ-cancel b a) ∙ (+ℤ-comm (b +ℤ negℤ a) a ∙ ap (λ (z : ℤ). a +ℤ z) (difference a b e))
 
 -- the larger and the smaller of two places stand at one side of both
 module _ (a b : ℤ) where
@@ -197,3 +212,10 @@ module _ (ps : List Corner) (t : Net) where
         bottom = touched (pinYZ ps) t _ ys (least-among (map (pinYZ ps) (t .pins)) k);
         top = touched (pinYZ ps) t _ ys (greatest-among (map (pinYZ ps) (t .pins)) k);
       }
+
+  -- right is left plus the width, and top is bottom plus the height
+  pub box-wide : 0 < length (t .pins) → netBoxZ ps t .right ≡ netBoxZ ps t .left +ℤ pos (span (netBoxZ ps t .left) (netBoxZ ps t .right))
+  box-wide some = let h = box-holds 0 some in reached (netBoxZ ps t .left) (netBoxZ ps t .right) (le-trans (netBoxZ ps t .left) (pinXZ ps (getD (t .pins) 0 noPin)) (netBoxZ ps t .right) (h .left) (h .right))
+
+  pub box-high : 0 < length (t .pins) → netBoxZ ps t .top ≡ netBoxZ ps t .bottom +ℤ pos (span (netBoxZ ps t .bottom) (netBoxZ ps t .top))
+  box-high some = let h = box-holds 0 some in reached (netBoxZ ps t .bottom) (netBoxZ ps t .top) (le-trans (netBoxZ ps t .bottom) (pinYZ ps (getD (t .pins) 0 noPin)) (netBoxZ ps t .top) (h .bottom) (h .top))

@@ -1,6 +1,6 @@
 -- One meaning has one text for what is written with boxes: where two texts are equal, so are the records and the boxes (`boxed-same`).
 -- The lines of the whole text are lines of a record or of boxes; they are told from the text, and each kind from its word.
-use mathlib.Core.Path.{_≡_, refl, sym, ap, _∙_}
+use mathlib.Core.Path.{_≡_, refl, sym, ap, subst, _∙_}
 use mathlib.Core.Bool.{true}
 use mathlib.Core.List.{List, [], _∷_, _++_, map, append-assoc, append-nil}
 use Prim.{tt}
@@ -12,7 +12,7 @@ use Rattle.text_grammar.specs.Line.{Value, Form}
 use Rattle.text_grammar.specs.Words.{Words, wordIn, same, Item, itemText, itemsText, value}
 use Rattle.text_grammar.proofs.Every.{Every, every-append}
 use Rattle.text_grammar.proofs.Words.{isTold, told-by}
-use Rattle.text_grammar.proofs.FieldsText.{isMark, clean, isForm, suits, shaped}
+use Rattle.text_grammar.proofs.FieldsText.{isMark, clean, isForm, suits, shaped, judged}
 use Rattle.text_grammar.proofs.Items.{Formed, Within}
 use Rattle.text_grammar.proofs.SameText.{items-same}
 use Rattle.record_text.specs.declared.RecordWord.{RecordWord}
@@ -71,13 +71,10 @@ module _ {W : Type 0} (d : Words W) (into : W → Either) (spelled : (w : W) →
   lift-text [] js = refl
   lift-text (i ∷ is) js = rw (spelled (i .word), formed (i .word), lift-text is js) (sym (append-assoc (itemText d i) (itemsText d is) (itemsText bothWords js)))
 
-  lift-formed : (is : List (Item W)) → Every (Formed d) is → Every (Formed bothWords) (map lift is)
-  lift-formed [] f = tt
-  lift-formed (i ∷ is) f = (rw (formed (i .word)) (f .0), lift-formed is (f .1))
-
-  lift-within : (is : List (Item W)) → Every (Within d) is → Every (Within bothWords) (map lift is)
-  lift-within [] f = tt
-  lift-within (i ∷ is) f = (rw (formed (i .word)) (f .0), lift-within is (f .1))
+  -- what holds of the fields of every line
+  lift-every : (P : Form → List Value → Type 0) (is : List (Item W)) → Every (λ (i : Item W). P (d .form (i .word)) (i .values)) is → Every (λ (i : Item Either). P (form (i .word)) (i .values)) (map lift is)
+  lift-every P [] f = tt
+  lift-every P (i ∷ is) f = (subst (λ (g : Form). P g (i .values)) (sym (formed (i .word))) (f .0), lift-every P is (f .1))
 
 abbrev ofRecord : Item RecordWord → Item Either
 ofRecord = lift recordWords placed (λ w. refl) (λ w. refl)
@@ -159,17 +156,17 @@ its-text : (c : Chip) (r : Record) → itemsText bothWords (its c r) ≡ boxedTe
 unfolding boxedText recordText
 its-text c r = all-text (recordItems r) (boxItems 1 (boxesAt c r))
 
+its-every : (P : Form → List Value → Type 0) (c : Chip) (r : Record) → Every (λ (i : Item RecordWord). P (record-line.form (i .word)) (i .values)) (recordItems r) → Every (λ (i : Item BoxWord). P (box-line.form (i .word)) (i .values)) (boxItems 1 (boxesAt c r)) → Every (λ (i : Item Either). P (form (i .word)) (i .values)) (its c r)
+its-every P c r h k =
+    every-append (λ (i : Item Either). P (form (i .word)) (i .values)) (map ofRecord (recordItems r)) (map ofBox (boxItems 1 (boxesAt c r)))
+    (lift-every recordWords placed (λ w. refl) (λ w. refl) P (recordItems r) h)
+    (lift-every boxWords boxed (λ w. refl) (λ w. refl) P (boxItems 1 (boxesAt c r)) k)
+
 its-formed : (c : Chip) (r : Record) → Every (Formed bothWords) (its c r)
-its-formed c r =
-    every-append (Formed bothWords) (map ofRecord (recordItems r)) (map ofBox (boxItems 1 (boxesAt c r)))
-    (lift-formed recordWords placed (λ w. refl) (λ w. refl) (recordItems r) (items-formed r))
-    (lift-formed boxWords boxed (λ w. refl) (λ w. refl) (boxItems 1 (boxesAt c r)) (boxes-formed 1 (boxesAt c r)))
+its-formed c r = its-every (λ f vs. shaped f vs ≡ true) c r (items-formed r) (boxes-formed 1 (boxesAt c r))
 
 its-within : (c : Chip) (r : Record) → InRange c r → Every (Within bothWords) (its c r)
-its-within c r h =
-    every-append (Within bothWords) (map ofRecord (recordItems r)) (map ofBox (boxItems 1 (boxesAt c r)))
-    (lift-within recordWords placed (λ w. refl) (λ w. refl) (recordItems r) (h .lines))
-    (lift-within boxWords boxed (λ w. refl) (λ w. refl) (boxItems 1 (boxesAt c r)) (h .boxes))
+its-within c r h = its-every (λ f vs. judged f vs ≡ next vs) c r (h .lines) (h .boxes)
 
 pub boxed-same : (c d : Chip) (r s : Record) → InRange c r → InRange d s → boxedText c r ≡ boxedText d s → (r ≡ s) × (boxesAt c r ≡ boxesAt d s)
 boxed-same c d r s h k e =

@@ -1,7 +1,7 @@
-use Rattle.box_print.proofs.Printed.{net-written}
+use Rattle.box_line.proofs.Lines.{net-written}
 use borrow.Author.Needs.{needs}
-use Rattle.box_print.proofs.put_net.Statement.{statement}
-use Rattle.box_print.proofs.put_net.Tie as tie
+use Rattle.box_line.proofs.put_net.Statement.{statement}
+use Rattle.box_line.proofs.put_net.Tie as tie
 
 slice-aggregate-put-bytes : tie.Need-slice-aggregate-put-bytes
 slice-aggregate-put-bytes c = search needs

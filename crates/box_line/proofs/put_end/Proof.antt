@@ -1,7 +1,7 @@
 use Rattle.num_text.proofs.Wrote.{wrote-then}
 use borrow.Author.Needs.{needs}
-use Rattle.box_print.proofs.put_end.Statement.{statement}
-use Rattle.box_print.proofs.put_end.Tie as tie
+use Rattle.box_line.proofs.put_end.Statement.{statement}
+use Rattle.box_line.proofs.put_end.Tie as tie
 
 put-bytes-requires : tie.Need-put-bytes-requires
 put-bytes-requires c κs = search needs
