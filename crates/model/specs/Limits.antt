@@ -1,7 +1,7 @@
 -- The limits of document 01, "The chip file" and "The search and its record", and of document 02, Card 2, each with the thing that it limits.
-use Prim.Native.Nat.{ℕ, _+_}
+use Prim.Native.Nat.{ℕ}
 use mathlib.Core.Bool.{Bool, _&&_}
-use lib.IntN.{ℤ, pos, negℤ}
+use lib.IntN.{ℤ, pos, negℤ, _+ℤ_}
 use lib.Signed.{leZ}
 
 -- ---- how many
@@ -85,6 +85,6 @@ placedCorner = record { least = pos 0; most = pos 1024 }
 abbrev pub boxedNet : Range
 boxedNet = record { least = pos 1; most = pos mostNets }
 
--- l, r, b and t of a box line: where a pin of a net can lie, beside 0 or a corner up to 1,024
+-- l, r, b and t of a box line: where a pin of a net can lie, from 0 or from a macro's corner
 abbrev pub boxEnd : Range
-boxEnd = record { least = negℤ (pos mostPlace); most = pos (1024 + mostPlace) }
+boxEnd = record { least = negℤ (pos mostPlace); most = placedCorner .most +ℤ pos mostPlace }

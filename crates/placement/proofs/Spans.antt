@@ -1,4 +1,4 @@
--- The ends of places in natural numbers. The program holds each place 4,096 higher, so that none is negative; a shift of all places keeps their order and every difference, so the least and the greatest of the integers are those of the raised numbers, shifted back (`ends-shift`), and the one less the other is the spread of the raised numbers (`span-shift`). `held-box` and `held-length` are a held net's box and length in raised numbers.
+-- The ends of places in natural numbers. The program holds each place 4,096 higher, so that none is negative; a shift of all places keeps their order and every difference, so the least and the greatest of the integers are those of the raised numbers, shifted back (`least-of-shift`, `greatest-of-shift`), and the one less the other is the spread of the raised numbers (`span-shift`). `held-box` and `held-length` are a held net's box and length in raised numbers.
 use Prim.Native.Nat.{ℕ, zero, suc, _+_, _-_, _*_, _≤_, _<_, min, max}
 use mathlib.Core.Path.{_≡_, refl, ap, _∙_}
 use mathlib.Core.List.{List, [], _∷_, map}
