@@ -30,9 +30,9 @@ def library():
     run("rt", "staticlib", "jizdovel")
 
 
-def program(name):
-    """A program of bench/ that calls the static library."""
-    run("cc", "-O2", "-Iembed", "-o", WORK / name, f"bench/{name}.c", LIBRARY)
+def program(name, out=None, archive=LIBRARY):
+    """A program of bench/ that calls the static library, or another one."""
+    run("cc", "-O2", "-Iembed", "-o", WORK / (out or name), f"bench/{name}.c", archive)
 
 
 def build(baseline):

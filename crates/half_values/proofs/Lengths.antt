@@ -13,7 +13,7 @@ use mir.Syntax.{w64}
 use mir.Val.{Fits}
 use Rattle.num_laws.specs.Sum.{sum}
 use Rattle.num_laws.proofs.Sums.{sum-eq}
-use Rattle.num_laws.proofs.Spreads.{most-le, spread-le}
+use Rattle.num_laws.proofs.Spreads.{most-le, spread-le, top-bottom, top-found, bottom-found}
 use Rattle.num_laws.specs.Spread.{most, fewest, spread}
 use Rattle.axis_bounds.specs.Axis.{netsLength, valueAt, noPin}
 use Rattle.axis_bounds.proofs.Places.{place-at}
@@ -109,13 +109,7 @@ net-ends-all tab z ts bs i m le ge em h = let e : entryCount tab ≡ i = omega a
 spread-is : (s : List ℕ) → ((i : ℕ) → i < length s → getD s i 0 ≤ far) → spread s ≡ most 0 s - fewest far s
 unfolding spread most fewest
 spread-is [] h = refl
-spread-is (a ∷ s) h =
-    let l = h 0 (omega arith) in
-    let p : max 0 a ≡ a = omega arith in
-    let q : min far a ≡ a = omega arith in
-    let e = ap (λ (t : ℕ). most t s) p in
-    let f = ap (λ (t : ℕ). fewest t s) q in
-    omega arith
+spread-is (a ∷ s) h = let p = top-bottom (a ∷ s) in let q = top-found (a ∷ s) in let r = bottom-found far a s (h 0 (omega arith)) in omega arith
 
 pin-up : (tab : List ℕ) (j k i : ℕ) → getD (entryPins tab j k) i noPin .up ≤ 65535
 unfolding entryPins mostAt leastAt

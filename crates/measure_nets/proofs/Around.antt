@@ -1,7 +1,7 @@
--- The least and the greatest place of a net's pins, one pin after the other.
+-- The box of a net's pins, one pin after the other.
 use mathlib.Core.Path.{_≡_, sym, ap, _∙_}
-use mathlib.Core.List.{List, [], map}
-use Prim.Native.Nat.{ℕ, _+_, _≤_, _<_, min, max}
+use mathlib.Core.List.{List, [], _∷_, map}
+use Prim.Native.Nat.{ℕ, suc, _+_, _≤_, _<_, min, max}
 use native.Mathlib.Decide.{decLe}
 use native.Mathlib.Numerals.{add-one}
 use native.Mathlib.Omega.{arith}
@@ -11,42 +11,46 @@ use Rattle.model.specs.declared.Spot.{Spot}
 use Rattle.model.specs.declared.Pin.{Pin}
 use Rattle.model.specs.Meaning.{blankPin}
 use Rattle.num_laws.specs.Spread.{most, fewest, top, bottom}
+use Rattle.num_laws.proofs.Spreads.{top-found, bottom-found}
 use Rattle.measure_nets.specs.declared.NetBox.{NetBox}
 use Rattle.measure_nets.specs.Held.{heldX, heldY, withPin, boxHeld}
 
--- of the places f of the pins from `from` up to `to`, l is the least and g the greatest before i
-record Seen (f : Pin → ℕ) (hs : List Pin) (from to i l g : ℕ) : Type 0 where
-  least : bottom (map f (slice from to hs)) ≡ fewest l (map f (slice i to hs))
-  greatest : top (map f (slice from to hs)) ≡ most g (map f (slice i to hs))
+-- the box with pins more
+abbrev boxWith : List Spot → NetBox → List Pin → NetBox
+boxWith ps b hs = record {
+  left = fewest (b .left) (map (heldX ps) hs);
+  right = most (b .right) (map (heldX ps) hs);
+  bottom = fewest (b .bottom) (map (heldY ps) hs);
+  top = most (b .top) (map (heldY ps) hs);
+}
 
-module _ (f : Pin → ℕ) (hs : List Pin) (from to : ℕ) (few : to ≤ length hs) where
-  first-seen : (v : ℕ) → from < to → v ≡ f (getD hs from blankPin) → Seen f hs from to (from + 1) v v
-  unfolding top bottom
-  first-seen v h e = record { least = rw (slice-cons from to hs blankPin h few, e, add-one); greatest = rw (slice-cons from to hs blankPin h few, e, add-one) }
-
-  next-seen : (i l g v m n : ℕ) → i < to → Seen f hs from to i l g → v ≡ f (getD hs i blankPin) → m ≡ min l v → n ≡ max g v → Seen f hs from to (i + 1) m n
-  unfolding most fewest
-  next-seen i l g v m n h s e p q = record { least = s .least ∙ rw (slice-cons i to hs blankPin h few, p, e, add-one); greatest = s .greatest ∙ rw (slice-cons i to hs blankPin h few, q, e, add-one) }
-
-  module _ (i l g : ℕ) (h : i ≤ to) (k : to ≤ i) (s : Seen f hs from to i l g) where
-    ended : i ≡ to
-    ended = omega arith
-
-    last-least : l ≡ bottom (map f (slice from to hs))
-    unfolding fewest
-    last-least = sym (s .least ∙ rw (ended, slice-empty to hs))
-
-    last-greatest : g ≡ top (map f (slice from to hs))
-    unfolding most
-    last-greatest = sym (s .greatest ∙ rw (ended, slice-empty to hs))
-
--- both axes
+-- one pin more
 pub pin-added : (b : NetBox) (p : Spot) (l r s t : ℕ) → l ≡ min (b .left) (p .x) → r ≡ max (b .right) (p .x) → s ≡ min (b .bottom) (p .y) → t ≡ max (b .top) (p .y) → _≡_ {A = NetBox} (record { left = l; right = r; bottom = s; top = t }) (withPin b p)
 pin-added b p l r s t el er es et = rw (el, er, es, et)
 
+-- the box that b becomes with the pins from i up to `to` is that of all pins from `from` on
 pub record Around (ps : List Spot) (hs : List Pin) (from to i : ℕ) (b : NetBox) : Type 0 where
-  across : Seen (heldX ps) hs from to i (b .left) (b .right)
-  upward : Seen (heldY ps) hs from to i (b .bottom) (b .top)
+  whole : boxHeld ps (slice from to hs) ≡ boxWith ps b (slice i to hs)
+
+-- no pin lies farther
+abbrev farthest : ℕ
+farthest = 4294967296
+
+near : (ps : List Spot) (p : Pin) → (heldX ps p ≤ farthest) × (heldY ps p ≤ farthest)
+unfolding heldX heldY
+near ps p = (omega arith, omega arith)
+
+-- the loop's start: with a pin more it is the box of that pin
+abbrev start : NetBox
+start = record { left = farthest; right = 0; bottom = farthest; top = 0 }
+
+started : (ps : List Spot) (p : Pin) (s : List Pin) → boxHeld ps (p ∷ s) ≡ boxWith ps start (p ∷ s)
+started ps p s = rw (
+  bottom-found farthest (heldX ps p) (map (heldX ps) s) (near ps p .0),
+  top-found (map (heldX ps) (p ∷ s)),
+  bottom-found farthest (heldY ps p) (map (heldY ps) s) (near ps p .1),
+  top-found (map (heldY ps) (p ∷ s)),
+)
 
 -- pins past the array are none
 slice-within : (hs : List Pin) (from b : ℕ) → length hs ≡ 128 → slice from (min b 128) hs ≡ slice from b hs
@@ -65,24 +69,15 @@ module _ (ps : List Spot) (hs : List Pin) (from count to : ℕ) (long : length h
   unfolding top bottom
   none-around h = let e : slice from to hs ≡ [] = drop-of-length-le (take to hs) {i = from} (rw (length-take-le to hs (omega arith)) h) in rw (← its-pins, e)
 
-  pub first-around : (r : Spot) → from < to → r ≡ record { x = heldX ps (getD hs from blankPin); y = heldY ps (getD hs from blankPin) } → Around ps hs from to (from + 1) (record { left = r .x; right = r .x; bottom = r .y; top = r .y })
-  first-around r h e = record {
-    across = first-seen (heldX ps) hs from to (omega arith) (r .x) h (ap {B = ℕ} (λ (s : Spot). s .x) e);
-    upward = first-seen (heldY ps) hs from to (omega arith) (r .y) h (ap {B = ℕ} (λ (s : Spot). s .y) e);
-  }
+  -- before the first pin
+  pub first-around : from < to → Around ps hs from to from start
+  first-around h = record { whole = rw (slice-cons from to hs blankPin h (omega arith)) (started ps (getD hs from blankPin) (slice (suc from) to hs)) }
 
   module _ (i : ℕ) (b : NetBox) (so : Around ps hs from to i b) where
     pub next-around : (r : Spot) (d : NetBox) → i < to → r ≡ record { x = heldX ps (getD hs i blankPin); y = heldY ps (getD hs i blankPin) } → d ≡ withPin b r → Around ps hs from to (i + 1) d
-    next-around r d h k w = record {
-      across = next-seen (heldX ps) hs from to (omega arith) i (b .left) (b .right) (r .x) (d .left) (d .right) h (so .across) (ap {B = ℕ} (λ (s : Spot). s .x) k) (ap {B = ℕ} (λ (s : NetBox). s .left) w) (ap {B = ℕ} (λ (s : NetBox). s .right) w);
-      upward = next-seen (heldY ps) hs from to (omega arith) i (b .bottom) (b .top) (r .y) (d .bottom) (d .top) h (so .upward) (ap {B = ℕ} (λ (s : Spot). s .y) k) (ap {B = ℕ} (λ (s : NetBox). s .bottom) w) (ap {B = ℕ} (λ (s : NetBox). s .top) w);
-    }
+    unfolding most fewest
+    next-around r d h k w = record { whole = so .whole ∙ rw (slice-cons i to hs blankPin h (omega arith), w, k, add-one) }
 
     pub all-around : i ≤ to → to ≤ i → b ≡ boxHeld ps (slice from (from + count) hs)
-    all-around h k = rw (
-      ← its-pins,
-      ← last-least (heldX ps) hs from to (omega arith) i (b .left) (b .right) h k (so .across),
-      ← last-greatest (heldX ps) hs from to (omega arith) i (b .left) (b .right) h k (so .across),
-      ← last-least (heldY ps) hs from to (omega arith) i (b .bottom) (b .top) h k (so .upward),
-      ← last-greatest (heldY ps) hs from to (omega arith) i (b .bottom) (b .top) h k (so .upward),
-    )
+    unfolding most fewest
+    all-around h k = let e : i ≡ to = omega arith in sym (rw (← its-pins) (so .whole ∙ rw (e, slice-empty to hs)))

@@ -14,6 +14,9 @@ ghost use Rattle.measure_nets.specs.Held.{limited, heldX, heldY, withPin
 // Coordinates and weights count up to this, and the sides of a box.
 const MOST: u64 = 2147483648;
 
+// No pin lies farther: its macro's corner and its place there count up to MOST each.
+const FARTHEST: u64 = 4294967296;
+
 // The corner that a pin's x and y are added to: the macro's, or 0,0 for a pad and for a macro that there is not.
 fn origin_of(spots: [Spot; Mac::COUNT], m: usize) -> Spot
     ensures { λ r. ⌜ r ≡ origin spots m ⌝ }
@@ -75,6 +78,7 @@ pub fn end_of(from: usize, count: usize) -> usize
 }
 
 // The box of a net with as many pins from `from` on; of none, all ends are held as 0.
+// One pass (document 02, Card 4): the loop's one index goes up by one, and each pin is read once, by the loop's one read.
 pub fn net_box(
     spots: [Spot; Mac::COUNT],
     pins: [Pin; Pin::COUNT],
@@ -92,14 +96,13 @@ pub fn net_box(
             top: 0,
         };
     }
-    let first = place_of(spots, pins[from]);
     let mut b = NetBox {
-        left: first.x,
-        right: first.x,
-        bottom: first.y,
-        top: first.y,
+        left: FARTHEST,
+        right: 0,
+        bottom: FARTHEST,
+        top: 0,
     };
-    let mut i = from + 1;
+    let mut i = from;
     while i < to {
         let p = place_of(spots, pins[i]);
         b = with_pin(b, p);

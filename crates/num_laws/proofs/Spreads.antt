@@ -79,6 +79,16 @@ unfolding top bottom spread
 top-bottom [] = refl
 top-bottom (a ∷ s) = let p = fewest-le-most a s in omega arith
 
+-- found one after the other from an end that no number lies beyond
+pub top-found : (s : List ℕ) → most 0 s ≡ top s
+unfolding most top
+top-found [] = refl
+top-found (a ∷ s) = let e : max 0 a ≡ a = omega arith in rw e
+
+pub bottom-found : (b a : ℕ) (s : List ℕ) → a ≤ b → fewest b (a ∷ s) ≡ bottom (a ∷ s)
+unfolding fewest bottom
+bottom-found b a s l = let e : min b a ≡ a = omega arith in rw e
+
 pub each-le-top : (s : List ℕ) (i : ℕ) → i < length s → getD s i 0 ≤ top s
 unfolding top
 each-le-top [] i l = absurd (omega arith)

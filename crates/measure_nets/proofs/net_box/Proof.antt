@@ -16,6 +16,9 @@ end-of-requires c κs = search needs
 returns : tie.Need-returns Inv-loop μ-loop
 returns c = search (needs, none-around)
 
+loop-holds : tie.Need-loop-holds Inv-loop μ-loop
+loop-holds c = (search needs, search (needs, first-around))
+
 mul-place-of : tie.Need-mul-place-of Inv-loop μ-loop
 mul-place-of c = search needs
 
@@ -25,26 +28,11 @@ array-copy-out-place-of c = search needs
 place-of-requires : tie.Need-place-of-requires Inv-loop μ-loop
 place-of-requires c κs = search needs
 
-add-i : tie.Need-add-i Inv-loop μ-loop
-add-i c = search needs
-
-loop-holds : tie.Need-loop-holds Inv-loop μ-loop
-loop-holds c = (search needs, search (needs, first-around))
-
-mul-place-of-2 : tie.Need-mul-place-of-2 Inv-loop μ-loop
-mul-place-of-2 c = search needs
-
-array-copy-out-place-of-2 : tie.Need-array-copy-out-place-of-2 Inv-loop μ-loop
-array-copy-out-place-of-2 c = search needs
-
-place-of-requires-2 : tie.Need-place-of-requires-2 Inv-loop μ-loop
-place-of-requires-2 c κs = search needs
-
 with-pin-requires : tie.Need-with-pin-requires Inv-loop μ-loop
 with-pin-requires c κs = search needs
 
-add-i-2 : tie.Need-add-i-2 Inv-loop μ-loop
-add-i-2 c = search needs
+add-i : tie.Need-add-i Inv-loop μ-loop
+add-i c = search needs
 
 loop-less : tie.Need-loop-less Inv-loop μ-loop
 loop-less c = search needs
@@ -63,16 +51,12 @@ net-box-spec =
     μ-loop
     end-of-requires
     returns
+    loop-holds
     mul-place-of
     array-copy-out-place-of
     place-of-requires
-    add-i
-    loop-holds
-    mul-place-of-2
-    array-copy-out-place-of-2
-    place-of-requires-2
     with-pin-requires
-    add-i-2
+    add-i
     loop-less
     loop-again
     returns-2)
