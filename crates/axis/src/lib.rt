@@ -3,6 +3,8 @@
 // An axis beyond the limits is malformed. A macro larger than the die has no place. Then an answer is proposed (`propose`) and tested,
 // as a flow with the smallest values (axis_values, axis_amounts), or as a closed chain. What does not pass its test is done again by the
 // solver that is sure but slow (axis_solve).
+#![tactic(auto)]
+
 mod propose;
 mod tables;
 

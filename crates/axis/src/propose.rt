@@ -48,7 +48,7 @@ const START: u64 = 250000;
 const FAR: u32 = 1000000;
 
 // Values x, amounts f, and `parents`: for each node its parent slot, then its rank. Where nothing fits, f is a chain.
-#[derive(Drop)]
+#[derive(Clone, Copy)]
 pub(crate) struct Proposal {
     pub fits: bool,
     pub x: [u64; NODE_ROOM],
@@ -180,7 +180,7 @@ fn put_macros(
 }
 
 // An end of a net: its place, and the entry that it hangs on, with the rank of that entry's node.
-#[derive(Drop)]
+#[derive(Clone, Copy)]
 struct End {
     y: u32,
     at: usize,

@@ -2,6 +2,8 @@
 //
 // Amounts are a flow where what enters a node and what leaves it is the same, the nets' weights included. A closed chain whose pluses
 // outweigh its minuses shows that no values keep the bounds.
+#![tactic(auto)]
+
 ghost use Rattle.std.specs.Prelude.{◌≡◌, ◌≤◌};
 ghost use Rattle.num_laws.specs.Sum.{sum};
 ghost use Rattle.axis_graph.specs.Limits.{net_room, amount_most};
@@ -20,7 +22,7 @@ use axis_tie::{is_even, is_gain};
 const WEIGHT_MOST: u64 = 1000;
 
 // What enters and what leaves each node.
-#[derive(Drop)]
+#[derive(Clone, Copy)]
 struct Sums {
     into: [u64; NODE_ROOM],
     out: [u64; NODE_ROOM],

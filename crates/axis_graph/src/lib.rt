@@ -1,6 +1,8 @@
 // The graph of an axis and what solving it answers: the types that the parts of the solver share, with their definitions and laws.
 //
 // Nodes have values, and slots have bounds. Node 0 is the die corner, then come the macros, then hi and lo of each net.
+#![tactic(auto)]
+
 use axis_bounds::{Axis, Slot};
 
 pub mod above;
@@ -17,7 +19,7 @@ pub const NODES: usize = 128;
 pub const PARENTS: usize = 256;
 
 // The first n nodes and the first m slots are in use.
-#[derive(Drop)]
+#[derive(Clone, Copy)]
 pub struct Graph {
     pub n: usize,
     pub m: usize,
@@ -25,7 +27,7 @@ pub struct Graph {
 }
 
 // The lower and the upper node of a net, and its weight.
-#[derive(Drop)]
+#[derive(Clone, Copy)]
 pub struct Span {
     pub lo: usize,
     pub hi: usize,
@@ -33,7 +35,7 @@ pub struct Span {
 }
 
 // Malformed: beyond a limit. Unsolvable: no coordinates keep the bounds. Solved: the best coordinates are found.
-#[derive(Drop)]
+#[derive(Clone, Copy)]
 pub enum Verdict {
     Malformed,
     Unsolvable,
@@ -41,7 +43,7 @@ pub enum Verdict {
 }
 
 // at: the macros' coordinates. amounts: what each listed slot carries, a flow where solved, a closed chain where unsolvable.
-#[derive(Drop)]
+#[derive(Clone, Copy)]
 pub struct Solution {
     pub verdict: Verdict,
     pub at: [u64; Axis::MACROS],

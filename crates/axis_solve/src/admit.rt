@@ -12,7 +12,7 @@ use axis_bounds::Slot;
 use axis_graph::{Graph, NODE_ROOM, SLOT_ROOM};
 
 // fits: values x that keep all bounds; otherwise amounts f that refute them.
-#[derive(Drop)]
+#[derive(Clone, Copy)]
 pub struct Admitted {
     pub fits: bool,
     pub x: [u64; NODE_ROOM],

@@ -11,7 +11,7 @@ use axis_graph::{Graph, NODE_ROOM, SLOT_ROOM};
 use num_limits::lesser;
 
 // The values and amounts after one push, and the amount q of that push.
-#[derive(Drop)]
+#[derive(Clone, Copy)]
 struct Turn {
     x: [u64; NODE_ROOM],
     f: [u64; SLOT_ROOM],
@@ -19,7 +19,7 @@ struct Turn {
 }
 
 // Values and amounts.
-#[derive(Drop)]
+#[derive(Clone, Copy)]
 pub struct Flowed {
     pub x: [u64; NODE_ROOM],
     pub f: [u64; SLOT_ROOM],

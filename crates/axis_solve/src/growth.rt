@@ -15,7 +15,7 @@ pub(crate) const FARTHEST: u64 = 250000;
 const NO_SLACK: u64 = 2000000;
 
 // The slot of least slack that leaves the set, and its slack; a slack of NO_SLACK: none leaves.
-#[derive(Drop)]
+#[derive(Clone, Copy)]
 struct Leave {
     slot: usize,
     by: u64,
@@ -23,7 +23,7 @@ struct Leave {
 
 // x: the values of the nodes. rank: the place of a node in the order of joining, 0 outside the set. parent: the slot by which
 // a node joined. room: what can be pushed to it from the start. count: the number of nodes in the set. start: the first.
-#[derive(Drop)]
+#[derive(Clone, Copy)]
 pub(crate) struct Growth {
     pub x: [u64; NODE_ROOM],
     pub rank: [usize; NODE_ROOM],
@@ -34,7 +34,7 @@ pub(crate) struct Growth {
 }
 
 // The node that joined, NODE_ROOM where none could, and the growth after that.
-#[derive(Drop)]
+#[derive(Clone, Copy)]
 pub(crate) struct Step {
     pub joined: usize,
     pub state: Growth,

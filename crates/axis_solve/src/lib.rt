@@ -3,6 +3,8 @@
 // `admit` adds bounds to a graph, or shows that no values keep them all; `augment` sends a net's weight from its lower to its upper node
 // along slots that are tight; `solve` does so for every net and makes the values the smallest. All of them grow a set of nodes along
 // tight slots (`growth`) and push amounts along it (`push`). `start` gives the values that the whole graph starts from.
+#![tactic(auto)]
+
 mod admit;
 mod augment;
 mod growth;

@@ -12,7 +12,7 @@ use num_limits::{greater, lesser};
 const TOPMOST: u64 = 274576;
 
 // The least and the greatest place of a net's pins.
-#[derive(Drop)]
+#[derive(Clone, Copy)]
 struct Ends {
     lo: u64,
     hi: u64,

@@ -1,4 +1,6 @@
 // The tests of a proposal at one slot, at each node, and of a chain: a slot leads to a node from one before it; as much enters as leaves; more is gained than lost.
+#![tactic(auto)]
+
 ghost use Rattle.std.specs.Prelude.{◌≡◌, ltb};
 ghost use Rattle.axis_graph.specs.Graph.{Shows};
 ghost use Rattle.axis_tie.specs.Tied.{Tied};

@@ -3,6 +3,8 @@
 // The values keep all bounds, every slot that carries is tight, and every node has a parent before it in some order from node 0: by a
 // tight slot forwards, or by one that carries backwards. Where the amounts are a flow too (axis_amounts), the values are the smallest of
 // the least.
+#![tactic(auto)]
+
 ghost use Rattle.axis_graph.specs.Graph.{GraphWithin, ValuesWithin, Holds, Tights, Shows};
 ghost use Rattle.axis_values.specs.Values.{Kept, Rooted, Rests};
 

@@ -1,4 +1,6 @@
 // A record read beside its chip (document 02, Card 1).
+#![tactic(auto)]
+
 ghost use Rattle.std.specs.Prelude.{◌≡◌};
 ghost use Rattle.model.specs.Meaning.{chip_of, record_of};
 ghost use Rattle.text_grammar.specs.Reading.{accepted};
@@ -10,7 +12,7 @@ use model::{Chip, Record, Refusal};
 use record_read::RecordAnswer;
 
 // The text at fault, whose line a refusal tells; neither where both are accepted.
-#[derive(Drop)]
+#[derive(Clone, Copy)]
 pub enum AtFault {
     Neither,
     Chip,
@@ -18,7 +20,7 @@ pub enum AtFault {
 }
 
 // What reading a record beside its chip answers.
-#[derive(Drop)]
+#[derive(Clone, Copy)]
 pub enum BesideAnswer {
     Passed,
     Refused(Refusal, AtFault),

@@ -1,4 +1,6 @@
 // What the program `beside` prints for a chip and a record: `passed`, or the line of the refusal.
+#![tactic(auto)]
+
 ghost use Rattle.std.specs.Prelude.{◌≡◌, leb, length};
 ghost use Rattle.text_grammar.specs.Writing.{answer_of, if_room};
 ghost use Rattle.beside_print.specs.Printed.{passed_line, print_beside};

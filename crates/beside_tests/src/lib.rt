@@ -1,4 +1,6 @@
 // The tests of a record beside a chip (document 02, Card 1), both held as values.
+#![tactic(auto)]
+
 ghost use Rattle.std.specs.Prelude.{◌≡◌};
 ghost use Rattle.model.specs.declared.Outcome.TheVariants as outcome;
 ghost use Rattle.refusals.specs.Tests.{first_failed};

@@ -1,4 +1,6 @@
 // Writing the line of a net's box into a lent buffer (document 02, Card 2).
+#![tactic(auto)]
+
 ghost use Rattle.std.specs.Prelude.{◌++◌};
 ghost use Rattle.std.proofs.Math.IntN.{sub_ℕ};
 ghost use Rattle.num_text.specs.Number.{number_text};

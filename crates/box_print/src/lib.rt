@@ -1,4 +1,6 @@
 // Writing a record with the box of each net into a lent buffer (document 02, Card 2).
+#![tactic(auto)]
+
 ghost use Rattle.num_text.specs.Held.{Wrote};
 ghost use Rattle.text_grammar.specs.Words.{item_text, items_text};
 ghost use Rattle.measure_nets.specs.Box.{box_of};

@@ -1,5 +1,7 @@
 // A chip as one array of numbers, which can be lent. At 0..4 the counts of fixes, macros and nets, and the die; then macros, nets,
 // pins and fixes, each item's numbers side by side. The fixes stand last: 640 places have room for 42 of them.
+#![tactic(auto)]
+
 ghost use Rattle.std.specs.Prelude.{◌≡◌};
 ghost use Rattle.chip_array.specs.Array.{macs_in, nets_in, pins_in, fixes_in, chip_in};
 

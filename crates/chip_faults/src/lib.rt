@@ -1,4 +1,6 @@
 // The first fault of each item of a chip that is held as a value.
+#![tactic(auto)]
+
 ghost use Rattle.std.specs.Prelude.{◌≡◌};
 ghost use Rattle.chip_faults.specs.Faults.{die_fault, fix_fault, mac_fault, bare_before, net_fault, pin_fault, row_fault};
 
@@ -88,7 +90,7 @@ fn pin_fault(pins: [Pin; Pin::COUNT], n: usize, i: usize) -> usize
 }
 
 // The lists of a chip whose items stand on lines that follow each other.
-#[derive(Drop)]
+#[derive(Clone, Copy)]
 pub enum Row {
     Fixes,
     Macs,

@@ -1,4 +1,6 @@
 // The items of a chip that is held as a value, tested one by one in the order of the file.
+#![tactic(auto)]
+
 ghost use Rattle.std.specs.Prelude.{◌≡◌, ◌≤◌};
 ghost use Rattle.model.specs.Limits.{most_pins};
 ghost use Rattle.chip_items.specs.Tests.{row_tested, net_tested, nets_tested, items_tested};

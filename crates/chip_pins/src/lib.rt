@@ -1,4 +1,6 @@
 // The pins of a chip's nets, counted.
+#![tactic(auto)]
+
 ghost use Rattle.std.specs.Prelude.{◌≡◌, min};
 ghost use Rattle.chip_text.specs.Valid.{pins_before};
 

@@ -1,4 +1,6 @@
 // Writing the text of a chip into a lent buffer.
+#![tactic(auto)]
+
 ghost use Rattle.std.specs.Prelude.{[], ◌≡◌, ◌+◌, ◌≤◌, min, get_or};
 ghost use Rattle.model.specs.Limits.{most_pins};
 ghost use Rattle.num_text.specs.Held.{Wrote};

@@ -1,4 +1,6 @@
 // Reading a chip from its text.
+#![tactic(auto)]
+
 ghost use Rattle.std.specs.Prelude.{◌≡◌, ◌≤◌, ◌<◌, length, drop};
 ghost use Rattle.model.specs.Limits.{most_bytes};
 ghost use Rattle.model.specs.Held.{held_chip};
@@ -19,21 +21,21 @@ use model::{
 use text_line::{Fault, Fields};
 
 // What reading a chip answers.
-#[derive(Drop)]
+#[derive(Clone, Copy)]
 pub enum ChipAnswer {
     Accepted,
     Refused(Refusal),
 }
 
 // The answer with the chip; its entries past the counts are blank, and after a refusal the chip is.
-#[derive(Drop)]
+#[derive(Clone, Copy)]
 pub struct ChipRead {
     pub answer: ChipAnswer,
     pub chip: Chip,
 }
 
 // What has been read: the word of the last line, the chip so far, and the number of its pins.
-#[derive(Drop)]
+#[derive(Clone, Copy)]
 pub(crate) struct State {
     pub last: ChipLast,
     pub pins: usize,
@@ -41,7 +43,7 @@ pub(crate) struct State {
 }
 
 // What a line leads to: its fault, or what has been read with it.
-#[derive(Drop)]
+#[derive(Clone, Copy)]
 pub(crate) struct Taken {
     pub fault: Fault,
     pub state: State,

@@ -1,4 +1,6 @@
 // What the text of a chip means, and that a chip has one text; and the tests of a line before its fields and after them.
+#![tactic(auto)]
+
 ghost use Rattle.std.specs.Prelude.{◌≡◌, map, take};
 ghost use Rattle.geometry.specs.Box.{box_of, clear_of};
 ghost use Rattle.chip_text.specs.Tests.{last_of, counts_in, chip_following, chip_rooms};
@@ -8,7 +10,7 @@ use model::{Die, Fix, Mac, Net, Pin};
 use text_grammar::{Following, WORDS};
 
 // The words of chip files.
-#[derive(Drop)]
+#[derive(Clone, Copy)]
 pub enum ChipWord {
     Die,
     Fix,
@@ -19,14 +21,14 @@ pub enum ChipWord {
 }
 
 // The word of the last line, or that there was none yet.
-#[derive(Drop)]
+#[derive(Clone, Copy)]
 pub enum ChipLast {
     Before,
     After(ChipWord),
 }
 
 // How many fixes, macros, nets and pins have been read.
-#[derive(Drop)]
+#[derive(Clone, Copy)]
 pub struct Counts {
     pub fixes: usize,
     pub macs: usize,

@@ -1,4 +1,6 @@
 // The words of chip files in code: how each is spelled and its line laid out, and the tables of the walk.
+#![tactic(auto)]
+
 ghost use Rattle.std.specs.Prelude.{◌≡◌, [], ◌∷◌, get_or};
 ghost use Rattle.text_line.specs.Held.{spelled};
 ghost use Rattle.text_line.specs.Layout.{short_rule, laid_out, layout_for};

@@ -1,4 +1,6 @@
 // Writing a chip that is held as a value.
+#![tactic(auto)]
+
 ghost use Rattle.std.specs.Prelude.{◌≡◌};
 ghost use Rattle.model.specs.Meaning.{chip_of};
 ghost use Rattle.text_grammar.specs.Writing.{answer_of};

@@ -6,7 +6,7 @@ ghost use Rattle.console.specs.Buffer.{InBuffer};
 use model::WriteAnswer;
 
 // What reading came to: a read failed, or all is well and so many bytes came.
-#[derive(Drop)]
+#[derive(Clone, Copy)]
 pub(crate) struct Came {
     pub failed: bool,
     pub count: usize,

@@ -1,4 +1,6 @@
 // The fit, sold by itself (document 01, "The fit"): a chip and one letter for each pair give a placement with its length and a flow, or no fit with a closed chain.
+#![tactic(auto)]
+
 ghost use Rattle.std.specs.Prelude.{◌+◌, ◌≤◌, ◌≡◌, [], length};
 ghost use Rattle.model.specs.Meaning.{chip_of, blank_spot};
 ghost use Rattle.model.specs.Limits.{most_macs};
@@ -18,14 +20,14 @@ use fit_tests::Entry;
 use model::{Chip, Mac, Refusal, Spot};
 
 // The wirelength of the placement, and the number of slots that its flow takes.
-#[derive(Drop)]
+#[derive(Clone, Copy)]
 pub struct Fitted {
     pub length: u64,
     pub slots: usize,
 }
 
 // A placement with its length, no fit, or the refusal.
-#[derive(Drop)]
+#[derive(Clone, Copy)]
 pub enum FitOutcome {
     Placed(Fitted),
     NoFit,
@@ -33,7 +35,7 @@ pub enum FitOutcome {
 }
 
 // What a fit answers; the positions beside it are 0,0 past the macros, and 0,0 everywhere without a placement.
-#[derive(Drop)]
+#[derive(Clone, Copy)]
 pub struct FitAnswer {
     pub outcome: FitOutcome,
     pub spots: [Spot; Mac::COUNT],

@@ -1,4 +1,6 @@
 // A direction of a chip and its letters as the axis that the solver takes, and its solution.
+#![tactic(auto)]
+
 mod pairlist;
 
 ghost use Rattle.std.specs.Prelude.{◌≡◌, map};

@@ -1,5 +1,7 @@
 // The faults of a letter string and of a lent list of slots (document 01, "Refusal table"): how many letters a string stands for, whether bytes are
 // letters, and the first test that fails.
+#![tactic(auto)]
+
 ghost use Rattle.std.specs.Prelude.{◌≡◌, length};
 ghost use Rattle.refusals.specs.Tests.{first_failed};
 ghost use Rattle.fit_slots.specs.Fit.{is_letter, are_letters, stands_for, tests_by};

@@ -1,4 +1,6 @@
 // What a fit puts into its lists: the amounts of both directions into the lent one, and the corners.
+#![tactic(auto)]
+
 ghost use Rattle.std.specs.Prelude.{◌≡◌, map, ◌+◌, ◌≤◌, length, take};
 ghost use Rattle.std.proofs.lemmas.List.Edits.{sets};
 ghost use Rattle.model.specs.Corners.{spots_of};

@@ -1,4 +1,6 @@
 // The slot that a letter asks of a pair, in a direction.
+#![tactic(auto)]
+
 ghost use Rattle.std.specs.Prelude.{◌≡◌, ◌<◌};
 ghost use Rattle.fit_slots.specs.Slots.{die_side, mac_side, fix_side, fix_corner, asked};
 ghost use Rattle.fit_slots.specs.Fit.{letter_of};

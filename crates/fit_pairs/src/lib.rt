@@ -1,4 +1,6 @@
 // The pairs of a chip, in the order of their letters: how many there are, a cursor through them, and a dot for each.
+#![tactic(auto)]
+
 ghost use Rattle.std.specs.Prelude.{◌≡◌};
 ghost use Rattle.fit_slots.specs.Fit.{dots};
 ghost use Rattle.fit_pairs.specs.Order.{First, first_pair, is_on, next_of};
@@ -10,7 +12,7 @@ use model::{Fix, Mac};
 pub const LETTERS: usize = 120;
 
 // A pair in the order of letters: macros i and j, or macro i and fix j, counted from 0.
-#[derive(Drop)]
+#[derive(Clone, Copy)]
 pub struct Cursor {
     pub fix: bool,
     pub i: usize,

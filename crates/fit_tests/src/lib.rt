@@ -1,4 +1,6 @@
 // The tests before a fit (document 01, "Refusal table"): the chip as its text would be, then the letters and the lent list.
+#![tactic(auto)]
+
 ghost use Rattle.chip_text.specs.Passed.{Passed};
 ghost use Rattle.chip_text.proofs.Passing.{Whole};
 ghost use Rattle.fit_tests.specs.Entry.{SlotsEach, Entered};
@@ -7,7 +9,7 @@ use chip_pins::pins_before;
 use model::{Chip, Refusal, Tested};
 
 // The refusal, or the number of slots of each direction.
-#[derive(Drop)]
+#[derive(Clone, Copy)]
 pub enum Entry {
     Refused(Refusal),
     Slots(usize),

@@ -1,11 +1,13 @@
 // Boxes: fixes, and macros at their corners; whether they lie in the die, and are apart by a gap.
+#![tactic(auto)]
+
 ghost use Rattle.std.specs.Prelude.{◌≡◌, map, ◌+◌, leb, take};
 ghost use Rattle.geometry.specs.Box.{box_at, box_of, in_die, left_of, below as isBelow, apart as areApart, clear_of};
 
 use model::{Die, Fix, Mac, Spot};
 
 // A rectangle: its lower left corner at x,y, its width and its height.
-#[derive(Drop)]
+#[derive(Clone, Copy)]
 pub struct Box {
     pub x: u64,
     pub y: u64,

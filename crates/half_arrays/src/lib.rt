@@ -1,4 +1,6 @@
 // Lent arrays of half fits, read: every index is taken modulo its range, every number modulo its limit, so nothing is asked of a caller.
+#![tactic(auto)]
+
 ghost use Rattle.std.specs.Prelude.{◌<◌, ◌≡◌};
 ghost use Rattle.half_arrays.specs.Arrays.{bound_at, entry_count, node_at, most_at, least_at, net_at, weight_at};
 ghost use Rattle.half_arrays.specs.State.{amount_at, rank_at};

@@ -1,6 +1,8 @@
 // The fit of one direction. Values, amounts and a tree are proposed by fast code on lent arrays, from nothing (cold) or from the state of a fit
 // with one bound less (insert). All of that is proved safe and ending, and nothing more. What is proposed is tested (proposal, none), and the
 // answer (service) rests on the tests alone.
+#![tactic(auto)]
+
 mod cold;
 mod insert;
 mod lists;

@@ -10,7 +10,7 @@ use half_values::values::coordinates_of;
 use half_worth::worth_of;
 
 // The coordinates of the state are the half fit, of this length; or nothing is shown.
-#[derive(Drop)]
+#[derive(Clone, Copy)]
 pub(crate) enum Shown {
     Fit(u64),
     Not,

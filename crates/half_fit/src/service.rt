@@ -16,7 +16,7 @@ use half_values::values::coordinates_of;
 use half_worth::shows_beyond;
 
 // The fit of the direction has this length, which is within the room; it is longer than the room, or there is none; or nothing is shown.
-#[derive(Drop)]
+#[derive(Clone, Copy)]
 pub enum HalfOutcome {
     Fit(u64),
     Beyond,
@@ -24,7 +24,7 @@ pub enum HalfOutcome {
 }
 
 // With the macros' coordinates, where it is a fit.
-#[derive(Drop)]
+#[derive(Clone, Copy)]
 pub struct HalfFit {
     pub outcome: HalfOutcome,
     pub at: [u64; Axis::MACROS],

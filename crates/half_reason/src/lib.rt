@@ -1,4 +1,6 @@
 // The test that each macro has its value from a node of lower rank, its parent, in the way that the state says.
+#![tactic(auto)]
+
 ghost use Rattle.std.specs.Prelude.{◌<◌, ◌≤◌};
 ghost use Rattle.half_arrays.specs.Says.{Says};
 ghost use Rattle.half_arrays.specs.State.{flow_at, hi_at, lo_at, rank_at, coordinates};

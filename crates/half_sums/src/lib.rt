@@ -1,4 +1,6 @@
 // What amounts give, in one pass over the entries and one over the bounds.
+#![tactic(auto)]
+
 ghost use Rattle.half_arrays.specs.Arrays.{entry_count};
 ghost use Rattle.half_sums.specs.Sums.{EntrySums, FlowSums};
 
@@ -8,7 +10,7 @@ use half_arrays::{
 };
 
 // What the entries carry to hi and from lo at each node (high, low) and of each net (hi, lo), and that times their greatest and least places.
-#[derive(Drop)]
+#[derive(Clone, Copy)]
 pub struct OfEntries {
     pub high: [u64; 9],
     pub low: [u64; 9],
@@ -19,7 +21,7 @@ pub struct OfEntries {
 }
 
 // Into each node and out of it what the bounds carry; all of it, and that times the bounds.
-#[derive(Drop)]
+#[derive(Clone, Copy)]
 pub struct OfBounds {
     pub into: [u64; 9],
     pub out: [u64; 9],

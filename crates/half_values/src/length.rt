@@ -11,7 +11,7 @@ use half_arrays::{TAB, entries, least, most, net, node, weight};
 use num_limits::{greater, lesser};
 
 // The greatest and the least place of each net; 0 and 131072 of a net with no entry.
-#[derive(Drop)]
+#[derive(Clone, Copy)]
 struct Ends {
     pub top: [u64; Axis::NETS],
     pub bottom: [u64; Axis::NETS],

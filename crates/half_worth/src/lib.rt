@@ -1,5 +1,7 @@
 // The tests that amounts balance at every node and give each net its weight, what they are worth, and that a half fit is above a room: by amounts alone,
 // no values are read.
+#![tactic(auto)]
+
 ghost use Rattle.half_arrays.specs.State.{flow_at, hi_at, lo_at};
 ghost use Rattle.half_worth.specs.Amounts.{Passes};
 ghost use Rattle.half_worth.specs.Tests.{Level, Given, WorthSums};
@@ -13,7 +15,7 @@ use half_arrays::{ARCS, POOL, TAB, weight};
 use half_sums::{OfBounds, OfEntries, of_bounds, of_entries};
 
 // Amounts that pass both tests, or may not; their worth is `more` less `less`.
-#[derive(Drop)]
+#[derive(Clone, Copy)]
 pub struct Worth {
     pub passes: bool,
     pub more: u64,

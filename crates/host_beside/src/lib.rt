@@ -1,4 +1,6 @@
 // A record read beside its chip, answered for a C host: a number, a value, and the text at fault.
+#![tactic(auto)]
+
 ghost use Rattle.std.specs.Prelude.{◌≡◌};
 ghost use Rattle.beside_check.specs.Beside.{beside_as};
 ghost use Rattle.host_beside.specs.CodeBeside.{text_number, beside_code};
@@ -7,7 +9,7 @@ use beside_check::{AtFault, BesideAnswer};
 use host_codes::{Code, YES, refusal_code};
 
 // What jizdovel_check_beside answers.
-#[derive(Drop)]
+#[derive(Clone, Copy)]
 pub struct BesideCode {
     pub code: Code,
     pub text: u64,

@@ -1,4 +1,6 @@
 // The one encoding of answers: a number, and a value beside it.
+#![tactic(auto)]
+
 ghost use Rattle.std.specs.Prelude.{◌≡◌};
 ghost use Rattle.text_grammar.specs.Writing.{answer_of};
 ghost use Rattle.chip_read.specs.Answer.{meant_chip};
@@ -12,7 +14,7 @@ use model::{Refusal, WriteAnswer};
 use record_read::{RecordAnswer, RecordRead};
 
 // What an exported function answers.
-#[derive(Drop)]
+#[derive(Clone, Copy)]
 pub struct Code {
     pub number: u64,
     pub value: u64,

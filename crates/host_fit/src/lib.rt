@@ -1,4 +1,6 @@
 // The fit of a chip text, with slots and positions into lent lists.
+#![tactic(auto)]
+
 ghost use Rattle.std.specs.Prelude.{◌≡◌, ◌+◌, ◌≤◌, length};
 ghost use Rattle.model.specs.Meaning.{chip_of};
 ghost use Rattle.text_grammar.specs.Reading.{accepted};

@@ -1,1 +1,3 @@
 // Laws of the answers that a C host gets; no code.
+#![tactic(auto)]
+

@@ -1,4 +1,6 @@
 // Positions as a lent list of numbers x1, y1, x2, y2 ..: whether it has the right length, and corners put into it.
+#![tactic(auto)]
+
 ghost use Rattle.std.specs.Prelude.{◌≡◌, [], ◌∷◌, ◌*◌, ltb, eqb, take, set};
 ghost use Rattle.std.proofs.lemmas.List.Edits.{sets};
 ghost use Rattle.refusals.specs.Tests.{test, first_failed};

@@ -1,4 +1,6 @@
 // Positions as a list of numbers, measured.
+#![tactic(auto)]
+
 ghost use Rattle.std.specs.Prelude.{◌≡◌, ◌+◌, ◌≤◌, length, take};
 ghost use Rattle.model.specs.Meaning.{chip_of};
 ghost use Rattle.text_grammar.specs.Reading.{accepted};

@@ -1,4 +1,6 @@
 // The C interface of the placer, as a static library: bytes and numbers in, a number and a value out. embed/jizdovel.h declares the functions for C.
+#![tactic(auto)]
+
 ghost use Rattle.std.specs.Prelude.{◌≡◌, length};
 ghost use Rattle.chip_text.specs.Text.{read_chip};
 ghost use Rattle.record_text.specs.Text.{read_record};

@@ -1,4 +1,6 @@
 // Macros at their corners: whether all lie in the die, and are apart from the fixes and from each other.
+#![tactic(auto)]
+
 ghost use Rattle.std.specs.Prelude.{◌≡◌, [], map, ◌≤◌, ◌<◌, get_or, take};
 ghost use Rattle.geometry.specs.Box.{box_of, blank_box};
 ghost use Rattle.placement.specs.Legal.{boxes};

@@ -1,5 +1,7 @@
 // Measuring a placement: whether positions are legal for a chip, and their wirelength (document 01, "Legal, and how long").
 // The chip and the positions are tested first.
+#![tactic(auto)]
+
 ghost use Rattle.std.specs.Prelude.{◌≡◌};
 ghost use Rattle.model.specs.Meaning.{first_of, blank_spot, chip_of};
 ghost use Rattle.measure_held.specs.Answer.{measured_as};

@@ -1,4 +1,6 @@
 // A chip held as a value and positions, measured without a test (document 01, "Legal, and how long").
+#![tactic(auto)]
+
 ghost use Rattle.std.specs.Prelude.{◌≡◌};
 ghost use Rattle.legal.specs.Turn.{legal_held};
 ghost use Rattle.measure_held.specs.Answer.{measured as measured_at, measured_as};
@@ -8,7 +10,7 @@ use model::{Chip, Mac, Net, Refusal, Spot};
 use num_limits::sum;
 
 // What measuring answers: legal or not and the wirelength, or the refusal.
-#[derive(Drop)]
+#[derive(Clone, Copy)]
 pub enum MeasureAnswer {
     Measured(bool, u64),
     Refused(Refusal),

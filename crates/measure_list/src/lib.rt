@@ -1,4 +1,6 @@
 // Measuring over a lent list of positions: thin functions above the core on arrays.
+#![tactic(auto)]
+
 ghost use Rattle.std.specs.Prelude.{◌≡◌, [], ◌∷◌, get_or, take, ◌≤◌};
 ghost use Rattle.model.specs.Meaning.{first_of, blank_spot, chip_of};
 ghost use Rattle.measure_held.specs.Answer.{measured_as};

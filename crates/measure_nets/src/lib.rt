@@ -1,5 +1,7 @@
 // The box of a net, for any pins and positions (document 02, Card 2), and how long a net with a box is (document 01, "Legal, and how long").
 // Numbers count up to a limit that those of a tested chip do not reach.
+#![tactic(auto)]
+
 ghost use Rattle.std.specs.Prelude.{◌≡◌, ◌+◌, ◌-◌, min};
 ghost use Rattle.std.proofs.Math.Seq.{slice};
 ghost use Rattle.placement.specs.Length.{origin};
@@ -38,7 +40,7 @@ fn place_of(spots: [Spot; Mac::COUNT], p: Pin) -> Spot
 }
 
 // The box of a net: its least and greatest x and y, each held higher by Pin::UP.
-#[derive(Drop)]
+#[derive(Clone, Copy)]
 pub struct NetBox {
     pub left: u64,
     pub right: u64,

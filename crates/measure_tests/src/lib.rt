@@ -1,4 +1,6 @@
 // The tests of positions before they are measured (document 01, "Refusal table"): the chip as its text would be, then the list.
+#![tactic(auto)]
+
 ghost use Rattle.std.specs.Prelude.{◌≡◌, ◌≤◌, take};
 ghost use Rattle.model.specs.Meaning.{first_of, blank_spot, chip_of};
 ghost use Rattle.refusals.specs.Tests.{first_failed};

@@ -1,4 +1,6 @@
 // The things of document 01 as values, each limit with the thing that it limits, and constructors that test the limits.
+#![tactic(auto)]
+
 ghost use Rattle.std.specs.Prelude.{◌≡◌, ◌&&◌, leb};
 ghost use Rattle.model.specs.Blocks.{blocks_of};
 ghost use Rattle.model.specs.Counted.{item_count};
@@ -8,21 +10,21 @@ ghost use Rattle.model.specs.Made.{meant_die, make_die, meant_fix, make_fix, mea
 pub const TEXT_MOST: usize = 16384;
 
 // A refusal: its number in document 01's refusal table, and the line (0 where there is none).
-#[derive(Drop)]
+#[derive(Clone, Copy)]
 pub struct Refusal {
     pub no: usize,
     pub line: usize,
 }
 
 // What testing a value answers: it passes, or the first refusal.
-#[derive(Drop)]
+#[derive(Clone, Copy)]
 pub enum Tested {
     Passed,
     Refused(Refusal),
 }
 
 // What writing answers: the length of the text written, or the refusal.
-#[derive(Drop)]
+#[derive(Clone, Copy)]
 pub enum WriteAnswer {
     Text(usize),
     Refused(Refusal),
@@ -39,14 +41,14 @@ pub fn within(v: u64, least: u64, most: u64) -> bool
 }
 
 // The die: its width and its height; its lower left corner is at 0,0.
-#[derive(Drop)]
+#[derive(Clone, Copy)]
 pub struct Die {
     pub w: u64,
     pub h: u64,
 }
 
 // What making a die answers: the die, or that a number is outside its range.
-#[derive(Drop)]
+#[derive(Clone, Copy)]
 pub enum DieMade {
     Made(Die),
     Outside,
@@ -74,7 +76,7 @@ impl Die {
 }
 
 // A blockage: its lower left corner at x,y, its width and its height.
-#[derive(Drop)]
+#[derive(Clone, Copy)]
 pub struct Fix {
     pub x: u64,
     pub y: u64,
@@ -83,7 +85,7 @@ pub struct Fix {
 }
 
 // What making a fix answers: the fix, or that a number is outside its range.
-#[derive(Drop)]
+#[derive(Clone, Copy)]
 pub enum FixMade {
     Made(Fix),
     Outside,
@@ -123,14 +125,14 @@ impl Fix {
 }
 
 // A movable macro: its width and its height.
-#[derive(Drop)]
+#[derive(Clone, Copy)]
 pub struct Mac {
     pub w: u64,
     pub h: u64,
 }
 
 // What making a macro answers: the macro, or that a number is outside its range.
-#[derive(Drop)]
+#[derive(Clone, Copy)]
 pub enum MacMade {
     Made(Mac),
     Outside,
@@ -161,14 +163,14 @@ impl Mac {
 }
 
 // A net: its weight, and how many pins it has. The pins of all nets stand in one list, in file order.
-#[derive(Drop)]
+#[derive(Clone, Copy)]
 pub struct Net {
     pub weight: u64,
     pub pins: usize,
 }
 
 // What making a net answers: the net, or that a number is outside its range.
-#[derive(Drop)]
+#[derive(Clone, Copy)]
 pub enum NetMade {
     Made(Net),
     Outside,
@@ -196,7 +198,7 @@ impl Net {
 }
 
 // A pin of macro m, or a pad where m is 0. Its x and y are held higher by Pin::UP, so that no field is signed.
-#[derive(Drop)]
+#[derive(Clone, Copy)]
 pub struct Pin {
     pub m: usize,
     pub xup: u64,
@@ -204,14 +206,14 @@ pub struct Pin {
 }
 
 // What making a pin answers: the pin, or that a number is outside its range.
-#[derive(Drop)]
+#[derive(Clone, Copy)]
 pub enum PinMade {
     Made(Pin),
     Outside,
 }
 
 // What holding x or y of a pin answers: the value as held, or that it is outside its range.
-#[derive(Drop)]
+#[derive(Clone, Copy)]
 enum Place {
     Up(u64),
     Outside,
@@ -278,7 +280,7 @@ impl Pin {
 }
 
 // A chip: its die, k fixes, n macros and t nets, with the pins of all nets. Entries past a count do not belong to it; a count above its array stands for one item too many.
-#[derive(Drop)]
+#[derive(Clone, Copy)]
 pub struct Chip {
     pub die: Die,
     pub k: usize,
@@ -302,7 +304,7 @@ pub fn item_count(count: usize, capacity: usize) -> usize
 }
 
 // The blocks of a chip, whose pairs are decided: n macros and k fixes.
-#[derive(Drop)]
+#[derive(Clone, Copy)]
 pub struct Blocks {
     pub n: usize,
     pub macs: [Mac; Mac::COUNT],
@@ -325,14 +327,14 @@ pub fn blocks_of(c: Chip) -> Blocks
 }
 
 // A macro's lower left corner in a placement.
-#[derive(Drop)]
+#[derive(Clone, Copy)]
 pub struct Spot {
     pub x: u64,
     pub y: u64,
 }
 
 // What making a spot answers: the spot, or that a number is outside its range.
-#[derive(Drop)]
+#[derive(Clone, Copy)]
 pub enum SpotMade {
     Made(Spot),
     Outside,
@@ -357,14 +359,14 @@ impl Spot {
 }
 
 // What a record says: no placement, or the wirelength and the number of macros placed.
-#[derive(Drop)]
+#[derive(Clone, Copy)]
 pub enum Outcome {
     None,
     Least(u64, usize),
 }
 
 // A record. Spots past the count do not belong to it; a count above the array stands for one macro too many.
-#[derive(Drop)]
+#[derive(Clone, Copy)]
 pub struct Record {
     pub outcome: Outcome,
     pub spots: [Spot; Mac::COUNT],

@@ -1,4 +1,6 @@
 // The lesser and the greater of two numbers, and the sum of two lengths, which is limited.
+#![tactic(auto)]
+
 ghost use Rattle.std.specs.Prelude.{◌≡◌, ◌+◌, min, max};
 
 // Lengths count up to this in a sum; no placement is so long.

@@ -1,4 +1,6 @@
 // From chip text to the record's text with the box of each net, and what the program `boxes` prints for a text (document 02, Card 2).
+#![tactic(auto)]
+
 ghost use Rattle.std.specs.Prelude.{◌≡◌};
 ghost use Rattle.text_grammar.specs.Writing.{answer_of};
 ghost use Rattle.place_boxes.specs.Boxes.{boxes_text, print_boxes};

@@ -1,4 +1,6 @@
 // What the program prints for a text: the record, or the line of the refusal.
+#![tactic(auto)]
+
 ghost use Rattle.std.specs.Prelude.{◌≡◌};
 ghost use Rattle.text_grammar.specs.Writing.{answer_of};
 ghost use Rattle.place_print.specs.Printed.{print_text};

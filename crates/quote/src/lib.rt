@@ -1,4 +1,6 @@
 // The search behind the quoting page: from chip text to record text, within the page's limits (document 02, Card 11).
+#![tactic(auto)]
+
 ghost use Rattle.std.specs.Prelude.{◌≡◌};
 ghost use Rattle.text_grammar.specs.Writing.{answer_of};
 ghost use Rattle.quote.specs.Quote.{quote_text};

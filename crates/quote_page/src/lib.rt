@@ -1,4 +1,6 @@
 // The limits of the quoting page, and what it makes of a chip text that was read (document 02, Card 11).
+#![tactic(auto)]
+
 ghost use Rattle.std.specs.Prelude.{◌≡◌};
 ghost use Rattle.model.specs.Meaning.{chip_of};
 ghost use Rattle.chip_text.specs.Kind.{counts_of};

@@ -1,4 +1,6 @@
 // Writing the text of a record into a lent buffer.
+#![tactic(auto)]
+
 ghost use Rattle.std.specs.Prelude.{[], ◌≡◌, get_or};
 ghost use Rattle.num_text.specs.Held.{Wrote};
 ghost use Rattle.model.specs.Meaning.{first_of, blank_spot, record_of};

@@ -1,4 +1,6 @@
 // Reading a record from its text.
+#![tactic(auto)]
+
 ghost use Rattle.std.specs.Prelude.{◌≡◌, ◌≤◌, ◌<◌, length, drop, replicate};
 ghost use Rattle.model.specs.Limits.{most_bytes, most_macs};
 ghost use Rattle.model.specs.Meaning.{blank_spot};
@@ -17,21 +19,21 @@ use record_text::{RecordLast, RecordWord};
 use text_line::{Fault, Fields};
 
 // What reading a record answers.
-#[derive(Drop)]
+#[derive(Clone, Copy)]
 pub enum RecordAnswer {
     Accepted,
     Refused(Refusal),
 }
 
 // The answer with the record; its spots past the count are blank, and after a refusal the record is.
-#[derive(Drop)]
+#[derive(Clone, Copy)]
 pub struct RecordRead {
     pub answer: RecordAnswer,
     pub record: Record,
 }
 
 // What has been read: the word of the last line, whether there is a `least` line, its wirelength, and the spots so far with their count.
-#[derive(Drop)]
+#[derive(Clone, Copy)]
 pub(crate) struct State {
     pub last: RecordLast,
     pub found: bool,
@@ -41,7 +43,7 @@ pub(crate) struct State {
 }
 
 // What a line leads to: its fault, or what has been read with it.
-#[derive(Drop)]
+#[derive(Clone, Copy)]
 pub(crate) struct Taken {
     pub fault: Fault,
     pub state: State,

@@ -1,4 +1,6 @@
 // A record that is held as a value, tested as its text would be.
+#![tactic(auto)]
+
 ghost use Rattle.std.specs.Prelude.{◌≡◌};
 ghost use Rattle.model.specs.Meaning.{least, first_of, blank_spot, record_of};
 ghost use Rattle.text_grammar.specs.Writing.{tested_as};

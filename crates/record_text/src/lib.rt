@@ -1,4 +1,6 @@
 // The record of a placement: its words, what its text means, and that a record has one text; and the tests of a line before its fields and after them.
+#![tactic(auto)]
+
 ghost use Rattle.std.specs.Prelude.{◌≡◌};
 ghost use Rattle.record_text.specs.Tests.{last_of, record_following, record_rooms, turn_fault};
 
@@ -6,7 +8,7 @@ use model::Mac;
 use text_grammar::{Following, WORDS};
 
 // The words of records.
-#[derive(Drop)]
+#[derive(Clone, Copy)]
 pub enum RecordWord {
     Least,
     None,
@@ -15,7 +17,7 @@ pub enum RecordWord {
 }
 
 // The word of the last line, or that there was none yet.
-#[derive(Drop)]
+#[derive(Clone, Copy)]
 pub enum RecordLast {
     Before,
     After(RecordWord),

@@ -1,4 +1,6 @@
 // Writing a record that is held as a value.
+#![tactic(auto)]
+
 ghost use Rattle.std.specs.Prelude.{◌≡◌};
 ghost use Rattle.model.specs.Meaning.{record_of};
 ghost use Rattle.text_grammar.specs.Writing.{answer_of};

@@ -1,1 +1,3 @@
 // The refusals of a service once its input is read: definitions and laws.
+#![tactic(auto)]
+

@@ -82,7 +82,7 @@ pub fn search_chip(c: Chip, out: &mut [u8]) -> WriteAnswer
 }
 
 // What the search finds for a chip text: the refusal, or the chip that was read and its record.
-#[derive(Drop)]
+#[derive(Clone, Copy)]
 pub struct Found {
     pub answer: ChipAnswer,
     pub chip: Chip,

@@ -1,4 +1,6 @@
 // The best placement so far: document 01, "replaced by a shorter one, or by an equally short one that comes earlier".
+#![tactic(auto)]
+
 ghost use Rattle.std.specs.Prelude.{◌≡◌};
 ghost use Rattle.model.specs.Meaning.{first_of, blank_spot};
 ghost use Rattle.placement.specs.Order.{before};

@@ -1,4 +1,6 @@
 // The two boxes of a pair.
+#![tactic(auto)]
+
 ghost use Rattle.std.specs.Prelude.{◌≡◌};
 ghost use Rattle.geometry.specs.Box.{blank_box};
 ghost use Rattle.search_boxes.specs.Boxes.{mac_box, second_of};

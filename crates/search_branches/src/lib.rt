@@ -1,1 +1,3 @@
 // Branches of the search: definitions and laws, no function is declared here.
+#![tactic(auto)]
+

@@ -1,4 +1,6 @@
 // The pair to branch on: an overlapping one; while no placement is found, one with at most two open letters first; of those the one with the greatest score. The score is what moving the two apart would cost, in the two cheapest ways, times the weight of their nets; among equal scores the pair of the first macros.
+#![tactic(auto)]
+
 mod open;
 mod score;
 
@@ -12,7 +14,7 @@ use model::{Blocks, Fix, Mac, Spot};
 use search_kept::CELLS;
 
 // A pair by its place in the order of letters, with the cursor there.
-#[derive(Drop)]
+#[derive(Clone, Copy)]
 pub struct Choice {
     pub s: usize,
     pub at: Cursor,

@@ -8,7 +8,7 @@ use fit_slots::{Asked, Direction};
 use model::Blocks;
 use search_kept::CELLS;
 
-#[derive(Drop)]
+#[derive(Clone, Copy)]
 pub(crate) struct Open {
     pub left: bool,
     pub right: bool,

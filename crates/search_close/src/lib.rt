@@ -1,4 +1,6 @@
 // A branch is closed, or the pair of it that is decided next is chosen.
+#![tactic(auto)]
+
 ghost use Rattle.std.specs.Prelude.{◌≡◌};
 ghost use Rattle.search_choose.specs.Choice.{ChosenOf};
 ghost use Rattle.search_close.specs.Step.{closed_by, StepOk};
@@ -10,7 +12,7 @@ use search_choose::{Choice, choose};
 use search_node::{Node, Parts};
 
 // A closed branch has an answer; of an open one pair s is decided next, and the cursor is at it.
-#[derive(Drop)]
+#[derive(Clone, Copy)]
 pub struct Step {
     pub closed: bool,
     pub answer: Record,

@@ -1,4 +1,6 @@
 // Which macros of a chip are alike: of one size, and their exchange leaves the nets the same.
+#![tactic(auto)]
+
 mod mates;
 mod pins;
 

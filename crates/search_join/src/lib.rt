@@ -1,4 +1,6 @@
 // The fit of letters as a record: from the fit that is sold, or joined from a half fit of one direction and the half of a fit in the other.
+#![tactic(auto)]
+
 ghost use Rattle.std.specs.Prelude.{◌≡◌};
 ghost use Rattle.chip_array.specs.Array.{chip_in};
 ghost use Rattle.search_join.specs.Joined.{FitFor, spot_with, spots_with, JoinedFrom};

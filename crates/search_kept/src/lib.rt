@@ -1,4 +1,6 @@
 // Differences that are kept: a lower bound for each two of nine nodes, held higher by 2^24 at place 9 u + v, and their sums.
+#![tactic(auto)]
+
 ghost use Rattle.std.specs.Prelude.{◌≡◌, ◌<◌, set};
 ghost use Rattle.search_kept.specs.Differences.{limited, Limited, held_bound, contrary, bound_in, raised_at, Adds, Follows, Starts, excluded, contradicts};
 

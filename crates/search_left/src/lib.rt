@@ -1,4 +1,6 @@
 // What is left of a branch once some letters of a pair are closed: the fits of the others, and the differences kept.
+#![tactic(auto)]
+
 ghost use Rattle.std.specs.Prelude.{◌≡◌, set};
 ghost use Rattle.search_left.specs.Left.{child_list, child_at, NextChild, Over, ExcludedBy, OppositeKept, SameKept, NextOrOver, Visited};
 
@@ -9,7 +11,7 @@ use search_kept::CELLS;
 use search_node::no_record;
 
 // The fits of the four letters, in the order L, R, B, A; none where there is no fit, or nothing of it is left. The differences kept.
-#[derive(Drop)]
+#[derive(Clone, Copy)]
 pub struct Left {
     pub l: Record,
     pub r: Record,

@@ -1,4 +1,6 @@
 // The four letters of a pair, tried: each is excluded by the differences, closed by its fit, or left with it.
+#![tactic(auto)]
+
 ghost use Rattle.std.specs.Prelude.{◌≡◌};
 ghost use Rattle.chip_array.specs.Array.{chip_in};
 ghost use Rattle.search_letters.specs.Turns.{Untried, own_arcs, other_length, ChildOn, ChildOf, TriedOne, Tried};

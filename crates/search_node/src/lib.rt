@@ -1,4 +1,6 @@
 // A branch of the search: its letters, bounds, differences and fit; the four letters of a pair and the slots that they ask.
+#![tactic(auto)]
+
 ghost use Rattle.std.specs.Prelude.{◌≡◌, ◌-◌, set};
 ghost use Rattle.search_node.specs.Letters.{byte_of, way_at, asked_at, slot_asked};
 ghost use Rattle.search_node.specs.Node.{no_record, length_of, room_of};
@@ -12,14 +14,14 @@ use search_kept::CELLS;
 use search_tables::ARCS;
 
 // What the search reads of a chip: its blocks, and the weight of each macro's nets.
-#[derive(Drop)]
+#[derive(Clone, Copy)]
 pub struct Parts {
     pub blocks: Blocks,
     pub weights: [u64; Mac::COUNT],
 }
 
 // The letters; in each direction the greatest bounds between nodes, the differences kept and the length of the half fit; the fit.
-#[derive(Drop)]
+#[derive(Clone, Copy)]
 pub struct Node {
     pub letters: [u8; LETTERS],
     pub ax: [u32; ARCS],

@@ -1,4 +1,6 @@
 // Numbers of the search: bounds that are limited, the opposite of a slot, the span of some places; macros, nets and pins with the same numbers.
+#![tactic(auto)]
+
 ghost use Rattle.std.specs.Prelude.{◌≡◌, ◌&&◌, eqb, ◌+◌, ◌-◌, min, max};
 ghost use Rattle.axis_bounds.specs.Listed.{slot};
 ghost use Rattle.search_numbers.specs.Spans.{joined_to};
@@ -42,7 +44,7 @@ pub fn opposite(s: Slot) -> Slot
 }
 
 // The greatest and the least place of some pins, if there are any.
-#[derive(Drop)]
+#[derive(Clone, Copy)]
 pub struct Span {
     pub some: bool,
     pub most: u64,

@@ -1,4 +1,6 @@
 // Equal macros: the earlier one does not lie further right, kept as differences.
+#![tactic(auto)]
+
 ghost use Rattle.std.specs.Prelude.{◌≡◌, true, ◌<◌};
 ghost use Rattle.model.specs.Meaning.{chip_of};
 ghost use Rattle.search_order.specs.Order.{OrderKept};

@@ -1,4 +1,6 @@
 // The arrays of a direction of a chip that a half fit works on: its nets in the one, its bounds in the other.
+#![tactic(auto)]
+
 mod dots;
 mod entries;
 mod limits;
@@ -21,7 +23,7 @@ pub const TAB: usize = half_arrays::TAB;
 pub const ARCS: usize = half_arrays::ARCS;
 
 // The nets of a direction as entries, and the bounds between its nodes, held higher by 2^24.
-#[derive(Drop)]
+#[derive(Clone, Copy)]
 pub struct Arrays {
     pub tab: [u32; TAB],
     pub arcs: [u32; ARCS],

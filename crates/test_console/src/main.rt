@@ -3,6 +3,8 @@
 // record of the chip, another chip's, one with a wl that is one more, one with a macro less, and `none`; on the two files in the wrong order, a chip and a record
 // that are both at fault, a record above 16,384 bytes; on a file that is missing and a directory, for which nothing is printed. Then `place` on the file that is
 // the argument, with a line above 4,096 bytes: a number of 5,000 digits is out of range, 4. Of its first 4,096 bytes the line would have no LF, 2.
+#![tactic(auto)]
+
 fn main() {
     console::place::print_file(b"large");
     console::place::print_file(b".");

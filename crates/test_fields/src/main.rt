@@ -1,6 +1,8 @@
 // Runs lines with choices and strings through the walk and the writer. Standard input has lines of three sample words (module sample); for each the values
 // of its fields are printed, as held (a string by its place), `absent` for a field that is not there, and the line as it is written back; or the refusal,
 // number,line.
+#![tactic(auto)]
+
 mod sample;
 mod show;
 

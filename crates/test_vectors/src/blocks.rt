@@ -12,7 +12,7 @@ use fit::{FitAnswer, FitOutcome};
 use model::{Chip, WriteAnswer};
 
 // What is asked of each chip: its record, the fit of the empty string, its record from the quoting page, its record with boxes, or records beside it.
-#[derive(Drop)]
+#[derive(Clone, Copy)]
 pub(crate) enum Asked {
     Record,
     Undecided,
@@ -25,7 +25,7 @@ pub(crate) enum Asked {
 const ROOM: usize = 512;
 
 // What a block of chips came to; `differs` is one more than the first case that differs.
-#[derive(Drop)]
+#[derive(Clone, Copy)]
 pub(crate) struct Tally {
     pub compared: u64,
     pub none: u64,

@@ -9,7 +9,7 @@ use model::{Chip, Fix, Mac, Net, Pin};
 pub(crate) const FILL: u16 = 40000;
 
 // A slot "v - u is at least up - down", or one without a bound.
-#[derive(Drop)]
+#[derive(Clone, Copy)]
 struct Slot {
     bound: bool,
     u: usize,
@@ -19,7 +19,7 @@ struct Slot {
 }
 
 // Two macros, counted from 0.
-#[derive(Drop)]
+#[derive(Clone, Copy)]
 struct Pair {
     a: usize,
     b: usize,

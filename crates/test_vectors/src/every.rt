@@ -4,7 +4,7 @@ use geometry::Box;
 use model::{Chip, Die, Fix, Mac, Net, Pin, Spot};
 
 // The first of the least placements, and how many are as short; `whole` says that all positions were tried.
-#[derive(Drop)]
+#[derive(Clone, Copy)]
 pub(crate) struct Found {
     pub any: bool,
     pub length: u64,
@@ -14,7 +14,7 @@ pub(crate) struct Found {
 }
 
 // Positions, or that there are no later ones.
-#[derive(Drop)]
+#[derive(Clone, Copy)]
 pub(crate) struct Turn {
     pub over: bool,
     pub spots: [Spot; Mac::COUNT],
@@ -169,7 +169,7 @@ fn greater(a: u64, b: u64) -> u64 {
 }
 
 // The least and the greatest coordinates of some pins, 4,096 higher.
-#[derive(Drop)]
+#[derive(Clone, Copy)]
 pub(crate) struct Extent {
     pub least: Spot,
     pub most: Spot,

@@ -5,7 +5,7 @@ use model::{Mac, Spot};
 use num_text::Number;
 
 // A part of a line: from a up to e.
-#[derive(Drop)]
+#[derive(Clone, Copy)]
 pub(crate) struct Range {
     pub a: usize,
     pub e: usize,

@@ -28,6 +28,8 @@
 //     quoted NAME N K T W H SIDE FROM TO  the same chips: the quoting page's records, or 22
 //     boxed NAME N K T W H SIDE FROM TO  the same chips: their records with the box of each net
 //     undecided NAME N K T W H SIDE FROM TO  the same chips: the fits of the empty string beside those found by trying every position in the die
+#![tactic(auto)]
+
 mod besides;
 mod blocks;
 mod chips;

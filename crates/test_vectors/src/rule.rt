@@ -6,7 +6,7 @@ use crate::fields::number_at;
 use model::{Chip, Die, Fix, Mac, Net, Pin};
 
 // A block of chips: how many macros, at most so many fixes, how many nets (at most 4), and the greatest sides of the die and of a macro.
-#[derive(Drop)]
+#[derive(Clone, Copy)]
 pub(crate) struct Block {
     pub n: usize,
     pub k: usize,

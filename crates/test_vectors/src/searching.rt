@@ -7,7 +7,7 @@ use model::{Chip, WriteAnswer};
 const ROOM: usize = 2048;
 
 // Who is asked about a text: the programs `place` and `boxes`, the design desk's search, the quoting page's, or the desk's with the box of each net.
-#[derive(Drop)]
+#[derive(Clone, Copy)]
 pub(crate) enum Service {
     Print,
     PrintBoxes,

@@ -9,7 +9,7 @@ use crate::{besides, blocks, chips, fitting, measuring, reading, searching, valu
 use model::Chip;
 
 // What the next lines are about: a chip, and the length of the text in the buffer beside it.
-#[derive(Drop)]
+#[derive(Clone, Copy)]
 pub(crate) struct State {
     pub chip: Chip,
     pub n: usize,

@@ -1,4 +1,6 @@
 // One field of a line, written into a lent buffer.
+#![tactic(auto)]
+
 ghost use Rattle.std.specs.Prelude.{[], take, drop};
 ghost use Rattle.num_text.specs.Held.{Wrote};
 ghost use Rattle.text_grammar.specs.Line.{comma, up_to};

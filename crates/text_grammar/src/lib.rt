@@ -1,4 +1,6 @@
 // The order of refusals of document 01 for any kind of text: what a text means, and the tests that every reader makes.
+#![tactic(auto)]
+
 ghost use Rattle.std.specs.Prelude.{◌≡◌, leb, take};
 ghost use Rattle.text_grammar.specs.Line.{is_of, is_string};
 ghost use Rattle.text_grammar.specs.Steps.{need, entry_by};
@@ -16,7 +18,7 @@ pub const ABSENT: u64 = 18446744073709551615;
 
 // What the word of the last line says of the next line, by word: the words that may stand there, those that may for the net above, which has a pin;
 // and whether that line was the text's last.
-#[derive(Drop)]
+#[derive(Clone, Copy)]
 pub struct Following {
     pub placed: [bool; WORDS],
     pub pinned: [bool; WORDS],

@@ -1,4 +1,6 @@
 // One line of a text: where it ends, its word and its fields.
+#![tactic(auto)]
+
 ghost use Rattle.std.specs.Prelude.{◌≡◌, [], ◌∷◌, ◌≤◌, leb, length, take, drop};
 ghost use Rattle.text_grammar.specs.Line.{up_to};
 ghost use Rattle.text_grammar.specs.Steps.{line_end, need};
@@ -11,7 +13,7 @@ use num_text::Number;
 use text_grammar::{ABSENT, RULES};
 
 // The spelling of a word: five bytes, and how many of them are the word's; the others are 0.
-#[derive(Drop)]
+#[derive(Clone, Copy)]
 pub struct Spelling {
     pub bytes: [u8; 5],
     pub size: usize,
@@ -20,7 +22,7 @@ pub struct Spelling {
 // A field: its name between two commas (the first `size` bytes of `mark`), where the line goes on if that does not stand here (`other` rules further on;
 // 0: it must), how much higher its value is held, and its range, as held. Where `letters` is not 0, the field is a string of the first `letters` bytes of
 // `set`, from `least` to `most` bytes long.
-#[derive(Drop)]
+#[derive(Clone, Copy)]
 pub struct Rule {
     pub mark: [u8; 4],
     pub size: usize,
@@ -33,27 +35,27 @@ pub struct Rule {
 }
 
 // The fields of a line, at most four: each way through its rules ends with a rule without mark, or past the last.
-#[derive(Drop)]
+#[derive(Clone, Copy)]
 pub struct Layout {
     pub rules: [Rule; RULES],
 }
 
 // What one field holds: its value, as held, or ABSENT, and the place after it; or the refusal.
-#[derive(Drop)]
+#[derive(Clone, Copy)]
 pub(crate) enum Field {
     Value(u64, usize),
     Refused(Refusal),
 }
 
 // The fault of a line: none, or its refusal.
-#[derive(Drop)]
+#[derive(Clone, Copy)]
 pub enum Fault {
     Clear,
     Refused(Refusal),
 }
 
 // What reading the fields of a line answers.
-#[derive(Drop)]
+#[derive(Clone, Copy)]
 pub enum Fields {
     Got,
     Refused(Refusal),
@@ -61,7 +63,7 @@ pub enum Fields {
 
 // The answer with the values of the fields, x and y of a pin held 4,096 higher, a string by the place where it begins in the bytes that were read (it goes
 // up to the next comma); ABSENT for a field that is not there, 0 past the last field, and after a refusal.
-#[derive(Drop)]
+#[derive(Clone, Copy)]
 pub struct FieldsRead {
     pub answer: Fields,
     pub values: [u64; 4],

@@ -1,4 +1,6 @@
 // Writing the lines of a text into a lent buffer.
+#![tactic(auto)]
+
 ghost use Rattle.num_text.specs.Held.{Wrote};
 ghost use Rattle.text_grammar.specs.Line.{fields_text};
 ghost use Rattle.text_line.specs.Layout.{form_of, values_of};

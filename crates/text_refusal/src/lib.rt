@@ -1,4 +1,6 @@
 // The line of a refusal, as the program prints it.
+#![tactic(auto)]
+
 ghost use Rattle.std.specs.Prelude.{◌≡◌, ◌++◌, leb, length};
 ghost use Rattle.num_text.specs.Number.{digits};
 ghost use Rattle.num_text.specs.Held.{Wrote};

@@ -1,4 +1,6 @@
 // The walk through a line as far as its fields, for any kind of text: its LF, its word, and the tests before its fields.
+#![tactic(auto)]
+
 ghost use Rattle.std.specs.Prelude.{◌≡◌, take};
 ghost use Rattle.text_grammar.specs.Steps.{line_at};
 ghost use Rattle.text_walk.specs.Walk.{find_in, walk_bytes, stopped_at, WalkOk, WalkedOk};
@@ -8,7 +10,7 @@ use text_grammar::WORDS;
 use text_line::{Fault, Spelling};
 
 // The tests before the fields of a line, by word: place, count, and whether the net above has a pin.
-#[derive(Drop)]
+#[derive(Clone, Copy)]
 pub struct Tests {
     pub placed: [bool; WORDS],
     pub room: [bool; WORDS],
@@ -16,7 +18,7 @@ pub struct Tests {
 }
 
 // A line as far as its word: its fault, or the number of its word and how many bytes that has.
-#[derive(Drop)]
+#[derive(Clone, Copy)]
 pub struct WordWalked {
     pub fault: Fault,
     pub word: usize,

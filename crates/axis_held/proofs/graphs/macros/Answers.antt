@@ -1,0 +1,12 @@
+use Rattle.axis_held.proofs.HeldAxes.{Shaped, shaped}
+use Rattle.axis_held.proofs.HeldGraphs.{macros_built}
+use Rattle.axis_held.proofs.graphs.macros.Goals as goal
+
+-- the axis's arrays are as long as its type says
+shape : (t : tie.Start) → Shaped t.args.a
+shape t = search shaped
+
+pub returns : goal.returns
+returns c =
+    let t = c in
+    macros_built t.args.a (shape t) t.requires _ c.macro_slots.ensures
