@@ -27,7 +27,7 @@ def has_lemon():
 
 
 def library():
-    run("rt", "staticlib", "jizdovel")
+    run("embed/library")
 
 
 def program(name, out=None, archive=LIBRARY):
@@ -37,7 +37,7 @@ def program(name, out=None, archive=LIBRARY):
 
 def build(baseline):
     """Builds everything. Whether LEMON is there is handed back."""
-    run("rt", "check", "place")
+    run(".ci/quiet", "program", "place")
     library()
     run("cargo", "build", "--release", "--offline", "--locked", "--manifest-path", baseline / "Cargo.toml")
     run("cc", "-O2", "-o", WORK / "timed", "bench/timed.c")

@@ -12,7 +12,7 @@ from pathlib import Path
 
 ROOT = Path(__file__).resolve().parent.parent
 WORK = ROOT / "target" / "bench"
-PLACE = ROOT / "target" / "bin" / "place"
+PLACE = ROOT / "crates" / "place" / "out" / "place"
 LAB = WORK / "baseline" / "release" / "lab"
 ENOUGH, ROUNDS = 0.1, 3  # seconds: what is shorter is repeated until all runs of a round have taken as long
 MOST_RUNS, GRAIN = 2000, 1e-6  # of the baseline: runs on a chip, seconds that its clock tells apart

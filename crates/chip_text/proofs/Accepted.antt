@@ -33,7 +33,7 @@ sound_step s s' i f e v =
     let d = check_next (in_place chip_kind s w) 5 _ s' e in
     let g = check_next (room counts (counts_of s.chip) w) 6 _ s' d.1 in
     let h = check_next (pinned s.last w) 7 _ s' g.1 in
-    sound_add s s' v w i.values (item_ranges i f p.within) p.in_place g.0 h.0 p.added
+    sound_add s s' v w i.values (item_ranges i f p.within) p.in_place_law g.0 h.0 p.added
 
 sound_run : (s s' : Part) (n : ℕ) (is : List Item) → WellFormed chip_kind is → run_items chip_kind s n is ≡ accepted s' → Sound s → Sound s' × (is_last chip_words s'.last word.End ≡ true)
 unfolding run_items

@@ -1,7 +1,6 @@
 // The slots of a chip's two axes, and the laws that join them to the axis solver.
 #![tactic(auto)]
 
-
 // Across: x and widths; or up: y and heights.
 #[derive(Clone, Copy)]
 pub enum Direction {

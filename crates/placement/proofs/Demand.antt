@@ -55,11 +55,13 @@ up_from_has a (suc k) x l h = by (ℕ_discrete x a) (up_from_has (suc a) k x)
     by (no n) ih = Memᴰ.tail (ih (omega arith) (omega arith))
 
 pub column_has : (x y : ℕ) (ys : List ℕ) → Memᴰ y ys → Memᴰ (spot x y) (column x ys)
+column_has x y [] x'' = elim x'' [ ]
 column_has x y (b ∷ ys) (Memᴰ.head e) = Memᴰ.head (ap (spot x) e)
 column_has x y (b ∷ ys) (Memᴰ.tail m) = Memᴰ.tail (column_has x y ys m)
 
 pub grid_has : (x y : ℕ) (xs ys : List ℕ) → Memᴰ x xs → Memᴰ y ys → Memᴰ (spot x y) (grid xs ys)
 unfolding flat_map
+grid_has x y [] ys x3 n = elim x3 [ ]
 grid_has x y (a ∷ xs) ys (Memᴰ.head e) n = Memᴰ.append_left (grid xs ys) (Memᴰ.cast (ap (λ (z : ℕ). spot z y) e) (column_has a y ys n))
 grid_has x y (a ∷ xs) ys (Memᴰ.tail m) n = Memᴰ.append_right (column a ys) (grid_has x y xs ys m n)
 
@@ -68,6 +70,7 @@ corners_have c p l h = grid_has p.x p.y (up_from 0 (suc c.die.w)) (up_from 0 (su
 
 pub in_front_has : (p : Spot) (ps : List Spot) (all : List Spot) (rest : List (List Spot)) → Memᴰ p all → Memᴰ ps rest → Memᴰ (p ∷ ps) (in_front all rest)
 unfolding flat_map
+in_front_has p ps [] rest x'' n = elim x'' [ ]
 in_front_has p ps (a ∷ all) rest (Memᴰ.head e) n = Memᴰ.append_left (in_front all rest) (Memᴰ.cast (ap (λ (q : Spot). q ∷ ps) e) (Memᴰ.map (λ (q : List Spot). a ∷ q) n))
 in_front_has p ps (a ∷ all) rest (Memᴰ.tail m) n = Memᴰ.append_right (map (λ (q : List Spot). a ∷ q) rest) (in_front_has p ps all rest m n)
 

@@ -35,7 +35,7 @@ module _ {W S : Type 0} (k : Kind W S) (g : Stages W S) where
     staged_step : (s s' : S) (js : List (Item W)) (i : Item W) → Formed k.words i → Passed k s s' i → Staged s js → Staged s' (js ++ (i ∷ []))
     staged_step s s' js i f p t =
         add s s' i.word i.values js (held_same (k.words.form i.word) i.values i.values f p.within) p.added
-        (every_in k.words told (g.Ready s js) (k.followers s) t.0 i.word p.in_place)
+        (every_in k.words told (g.Ready s js) (k.followers s) t.0 i.word p.in_place_law)
 
     pub run_ready : (s s' : S) (n : ℕ) (is : List (Item W)) → WellFormed k is → run_items k s n is ≡ accepted s' → Staged s [] → is ≡ g.items s'
     run_ready s s' n is f e t = let r = run_keeps k Staged staged_step s s' n [] is f e t in r.0.1 r.1

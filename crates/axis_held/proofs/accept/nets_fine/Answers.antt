@@ -15,9 +15,6 @@ returns-then-not-counts_fine c = search counts_no
 pub overflow_add-to : goal.overflow_add-to
 overflow_add-to c = search counts_fits
 
-pub pins_fine-requires : goal.pins_fine-requires
-pins_fine-requires c = (search rules, search counts_few)
-
 pub returns-then-not-pins_fine : goal.returns-then-not-pins_fine
 returns-then-not-pins_fine c = search net_no
 

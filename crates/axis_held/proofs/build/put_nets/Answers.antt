@@ -23,9 +23,8 @@ overflow_add-from c = search net_fits
 
 pub loop-j-preserved : goal.loop-j-preserved
 loop-j-preserved c =
-    let t = c in
     let l = c.loop-j in
-    (search rules, net_put_by _ _ _ _ _ _ _ _ _ _ l.invariant.1 t.requires.1.0 c.loop-j-test.true (search rules) (search rules) t.requires.0 _ _ c.loop-i.invariant.3 c.loop-i-test.false)
+    (search rules, net_put_by _ _ _ _ _ _ _ _ _ _ l.invariant.1 c.requires.nets_bound c.loop-j-test.true (search rules) (search rules) c.requires.t_bound _ _ c.loop-i.invariant.3 c.loop-i-test.false)
 
 pub returns : goal.returns
 returns c = search nets_all

@@ -1,12 +1,7 @@
-use Rattle.axis_held.proofs.HeldAxes.{Shaped, shaped}
+use Rattle.axis_held.proofs.HeldAxes.{shaped}
 use Rattle.axis_held.proofs.HeldGraphs.{macros_built}
 use Rattle.axis_held.proofs.graphs.macros.Goals as goal
 
--- the axis's arrays are as long as its type says
-shape : (t : tie.Start) → Shaped t.args.a
-shape t = search shaped
-
 pub returns : goal.returns
 returns c =
-    let t = c in
-    macros_built t.args.a (shape t) t.requires _ c.macro_slots.ensures
+    macros_built c.args.a (search shaped) c.requires _ c.macro_slots.ensures

@@ -4,10 +4,5 @@ use Rattle.axis_held.proofs.graphs.net_spans.Goals as goal
 pub returns-then-not-is_held : goal.returns-then-not-is_held
 returns-then-not-is_held c = search spans_beyond
 
-pub spans-requires : goal.spans-requires
-spans-requires c =
-    let h = is_held _ _ c.is_held.ensures c.if-not-is_held.false in
-    (h.macs, h.nets)
-
 pub returns : goal.returns
 returns c = search spans_held

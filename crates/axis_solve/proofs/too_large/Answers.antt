@@ -1,0 +1,6 @@
+use Rattle.axis_held.proofs.HeldAxes.{shaped}
+use Rattle.axis_solve.proofs.Large.{large_chain}
+use Rattle.axis_solve.proofs.too_large.Goals as goal
+
+pub returns : goal.returns
+returns c = search (shaped, large_chain)

@@ -1,0 +1,36 @@
+use borrow.Author.Rules.{rules}
+use Prim.Native.Nat.{◌-◌}
+use Rattle.axis_graph.proofs.SlotEnds.{tail_node, head_node, tail_fits, head_fits, fits_need, fits_have}
+use Rattle.axis_graph.proofs.Answers.{shows_no}
+use Rattle.axis_values.proofs.Tests.{holds_none, holds_more, holds_all}
+use Rattle.axis_values.proofs.bounds_hold.Goals as goal
+
+pub loop-i-init : goal.loop-i-init
+loop-i-init c = (search rules, search holds_none)
+
+pub offset_bounds-x-head : goal.offset_bounds-x-head
+offset_bounds-x-head c = search (rules, head_fits)
+
+pub bounds-x-head : goal.bounds-x-head
+bounds-x-head c = search (rules, head_node)
+
+pub overflow_add-x : goal.overflow_add-x
+overflow_add-x c = search fits_have
+
+pub offset_bounds-x-tail : goal.offset_bounds-x-tail
+offset_bounds-x-tail c = search (rules, tail_fits)
+
+pub bounds-x-tail : goal.bounds-x-tail
+bounds-x-tail c = search (rules, tail_node)
+
+pub overflow_add-x-in-loop-i : goal.overflow_add-x-in-loop-i
+overflow_add-x-in-loop-i c = search fits_need
+
+pub returns-then-x-head : goal.returns-then-x-head
+returns-then-x-head c = search shows_no
+
+pub loop-i-preserved : goal.loop-i-preserved
+loop-i-preserved c = (search rules, search holds_more)
+
+pub returns : goal.returns
+returns c = search holds_all

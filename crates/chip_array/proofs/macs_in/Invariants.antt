@@ -1,0 +1,11 @@
+use Prim.Native.Nat.{◌-◌, ◌≤◌}
+use Rattle.model.specs.Limits.{most_macs}
+use Rattle.chip_array.specs.Array.{mac_in}
+use Rattle.chip_array.proofs.Tables.{Filled}
+use Rattle.chip_array.proofs.macs_in.Given as goal
+
+abbrev pub invariant-loop-i : goal.invariant-loop-i
+invariant-loop-i l = (l.i ≤ most_macs) × Filled (mac_in l.cs) most_macs l.macs l.i
+
+abbrev pub decreases-loop-i : goal.decreases-loop-i
+decreases-loop-i l = most_macs - l.i

@@ -1,0 +1,16 @@
+use Prim.Native.Nat.{◌-◌}
+use Rattle.measure_nets.proofs.Around.{none_around, first_around, next_around, all_around}
+use borrow.Author.Rules.{rules}
+use Rattle.measure_nets.proofs.net_box.Goals as goal
+
+pub returns-then-to-from : goal.returns-then-to-from
+returns-then-to-from c = search (rules, none_around)
+
+pub loop-i-init : goal.loop-i-init
+loop-i-init c = (search rules, search (rules, first_around))
+
+pub loop-i-preserved : goal.loop-i-preserved
+loop-i-preserved c = (search rules, search (rules, next_around))
+
+pub returns : goal.returns
+returns c = search (rules, all_around)

@@ -1,0 +1,10 @@
+use Prim.Native.Nat.{◌-◌}
+use borrow.Author.Rules.{rules}
+use Rattle.search_kept.proofs.Adding.{follows_none, row_next}
+use Rattle.search_kept.proofs.raise_row.Goals as goal
+
+pub loop-q-init : goal.loop-q-init
+loop-q-init c = (search rules, search follows_none)
+
+pub loop-q-preserved : goal.loop-q-preserved
+loop-q-preserved c = (search rules, search row_next)
