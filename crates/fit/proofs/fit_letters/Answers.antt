@@ -1,0 +1,11 @@
+use Rattle.fit.proofs.Answering.{entry_ready, ready_answer, ready_list, refused_answer, refused_list}
+use Rattle.fit.proofs.fit_letters.Goals as goal
+
+pub fit_ready-requires : goal.fit_ready-requires
+fit_ready-requires c = search entry_ready
+
+pub returns-in-Refused : goal.returns-in-Refused
+returns-in-Refused c = record { value = search refused_answer; filled = search refused_list }
+
+pub returns-in-Slots : goal.returns-in-Slots
+returns-in-Slots c = record { value = search ready_answer; filled = search ready_list }
