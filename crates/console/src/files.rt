@@ -1,158 +1,158 @@
 // Arguments, files and standard output, for every program.
-ghost use Rattle.std.specs.Prelude.{◌≡◌, ◌+◌, ◌≤◌, length};
+ghost use Rattle.std.specs.Prelude.{◌≡◌, ◌+◌, ◌≤◌, length, IfOk, IsErr};
 ghost use Rattle.io.specs.Counts.{IsPrefixLen};
 ghost use Rattle.console.specs.Buffer.{InBuffer};
 
+use crate::tell::{Told, tell, tell_use};
 use model::WriteAnswer;
-
-// What reading came to: a read failed, or all is well and so many bytes came.
-#[derive(Clone, Copy)]
-pub(crate) struct Came {
-    pub failed: bool,
-    pub count: usize,
-}
-
-fn nothing_came() -> Came
-    ensures { result.count ≡ 0 }
-{
-    Came {
-        failed: true,
-        count: 0,
-    }
-}
+use std::env::FillError;
+use std::io::{Error, ErrorKind, Read, Write};
+use std::rt::{Env, Files};
+use std::{fs, io, str};
 
 // One read.
-fn read_once(fd: i32, buf: &mut [u8]) -> Came
-    ensures { result.count ≤ length buf.old }
+fn read_once<F: Read>(from: &mut F, buf: &mut [u8]) -> io::Result<usize>
+    ensures { IfOk result (λ n. n ≤ length buf.old) }
 {
-    let got = libc::read(fd, buf);
-    if got < 0 {
-        return nothing_came();
-    }
-    Came {
-        failed: false,
-        count: io::count(got, buf),
-    }
+    from.read(buf)
 }
 
 // One read into the buffer from `at` on.
-fn read_from(fd: i32, buf: &mut [u8], at: usize) -> Came
+fn read_from<F: Read>(from: &mut F, buf: &mut [u8], at: usize) -> io::Result<usize>
     requires { at ≤ length buf.old }
-    ensures { at + result.count ≤ length buf.new }
+    ensures { IfOk result (λ n. at + n ≤ length buf.new) }
 {
-    read_once(fd, &mut buf[at..])
+    read_once(from, &mut buf[at..])
 }
 
 // Reads until the buffer is full, the input ends or a read fails.
-pub(crate) fn read_text(fd: i32, buf: &mut [u8]) -> Came
-    ensures { IsPrefixLen result.count buf.new }
+pub(crate) fn read_text<F: Read>(from: &mut F, buf: &mut [u8]) -> io::Result<usize>
+    ensures { IfOk result (λ n. IsPrefixLen n buf.new) }
 {
     let mut done: usize = 0;
     while done < buf.len() {
-        let came = read_from(fd, buf, done);
-        if came.failed {
-            return came;
-        }
-        if came.count == 0 {
+        let count = read_from(from, buf, done)?;
+        if count == 0 {
             break;
         }
-        done += came.count;
+        done += count;
     }
-    Came {
-        failed: false,
-        count: done,
-    }
+    Ok(done)
 }
 
-// Reads the file of that name, as far as the buffer goes; where that fails, it is told.
-pub(crate) fn read_file(program: &[u8], path: &[u8], buf: &mut [u8]) -> Came
-    ensures { IsPrefixLen result.count buf.new }
+// What a read that failed comes to: nothing, and it is told.
+fn nothing_came(rt: &impl Eprint, program: &str, what: &[u8], error: Error) -> Result<usize, Told>
+    ensures { IsErr result }
 {
-    let fd = os::open_read(path);
-    if fd < 0 {
-        tell(program, path);
-        return nothing_came();
-    }
-    let came = read_text(fd, buf);
-    if came.failed {
-        tell(program, path);
-    }
-    libc::close(fd);
-    came
+    Err(tell(rt, program, what, error))
 }
 
-// Tells on standard error what failed, and why.
-pub(crate) fn tell(program: &[u8], what: &[u8]) {
-    io::write_all(libc::STDERR_FILENO, program);
-    io::write_all(libc::STDERR_FILENO, b": ");
-    os::fail(what);
-}
-
-// Tells on standard error how the program is used.
-pub(crate) fn tell_use(program: &[u8], arguments: &[u8]) {
-    io::write_all(libc::STDERR_FILENO, program);
-    io::write_all(libc::STDERR_FILENO, b": wrong arguments. Use: ");
-    io::write_all(libc::STDERR_FILENO, program);
-    io::write_all(libc::STDERR_FILENO, arguments);
-    io::write_all(libc::STDERR_FILENO, b"\n");
-}
-
-// Writes to standard output, and says whether it was written; a write that fails is told.
-fn write_out(program: &[u8], text: &[u8]) -> bool {
-    if !io::write_all(libc::STDOUT_FILENO, text) {
-        tell(program, b"standard output");
-        return false;
-    }
-    true
-}
-
-// Closes standard output; where that fails, it is told.
-pub(crate) fn close_out(program: &[u8]) {
-    if libc::close(libc::STDOUT_FILENO) < 0 {
-        tell(program, b"standard output");
+// Opens the file of that name. To std a file's name is text.
+fn open<R: Files>(rt: &R, path: &[u8]) -> io::Result<R::File> {
+    match str::from_utf8(path) {
+        Ok(path) => fs::open(rt, path),
+        Err(_) => Err(Error::new(ErrorKind::InvalidFilename, "not a text in UTF-8")),
     }
 }
 
-// A call that is never made, by what stands under `requires`.
-fn never() -> bool
-    requires { ⊥ }
+// Opens the file of that name and reads it, as far as the buffer goes.
+fn read_path<R: Files>(rt: &R, path: &[u8], buf: &mut [u8]) -> io::Result<usize>
+    ensures { IfOk result (λ n. IsPrefixLen n buf.new) }
 {
-    false
+    let mut file = open(rt, path)?;
+    read_text(&mut file, buf)
 }
 
-// Writes the text that stands in a buffer to standard output, and says whether it was written.
-pub(crate) fn write_answer(program: &[u8], answer: WriteAnswer, out: &[u8]) -> bool
+// The same, and where that fails, it is told.
+pub(crate) fn read_file<R: Files + Eprint>(
+    rt: &R,
+    program: &str,
+    path: &[u8],
+    buf: &mut [u8],
+) -> Result<usize, Told>
+    ensures { IfOk result (λ n. IsPrefixLen n buf.new) }
+{
+    match read_path(rt, path, buf) {
+        Ok(count) => Ok(count),
+        Err(error) => nothing_came(rt, program, path, error),
+    }
+}
+
+// Reads standard input, as far as the buffer goes; where that fails, it is told.
+pub(crate) fn read_input<R: Input + Eprint>(
+    rt: &R,
+    program: &str,
+    buf: &mut [u8],
+) -> Result<usize, Told>
+    ensures { IfOk result (λ n. IsPrefixLen n buf.new) }
+{
+    match read_text(&mut rt.reader(), buf) {
+        Ok(count) => Ok(count),
+        Err(error) => nothing_came(rt, program, b"standard input", error),
+    }
+}
+
+// What came of writing to standard output; where it failed, that is told.
+fn written(rt: &impl Eprint, program: &str, came: io::Result<()>) -> Result<(), Told> {
+    came.map_err(|error| tell(rt, program, b"standard output", error))
+}
+
+// Writes to standard output.
+fn write_out<R: Print + Eprint>(rt: &R, program: &str, text: &[u8]) -> Result<(), Told> {
+    written(rt, program, Print::write_all(rt, text))
+}
+
+// Ends the writing to standard output.
+pub(crate) fn close_out<R: Print + Eprint>(rt: &R, program: &str) -> Result<(), Told> {
+    written(rt, program, io::writer(rt).flush())
+}
+
+// Writes the text that stands in a buffer to standard output.
+pub(crate) fn write_answer<R: Print + Eprint>(
+    rt: &R,
+    program: &str,
+    answer: WriteAnswer,
+    out: &[u8],
+) -> Result<(), Told>
     requires { InBuffer answer out.now }
 {
     match answer {
-        WriteAnswer::Text(n) => write_out(program, &out[..n]),
-        WriteAnswer::Refused(_) => never(),
+        WriteAnswer::Text(n) => write_out(rt, program, &out[..n]),
+        WriteAnswer::Refused(_) => unreachable!(),
     }
 }
 
 // A file's name does not begin with `-` here; `./-name` is such a file.
 fn is_option(arg: &[u8]) -> bool {
-    if arg.len() == 0 {
-        return false;
-    }
-    arg[0] == b'-'
+    arg.first() == Some(&b'-')
+}
+
+// Whether there is an argument i. Argument 0 is the program.
+pub(crate) fn has_argument(rt: &impl Env, i: usize) -> bool {
+    !matches!(rt.arg(i, &mut []), Err(FillError::NotPresent))
 }
 
 // Argument i, the name of a file; where it is none, that is told.
-pub(crate) fn file_name(program: &[u8], arguments: &[u8], i: usize, buf: &mut [u8]) -> Came
-    ensures { IsPrefixLen result.count buf.new }
+pub(crate) fn file_name<R: Env + Eprint>(
+    rt: &R,
+    program: &str,
+    arguments: &str,
+    i: usize,
+    buf: &mut [u8],
+) -> Result<usize, Told>
+    ensures { IfOk result (λ n. IsPrefixLen n buf.new) }
 {
-    let count = os::arg(i, buf);
-    if os::errno() != 0 {
-        tell(program, b"argument");
-        return nothing_came();
+    match rt.arg(i, buf) {
+        Ok(count) if is_option(&buf[..count]) => Err(tell_use(rt, program, arguments)),
+        Ok(count) => Ok(count),
+        Err(error) => nothing_came(rt, program, b"argument", error_of(error)),
     }
-    if is_option(&buf[..count]) {
-        tell_use(program, arguments);
-        return nothing_came();
-    }
-    Came {
-        failed: false,
-        count,
+}
+
+// Why an argument was not read, in the C library's words.
+fn error_of(error: FillError) -> Error {
+    match error {
+        FillError::NotPresent => Error::new(ErrorKind::InvalidInput, "Invalid argument"),
+        FillError::TooLong => Error::new(ErrorKind::InvalidFilename, "File name too long"),
     }
 }
