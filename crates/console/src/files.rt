@@ -1,7 +1,8 @@
 // Arguments, files and standard output, for every program.
-ghost use Rattle.std.specs.Prelude.{◌≡◌, ◌+◌, ◌≤◌, length, IfOk, IsErr};
+ghost use Rattle.std.specs.Prelude.{◌≡◌, ◌+◌, ◌≤◌, ◌<◌, length, take, drop, IfOk, OnOk, IfSome, IsErr};
+ghost use Rattle.std.specs.Io.KnownBytes.{Appends, Consumes, IsAtEnd, ReadConsumes};
 ghost use Rattle.io.specs.Counts.{IsPrefixLen};
-ghost use Rattle.console.specs.Buffer.{InBuffer};
+ghost use Rattle.console.specs.Buffer.{InBuffer, text_in};
 
 use crate::tell::{Told, tell, tell_use};
 use model::WriteAnswer;
@@ -10,9 +11,20 @@ use std::io::{Error, ErrorKind, Read, Write};
 use std::rt::{Env, Files};
 use std::{fs, io, str};
 
+// What failed of a program's work on what it reads: a read or a write.
+#[derive(Clone, Copy)]
+pub(crate) enum Failed {
+    Read(Error),
+    Write(Error),
+}
+
+// Room for an argument that is a file's name. The system takes names of up to 4,095 bytes.
+pub(crate) const NAME_MOST: usize = 4096;
+
 // One read.
 fn read_once<F: Read>(from: &mut F, buf: &mut [u8]) -> io::Result<usize>
-    ensures { IfOk result (λ n. n ≤ length buf.old) }
+    ensures bound { IfOk result (λ n. n ≤ length buf.old) }
+    ensures bytes { ReadConsumes (F.remaining from.old) (F.remaining from.new) result buf.new }
 {
     from.read(buf)
 }
@@ -20,14 +32,17 @@ fn read_once<F: Read>(from: &mut F, buf: &mut [u8]) -> io::Result<usize>
 // One read into the buffer from `at` on.
 fn read_from<F: Read>(from: &mut F, buf: &mut [u8], at: usize) -> io::Result<usize>
     requires { at ≤ length buf.old }
-    ensures { IfOk result (λ n. at + n ≤ length buf.new) }
+    ensures bound { IfOk result (λ n. at + n ≤ length buf.new) }
+    ensures before { take at buf.new ≡ take at buf.old }
+    ensures bytes { ReadConsumes (F.remaining from.old) (F.remaining from.new) result (drop at buf.new) }
 {
     read_once(from, &mut buf[at..])
 }
 
 // Reads until the buffer is full, the input ends or a read fails.
 pub(crate) fn read_text<F: Read>(from: &mut F, buf: &mut [u8]) -> io::Result<usize>
-    ensures { IfOk result (λ n. IsPrefixLen n buf.new) }
+    ensures count { IfOk result (λ n. IsPrefixLen n buf.new) }
+    ensures bytes { IfOk result (λ n. IfSome (F.remaining from.old) (λ text. take n buf.new ≡ take (length buf.new) text)) }
 {
     let mut done: usize = 0;
     while done < buf.len() {
@@ -48,7 +63,7 @@ fn nothing_came(rt: &impl Eprint, program: &str, what: &[u8], error: Error) -> R
 }
 
 // Opens the file of that name. To std a file's name is text.
-fn open<R: Files>(rt: &R, path: &[u8]) -> io::Result<R::File> {
+pub(crate) fn open<R: Files>(rt: &R, path: &[u8]) -> io::Result<R::File> {
     match str::from_utf8(path) {
         Ok(path) => fs::open(rt, path),
         Err(_) => Err(Error::new(ErrorKind::InvalidFilename, "not a text in UTF-8")),
@@ -78,47 +93,37 @@ pub(crate) fn read_file<R: Files + Eprint>(
     }
 }
 
-// Reads standard input, as far as the buffer goes; where that fails, it is told.
-pub(crate) fn read_input<R: Input + Eprint>(
-    rt: &R,
-    program: &str,
-    buf: &mut [u8],
-) -> Result<usize, Told>
-    ensures { IfOk result (λ n. IsPrefixLen n buf.new) }
-{
-    match read_text(&mut rt.reader(), buf) {
-        Ok(count) => Ok(count),
-        Err(error) => nothing_came(rt, program, b"standard input", error),
+// Tells which failed: the reading of what has that name, or the writing to standard output.
+pub(crate) fn tell_failed(rt: &impl Eprint, program: &str, name: &[u8], failed: Failed) -> Told {
+    match failed {
+        Failed::Read(error) => tell(rt, program, name, error),
+        Failed::Write(error) => tell(rt, program, b"standard output", error),
     }
 }
 
-// What came of writing to standard output; where it failed, that is told.
-fn written(rt: &impl Eprint, program: &str, came: io::Result<()>) -> Result<(), Told> {
-    came.map_err(|error| tell(rt, program, b"standard output", error))
+// Writes a text.
+fn write_out<W: Write>(to: &mut W, text: &[u8]) -> io::Result<()>
+    ensures { OnOk result (Appends (W.contents to.old) (W.contents to.new) text.now) }
+{
+    to.write_all(text)
 }
 
-// Writes to standard output.
-fn write_out<R: Print + Eprint>(rt: &R, program: &str, text: &[u8]) -> Result<(), Told> {
-    written(rt, program, Print::write_all(rt, text))
-}
-
-// Ends the writing to standard output.
-pub(crate) fn close_out<R: Print + Eprint>(rt: &R, program: &str) -> Result<(), Told> {
-    written(rt, program, io::writer(rt).flush())
-}
-
-// Writes the text that stands in a buffer to standard output.
-pub(crate) fn write_answer<R: Print + Eprint>(
-    rt: &R,
-    program: &str,
-    answer: WriteAnswer,
-    out: &[u8],
-) -> Result<(), Told>
+// Writes the text that stands in a buffer.
+pub(crate) fn write_answer<W: Write>(to: &mut W, answer: WriteAnswer, out: &[u8]) -> io::Result<()>
     requires { InBuffer answer out.now }
+    ensures { OnOk result (Appends (W.contents to.old) (W.contents to.new) (text_in answer out.now)) }
 {
     match answer {
-        WriteAnswer::Text(n) => write_out(rt, program, &out[..n]),
+        WriteAnswer::Text(n) => write_out(to, &out[..n]),
         WriteAnswer::Refused(_) => unreachable!(),
+    }
+}
+
+// Ends the writing to standard output; where that fails, it is told.
+pub(crate) fn close_out<R: Print + Eprint>(rt: &R, program: &str) -> Result<(), Told> {
+    match io::writer(rt).flush() {
+        Ok(()) => Ok(()),
+        Err(error) => Err(tell(rt, program, b"standard output", error)),
     }
 }
 
