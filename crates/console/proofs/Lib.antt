@@ -1,1 +1,3 @@
+pub mod Reading
 pub mod Room
+pub mod Start

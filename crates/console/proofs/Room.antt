@@ -1,19 +1,12 @@
--- The first bytes of a buffer, and a text that is known to fit into the bytes that are lent: in the form of the needs.
-use Prim.Native.Nat.{ℕ, ◌≤◌}
-use mathlib.Core.Path.{◌≡◌, refl, sym, ap, ◌∙◌}
-use mathlib.Core.Bool.{Bool}
-use mathlib.Core.List.{List, ◌++◌}
-use native.Mathlib.Omega.{arith}
-use lib.Dec.{leb}
-use lib.ListN.{length, take, drop, length-append}
-use lib.Seq.{length-take-le}
-use borrow.Author.Tests.{le-leb}
+-- A text that is known to fit into the bytes that are lent: it stands there, and nothing else is written out.
+use Rattle.std.proofs.Common.{◌≡◌, ℕ, ◌≤◌, List, ◌++◌, Bool, leb, length, take, drop, sym, refl, ap, ◌∙◌, arith, le-leb, length-append, length-take-le, take_all, le_refl}
+use lib.Seq.{take-append-le}
 use Rattle.io.specs.Counts.{IsPrefixLen}
 use Rattle.model.specs.declared.Refusal.{Refusal}
 use Rattle.model.specs.declared.WriteAnswer.{WriteAnswer}
 use Rattle.model.specs.declared.WriteAnswer.TheVariants as write
 use Rattle.text_grammar.specs.Writing.{Written, wrote, answer_of, if_room}
-use Rattle.console.specs.Buffer.{InBuffer}
+use Rattle.console.specs.Buffer.{InBuffer, text_in}
 
 -- as many bytes as a buffer has
 pub counted : (n : ℕ) (b : List ℕ) → n ≤ length b → IsPrefixLen n b
@@ -26,15 +19,22 @@ module _ (text b m : List ℕ) (a : WriteAnswer) (short : length text ≤ length
   told : answer_of a ≡ wrote (length text)
   told = ap (λ (w : Written). w.answer) whole
 
+  stands : m ≡ text ++ drop (length text) b
+  stands = ap (λ (w : Written). w.buffer) whole
+
   never_fifteen : (f : Refusal) → a ≡ write.Refused f → ⊥
   never_fifteen f q = let t : answer_of (write.Refused f) ≡ wrote (length text) = rw q at told in let z : ◌≡◌ {A = ℕ} 0 1 = cc in absurd (omega arith)
 
+  as_long : (n : ℕ) → a ≡ write.Text n → n ≡ length text
+  as_long n q = let t : answer_of (write.Text n) ≡ wrote (length text) = rw q at told in cc
+
   in_room : (n : ℕ) → a ≡ write.Text n → n ≤ length m
-  in_room n q =
-      let t : answer_of (write.Text n) ≡ wrote (length text) = rw q at told in
-      let k : n ≡ length text = cc in
-      let s : m ≡ text ++ drop (length text) b = ap (λ (w : Written). w.buffer) whole in
-      rw (s, length-append) (omega arith)
+  in_room n q = let k = as_long n q in rw (stands, length-append) (omega arith)
+
+  first_bytes : (n : ℕ) → n ≡ length text → take n m ≡ text
+  first_bytes n k =
+      ap (λ (j : ℕ). take j m) k ∙ ap (take (length text)) stands ∙ take-append-le (length text) text (drop (length text) b) (le_refl (length text))
+      ∙ take_all (length text) text (le_refl (length text))
 
   -- so it stands in the buffer
   pub in_buffer : InBuffer a m
@@ -44,10 +44,10 @@ module _ (text b m : List ℕ) (a : WriteAnswer) (short : length text ≤ length
       by (write.Text n) q = counted n m (in_room n q)
       by (write.Refused f) q = never_fifteen f q
 
--- what is known of each case
-module _ (a : WriteAnswer) (b : List ℕ) (h : InBuffer a b) where
-  pub text_long : (n : ℕ) → a ≡ write.Text n → n ≡ length (take n b)
-  text_long n q = (rw q at h).1
-
-  pub no_refusal : (f : Refusal) → a ≡ write.Refused f → ⊥
-  no_refusal f q = rw q at h
+  -- and it is what stands there
+  pub text_whole : text_in a m ≡ text
+  text_whole = by a refl
+    where
+      by : (x : WriteAnswer) → a ≡ x → text_in x m ≡ text
+      by (write.Text n) q = first_bytes n (as_long n q)
+      by (write.Refused f) q = absurd (never_fifteen f q)

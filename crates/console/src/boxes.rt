@@ -1,15 +1,14 @@
 // The program `boxes`.
-use crate::files::close_out;
 use crate::texts;
+use crate::texts::Program;
+use std::rt::{Env, Files};
 
 // Prints the record that belongs to the text of a file, and the box of each net, and leaves standard output open for more.
-pub fn print_file(path: &[u8]) {
-    texts::print_file(b"boxes", true, path);
+pub fn print_file(rt: &(impl Files + Print + Eprint), path: &[u8]) {
+    let _ = texts::print_file(rt, Program::Boxes, path);
 }
 
 // The program: what its arguments ask, and standard output closed at the end.
-pub fn run() {
-    if texts::print_arguments(b"boxes", true) {
-        close_out(b"boxes");
-    }
+pub fn run(rt: &(impl Env + Files + Input + Print + Eprint)) {
+    let _ = texts::run(rt, Program::Boxes);
 }

@@ -8,4 +8,5 @@ pub mod beside;
 pub mod boxes;
 mod files;
 pub mod place;
+mod tell;
 mod texts;

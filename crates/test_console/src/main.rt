@@ -5,22 +5,22 @@
 // the argument, with a line above 4,096 bytes: a number of 5,000 digits is out of range, 4. Of its first 4,096 bytes the line would have no LF, 2.
 #![tactic(auto)]
 
-fn main() {
-    console::place::print_file(b"large");
-    console::place::print_file(b".");
-    console::boxes::print_file(b"chip");
-    console::boxes::print_file(b"large");
-    console::boxes::print_file(b".");
-    console::boxes::print_file(b"missing");
-    console::beside::print_files(b"chip", b"record");
-    console::beside::print_files(b"chip", b"other");
-    console::beside::print_files(b"chip", b"longer");
-    console::beside::print_files(b"chip", b"fewer");
-    console::beside::print_files(b"chip", b"none");
-    console::beside::print_files(b"record", b"chip");
-    console::beside::print_files(b"faulty", b"large");
-    console::beside::print_files(b"chip", b"large");
-    console::beside::print_files(b"chip", b"missing");
-    console::beside::print_files(b".", b"record");
-    console::place::run();
+fn main(rt: HostRuntime) {
+    console::place::print_file(&rt, b"large");
+    console::place::print_file(&rt, b".");
+    console::boxes::print_file(&rt, b"chip");
+    console::boxes::print_file(&rt, b"large");
+    console::boxes::print_file(&rt, b".");
+    console::boxes::print_file(&rt, b"missing");
+    console::beside::print_files(&rt, b"chip", b"record");
+    console::beside::print_files(&rt, b"chip", b"other");
+    console::beside::print_files(&rt, b"chip", b"longer");
+    console::beside::print_files(&rt, b"chip", b"fewer");
+    console::beside::print_files(&rt, b"chip", b"none");
+    console::beside::print_files(&rt, b"record", b"chip");
+    console::beside::print_files(&rt, b"faulty", b"large");
+    console::beside::print_files(&rt, b"chip", b"large");
+    console::beside::print_files(&rt, b"chip", b"missing");
+    console::beside::print_files(&rt, b".", b"record");
+    console::place::run(&rt);
 }
