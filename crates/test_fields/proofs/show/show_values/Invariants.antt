@@ -2,7 +2,7 @@ use Prim.Native.Nat.{◌≤◌, ◌-◌}
 use Rattle.test_fields.proofs.show.show_values.Given as goal
 
 abbrev pub invariant-loop-i : goal.invariant-loop-i
-invariant-loop-i l = i ≤ 4
+invariant-loop-i l = l.i ≤ 4
 
 abbrev pub decreases-loop-i : goal.decreases-loop-i
-decreases-loop-i l = 4 - i
+decreases-loop-i l = 4 - l.i
