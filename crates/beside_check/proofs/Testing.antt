@@ -2,10 +2,10 @@
 use Prim.Native.Nat.{ℕ}
 use mathlib.Core.Path.{◌≡◌, refl, sym, ap, ◌∙◌}
 use mathlib.Core.Bool.{Bool, true, false}
-use mathlib.Core.List.{List, [], ◌∷◌, map}
+use mathlib.Core.List.{List, [], ◌∷◌}
 use native.Mathlib.Decide.{ℕ_discrete}
 use lib.Dec.{eqb}
-use lib.ListN.{length, take, length-map}
+use lib.ListN.{length, take}
 use borrow.Author.Tests.{eq-eqb, ne_eqb}
 use Rattle.model.specs.declared.Chip.{Chip as HeldChip}
 use Rattle.model.specs.declared.Record.{Record as HeldRecord}
@@ -71,7 +71,7 @@ module _ (c : HeldChip) (p : Passed c) (w : Whole c) (s : List Spot) (l : length
   outcome_same outcome.None = refl
   outcome_same (outcome.Least wl count) = placement_same wl count
 
-module _ (c : HeldChip) (p : Passed c) (w : Whole c) (r : HeldRecord) {A : Type 0} (f : Spot → A) (l : length (map f r.spots) ≡ 8) where
+module _ (c : HeldChip) (p : Passed c) (w : Whole c) (r : HeldRecord) (l : length r.spots ≡ 8) where
   pub tests_same : first_failed (held_tests c r) ≡ first_failed (beside_tests (chip_of c) (record_of r))
   unfolding record_of
-  tests_same = outcome_same c p w r.spots (sym (length-map r.spots f) ∙ l) r.outcome
+  tests_same = outcome_same c p w r.spots l r.outcome
