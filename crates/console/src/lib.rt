@@ -1,7 +1,7 @@
 // The programs `place`, `boxes` and `beside`: their arguments, the reading of texts, and the writing of what is printed for them.
 //
-// No contract can say what is read or written. Of these functions it is proved that they are safe and end; the bytes written are those of
-// `place_print::print_text`, `place_boxes::print_boxes` and `beside_print::print_beside`.
+// No contract can say what a file or a terminal gives or takes. The work is generic over a reader and a writer: where the bytes of these are known, what is
+// written is exactly `place_print::print_text`, `place_boxes::print_boxes` or `beside_print::print_beside` of the whole input. All else is proved safe, and to end.
 #![tactic(auto)]
 
 pub mod beside;

@@ -1,3 +1,2 @@
 // The marked cases of document 01: definitions and laws, no function is declared here.
 #![tactic(auto)]
-
