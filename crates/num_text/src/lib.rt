@@ -1,4 +1,6 @@
 // Decimal numbers as text: reading a part of a text, and writing into a lent buffer.
+#![tactic(auto)]
+
 ghost use Rattle.std.specs.Prelude.{◌≡◌, [], ◌∷◌, ◌<◌, ◌≤◌};
 ghost use Rattle.std.proofs.Math.IntN.{sub_ℕ};
 ghost use Rattle.num_text.specs.Number.{numeral_of, digits, number_text};
@@ -9,7 +11,7 @@ ghost use Rattle.num_text.specs.Steps.{push, held_natural};
 pub const MOST: u64 = 1000000000;
 
 // What a field holds: a sign (true: negative) and a magnitude, at most 1,000,000,000; or no number.
-#[derive(Drop)]
+#[derive(Clone, Copy)]
 pub enum Number {
     Value(bool, u64),
     Bad,
