@@ -30,11 +30,7 @@ fn shows_fit(a: Axis, x: [u64; NODE_ROOM], f: [u64; SLOT_ROOM], parents: [usize;
     ensures { Shows result (ShownFit a x f) }
 {
     let g = whole_graph(a);
-    let e = net_spans(a);
-    if !is_flow(g, e, a.t, f) {
-        return false;
-    }
-    is_rest(g, f, x, parents)
+    is_flow(g, net_spans(a), a.t, f) && is_rest(g, f, x, parents)
 }
 
 // A proposed answer, if it passes the test, or else the sure one.
@@ -42,35 +38,28 @@ fn judge_fit(a: Axis, c: Proposal) -> Solution
     requires { Held a }
     ensures { SolutionOk a result.verdict result.at result.amounts }
 {
-    let v = c.x;
-    let f = c.f;
-    let parents = c.parents;
-    if shows_fit(a, v, f, parents) {
-        let at = coordinates(v, a.n);
-        return Solution {
+    let Proposal { x, f, parents } = c;
+    if shows_fit(a, x, f, parents) {
+        Solution {
             verdict: Verdict::Solved,
-            at,
+            at: coordinates(x, a.n),
             amounts: f,
-        };
+        }
+    } else {
+        solve_by_growth(a)
     }
-    solve_by_growth(a)
 }
 
 // A proposed chain that refutes the bounds of macros and pairs, if it passes the test, or else the sure answer.
-fn judge_none(a: Axis, c: Proposal) -> Solution
+fn judge_none(a: Axis, f: [u64; SLOT_ROOM]) -> Solution
     requires { Held a }
     ensures { SolutionOk a result.verdict result.at result.amounts }
 {
-    let f = c.f;
-    let g = macro_graph(a);
-    if is_chain(g, f) {
-        return Solution {
-            verdict: Verdict::Unsolvable,
-            at: [0u64; Axis::MACROS],
-            amounts: f,
-        };
+    if is_chain(macro_graph(a), f) {
+        Solution::unsolvable(f)
+    } else {
+        solve_by_growth(a)
     }
-    solve_by_growth(a)
 }
 
 // The least length of the axis's nets under its bounds, and of the coordinates with that length the smallest.
@@ -78,20 +67,13 @@ pub fn solve(a: Axis) -> Solution
     ensures { SolutionOk a result.verdict result.at result.amounts }
 {
     if !is_held(a) {
-        return Solution {
-            verdict: Verdict::Malformed,
-            at: [0u64; Axis::MACROS],
-            amounts: [0u64; SLOT_ROOM],
-        };
+        return Solution::malformed();
     }
-    let sizes = a.sizes;
-    if first_above(&sizes, a.side, a.n) < a.n {
+    if first_above(&a.sizes, a.side, a.n).is_some() {
         return solve_by_growth(a);
     }
-    let c = propose(a);
-    let fits = c.fits;
-    if fits {
-        return judge_fit(a, c);
+    match propose(a) {
+        Ok(c) => judge_fit(a, c),
+        Err(f) => judge_none(a, f),
     }
-    judge_none(a, c)
 }

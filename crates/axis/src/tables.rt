@@ -5,13 +5,13 @@
 // picks: the pin at the greatest place of each entry, and at 128 on the one at the least. ends: node of each pin, at 128 on its place.
 // arcs: the greatest bound from u to v at place 9 u + v, held higher by 2^24. by: the slot that has it.
 use axis_bounds::{Axis, AxisNet, AxisPin, Slot};
+use half_fit::{ARCS, TAB};
 use std::num::{wrapping_add_u32, wrapping_sub_u32};
-
-pub(crate) const TAB: usize = 1024;
 
 pub(crate) const PICKS: usize = 256;
 
-pub(crate) const ARCS: usize = 128;
+// The die corner and the macros.
+pub(crate) const CORNERS: usize = Axis::MACROS + 1;
 
 // Bounds are held higher by this.
 pub(crate) const BIAS: u32 = 16777216;
@@ -20,17 +20,13 @@ pub(crate) const BIAS: u32 = 16777216;
 pub(crate) const LOW: u32 = 15777216;
 
 // A place above all others.
-const FAR: u32 = 1000000;
+pub(crate) const FAR: u32 = 1000000;
 
 pub(crate) fn wide(x: u32) -> usize {
     x as usize
 }
 
-fn narrow(x: usize) -> u32 {
-    (x % 65536) as u32
-}
-
-fn narrow_value(x: u64) -> u32 {
+fn narrow(x: u64) -> u32 {
     (x % 65536) as u32
 }
 
@@ -46,7 +42,7 @@ fn set_part(tab: &mut [u32; TAB], p: usize, k: usize, v: u32) {
 // ---- bounds
 
 pub(crate) fn cell(u: usize, v: usize) -> usize {
-    (u % 16 * 9 + v % 16) % ARCS
+    (u % 16 * CORNERS + v % 16) % ARCS
 }
 
 // The bound plus - minus from u to v of slot s, if it is above the one that stands.
@@ -59,12 +55,11 @@ fn offer(
     minus: u64,
     s: usize,
 ) {
-    let c = cell(u, v);
-    let up = wrapping_add_u32(BIAS, narrow_value(plus));
-    let b = wrapping_sub_u32(up, narrow_value(minus));
-    if arcs[c % ARCS] < b {
-        arcs[c % ARCS] = b;
-        by[c % ARCS] = s;
+    let c = cell(u, v) % ARCS;
+    let b = wrapping_sub_u32(wrapping_add_u32(BIAS, narrow(plus)), narrow(minus));
+    if arcs[c] < b {
+        arcs[c] = b;
+        by[c] = s;
     }
 }
 
@@ -76,15 +71,10 @@ pub(crate) fn put_die(
     sizes: [u64; Axis::MACROS],
     n: usize,
 ) {
-    let mut i: usize = 0;
-    while i < Axis::MACROS {
-        let w = sizes[i];
-        let s = 2 * i;
-        let back = i < n;
-        i += 1;
-        offer(arcs, by, 0, i, 0, 0, s);
-        if back {
-            offer(arcs, by, i, 0, w, side, s + 1);
+    for (i, w) in sizes.iter().enumerate() {
+        offer(arcs, by, 0, i + 1, 0, 0, 2 * i);
+        if i < n {
+            offer(arcs, by, i + 1, 0, *w, side, 2 * i + 1);
         }
     }
 }
@@ -97,14 +87,8 @@ pub(crate) fn put_letters(
     p: usize,
     from: usize,
 ) {
-    let mut j: usize = 0;
-    while j < Axis::PAIRS {
-        if p <= j {
-            return;
-        }
-        let s = pairs[j];
+    for (j, s) in pairs[..p.min(Axis::PAIRS)].iter().enumerate() {
         offer(arcs, by, s.tail, s.head, s.plus, s.minus, from % 1024 + j);
-        j += 1;
     }
 }
 
@@ -112,12 +96,9 @@ pub(crate) fn put_letters(
 
 // The nodes and the places of the pins.
 fn put_pins(pins: [AxisPin; Axis::PINS], ends: &mut [u32; PICKS]) {
-    let mut i: usize = 0;
-    while i < Axis::PINS {
-        let q = pins[i];
-        ends[i] = narrow(q.node);
-        ends[128 + i] = narrow_value(q.up);
-        i += 1;
+    for (i, q) in pins.iter().enumerate() {
+        ends[i] = narrow(q.node as u64);
+        ends[128 + i] = narrow(q.up);
     }
 }
 
@@ -132,12 +113,12 @@ fn put_entry(
     top: usize,
     bottom: usize,
 ) {
-    set_part(tab, 0, e, narrow(node));
+    set_part(tab, 0, e, narrow(node as u64));
     set_part(tab, 1, e, most);
     set_part(tab, 2, e, least);
-    set_part(tab, 3, e, narrow(net));
-    picks[e % 128] = narrow(top);
-    picks[128 + e % 128] = narrow(bottom);
+    set_part(tab, 3, e, narrow(net as u64));
+    picks[e % 128] = narrow(top as u64);
+    picks[128 + e % 128] = narrow(bottom as u64);
 }
 
 // The entry of a node on a net whose pins stand from q up to `to`, if it has pins on it; the next free entry.
@@ -155,8 +136,7 @@ fn put_node(
     let mut least = FAR;
     let mut top = q;
     let mut bottom = q;
-    let mut i = q;
-    while i < to {
+    for i in q..to {
         if wide(ends[i % 128]) == node {
             let y = ends[128 + i % 128];
             if most <= y {
@@ -168,7 +148,6 @@ fn put_node(
                 bottom = i;
             }
         }
-        i += 1;
     }
     if most < least {
         return e;
@@ -188,10 +167,8 @@ fn put_net(
     first: usize,
 ) -> usize {
     let mut e = first;
-    let mut node: usize = 0;
-    while node < 9 {
+    for node in 0..CORNERS {
         e = put_node(tab, picks, ends, q, to, net, node, e);
-        node += 1;
     }
     e
 }
@@ -206,18 +183,12 @@ fn put_nets(
 ) -> usize {
     let mut q: usize = 0;
     let mut e: usize = 0;
-    let mut j: usize = 0;
-    while j < Axis::NETS {
-        if t <= j {
-            return e;
-        }
-        let k = nets[j];
+    for (j, k) in nets[..t.min(Axis::NETS)].iter().enumerate() {
         let to = q % 1024 + k.pins % 1024;
-        set_part(tab, 4, j, narrow(e));
-        set_part(tab, 4, 64 + j, narrow_value(k.weight));
+        set_part(tab, 4, j, narrow(e as u64));
+        set_part(tab, 4, 64 + j, narrow(k.weight));
         e = put_net(tab, picks, ends, q, to, j, e);
         q = to;
-        j += 1;
     }
     e
 }
@@ -233,9 +204,9 @@ pub(crate) fn put_tables(
 ) {
     let mut ends = [0u32; PICKS];
     put_pins(pins, &mut ends);
-    let e = put_nets(tab, picks, &ends, nets, t);
-    set_part(tab, 4, t % 64, narrow(e));
-    set_part(tab, 7, 0, narrow(t));
-    set_part(tab, 7, 1, narrow(n));
-    set_part(tab, 7, 2, narrow(e));
+    let e = narrow(put_nets(tab, picks, &ends, nets, t) as u64);
+    set_part(tab, 4, t % 64, e);
+    set_part(tab, 7, 0, narrow(t as u64));
+    set_part(tab, 7, 1, narrow(n as u64));
+    set_part(tab, 7, 2, e);
 }

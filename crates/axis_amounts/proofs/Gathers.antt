@@ -1,15 +1,12 @@
 -- Sums at the nodes, and of the chain: what the tests add up.
-use mathlib.Core.Path.{◌≡◌, refl, sym, ap, subst, ◌∙◌}
-use mathlib.Core.Bool.{Bool, false, not}
+use mathlib.Core.Path.{◌≡◌, refl, ap, ◌∙◌}
 use mathlib.Core.List.{List}
 use Prim.Native.Nat.{ℕ, zero, suc, ◌+◌, ◌*◌, ◌≤◌, ◌<◌}
 use native.Mathlib.Nat.{mul-le-mul_right}
 use native.Mathlib.Numerals.{add-one}
 use native.Mathlib.Omega.{arith}
-use borrow.Author.Tests.{ltb-true}
 use mir.Syntax.{w64}
 use mir.Val.{Fits}
-use lib.Dec.{ltb}
 use lib.ListN.{length, set, length-set, length-replicate}
 use Rattle.num_laws.specs.Sum.{sum}
 use Rattle.num_laws.proofs.Sums.{sum_grows}
@@ -20,12 +17,10 @@ use Rattle.axis_bounds.specs.Listed.{tails, heads, pluses, minuses}
 use Rattle.axis_graph.specs.declared.Graph.{Graph}
 use Rattle.axis_graph.specs.declared.Span.{Span}
 use Rattle.axis_graph.specs.Limits.{node_room, slot_room, net_room, side_most, weight_most, amount_most}
-use Rattle.axis_graph.specs.Graph.{at, GraphWithin, Shows}
-use Rattle.axis_graph.specs.Solved.{Refuted, los, his, weights, NetEnds}
-use Rattle.axis_amounts.specs.Amounts.{no_sums, added_at, sum_most, RoomFor, Within, Idle, Gathered, Summed, Modest, SpansWithin, Spanned, Outweighs, Flow}
-use Rattle.axis_tie.specs.Even.{Even}
+use Rattle.axis_graph.specs.Graph.{at, GraphWithin}
+use Rattle.axis_graph.specs.Solved.{los, his, weights}
+use Rattle.axis_amounts.specs.Amounts.{no_sums, added_at, sum_most, RoomFor, Within, Gathered, Summed, Modest, SpansWithin, Spanned}
 use Rattle.num_laws.proofs.Stores.{zero_at}
-use Rattle.axis_graph.proofs.Answers.{shown_by}
 
 -- ---- sums at the nodes
 
@@ -61,9 +56,6 @@ module _ (into₀ out₀ : List ℕ) (to from f : ℕ → ℕ) (c : ℕ) (ok : A
 
       pub summed_more : (into' out' : List ℕ) → into' ≡ added_at into (to i) (f i) → out' ≡ added_at out (from i) (f i) → Summed into₀ out₀ to from f (i + 1) into' out'
       summed_more into' out' p q = rw (p, q) (record { into_at = gathered_more to f into₀ i into s.into_at (ok.to_node_law i l); out_at = gathered_more from f out₀ i out s.out_at (ok.from_node_law i l) })
-
-    pub summed_all : i ≤ c → c ≤ i → Summed into₀ out₀ to from f c into out
-    summed_all a b = subst (λ (j : ℕ). Summed into₀ out₀ to from f j into out) (let e : i ≡ c = omega arith in e) s
 
 -- ---- the slots
 
@@ -109,9 +101,6 @@ module _ (g : Graph) (fine : GraphWithin g) (nets : List Span) (c : ℕ) (h : Sp
   pub nets_spanned : c ≤ net_room → Spanned nets c
   nets_spanned l = let a = fine.nodes in record { lo = λ j k. let p = (h.at j k).lo in omega arith; hi = λ j k. let p = (h.at j k).hi in omega arith; total = let w = weights_most g.n nets c h in omega arith }
 
-  pub nets_ends : NetEnds g nets c
-  nets_ends = record { lo = λ j k. (h.at j k).lo; hi = λ j k. (h.at j k).hi }
-
 module _ (nets : List Span) (c : ℕ) (sp : Spanned nets c) (i : ℕ) (l : i < c) where
   weight_room : sum (weights nets) i + weights nets i ≤ amount_most
   unfolding sum
@@ -128,9 +117,6 @@ module _ (nets : List Span) where
   pub total_none : ◌≡◌ {A = ℕ} 0 (sum (weights nets) 0)
   unfolding sum
   total_none = refl
-
-  pub total_all : (c i w : ℕ) → w ≡ sum (weights nets) i → i ≤ c → c ≤ i → w ≡ sum (weights nets) c
-  total_all c i w e p q = e ∙ ap (sum (weights nets)) (let z : i ≡ c = omega arith in z)
 
   module _ (into₀ out₀ : List ℕ) (mo : Modest into₀ out₀) (c : ℕ) (sp : Spanned nets c) where
     -- the weights may be added to sums of the slots
@@ -202,63 +188,7 @@ module _ (g : Graph) (f : List ℕ) (fine : GraphWithin g) (wi : Within f 1) (i 
   pub minus_fits : w ≡ weigh (minuses g.slots) (at f) i → Fits w64 (w + minuses g.slots i)
   minus_fits e = let a = weigh_most (minuses g.slots) (at f) side_most i (λ s k. (fine.fine s (omega arith)).minus) wi.most in let b = (fine.fine i l).minus in let o = fine.slots in omega arith
 
-pub outweighs_all : (g : Graph) (f : List ℕ) (i p q : ℕ) → p ≡ weigh (pluses g.slots) (at f) i → q ≡ weigh (minuses g.slots) (at f) i → i ≤ g.m → g.m ≤ i → (r : Bool) → r ≡ ltb q p → Shows r (Outweighs g f)
-outweighs_all g f i p q ep eq a b r e =
-    let z : i ≡ g.m = omega arith in
-    let u : weigh (pluses g.slots) (at f) i ≡ weigh (pluses g.slots) (at f) g.m = ap (weigh (pluses g.slots) (at f)) z in
-    let v : weigh (minuses g.slots) (at f) i ≡ weigh (minuses g.slots) (at f) g.m = ap (weigh (minuses g.slots) (at f)) z in
-    record { shown = λ t. record { more = let h = ltb-true q p (sym e ∙ t) in omega arith } }
+-- ---- amounts that the first test passed
 
--- ---- what the sums show
-
-module _ (g : Graph) (f : List ℕ) (fine : GraphWithin g) (into out : List ℕ) (s : Summed no_sums no_sums (heads g.slots) (tails g.slots) (at f) g.m into out) where
-  enters : (k : ℕ) → k < node_room → at into k ≡ at_node (heads g.slots) (at f) g.m k
-  enters k l = let a = s.into_at.is k l in let z = zero_at node_room k in omega arith
-
-  leaves : (k : ℕ) → k < node_room → at out k ≡ at_node (tails g.slots) (at f) g.m k
-  leaves k l = let a = s.out_at.is k l in let z = zero_at node_room k in omega arith
-
-  -- a closed chain
-  pub refuted : (b : Bool) → Shows b (Within f 1) → not b ≡ false → (d : Bool) → Shows d (Idle g f) → not d ≡ false → (e : Bool) → Shows e (Even into out g.n) → not e ≡ false → (r : Bool) → Shows r (Outweighs g f) → Shows r (Refuted g f)
-  refuted b wi wn d id idn e ev en r o =
-      record {
-        shown = λ t.
-            record {
-              few = (shown_by b wi wn).most;
-              idle = λ k z. (shown_by d id idn).still k (ap (λ (u : Slot). u.tail) z ∙ sym (ap (λ (u : Slot). u.head) z)) (ap (λ (u : Slot). u.plus) z ∙ sym (ap (λ (u : Slot). u.minus) z));
-              balance = record { eq = λ k l. let m = fine.nodes in let p = (shown_by e ev en).eq k l in let q = enters k (omega arith) in let v = leaves k (omega arith) in omega arith };
-              more = (o.shown t).more;
-            };
-      }
-
-  -- a flow
-  pub flows : (nets : List Span) (c : ℕ) (q : ℕ) → q ≡ sum (weights nets) c → (b : Bool) → Shows b (Within f q) → not b ≡ false → (d : Bool) → Shows d (Idle g f) → not d ≡ false → (into' out' : List ℕ) → Summed into out (los nets) (his nets) (weights nets) c into' out' → SpansWithin g.n nets c → (r : Bool) → Shows r (Even into' out' g.n) → Shows r (Flow g nets c f)
-  flows nets c q eq b wi wn d id idn into' out' ns sp r ev =
-      record {
-        shown = λ t.
-            record {
-              fine = fine;
-              ends = nets_ends g fine nets c sp;
-              most = subst (Within f) eq (shown_by b wi wn);
-              idle = shown_by d id idn;
-              balance = record {
-                eq = λ k l.
-                    let m = fine.nodes in
-                    let p = (ev.shown t).eq k l in
-                    let u = enters k (omega arith) in
-                    let v = leaves k (omega arith) in
-                    let y = ns.into_at.is k (omega arith) in
-                    let z = ns.out_at.is k (omega arith) in
-                    omega arith;
-              };
-            };
-      }
-
-pub chain_within : (f : List ℕ) (b : Bool) → Shows b (Within f 1) → not b ≡ false → Within f 1
-chain_within f b s e = shown_by b s e
-
-pub chain_few : (f : List ℕ) (b : Bool) → Shows b (Within f 1) → not b ≡ false → Within f amount_most
-chain_few f b s e = record { most = λ k. let p = (shown_by b s e).most k in omega arith }
-
-pub flow_few : (g : Graph) → GraphWithin g → (nets : List Span) (c : ℕ) → SpansWithin g.n nets c → c ≤ net_room → (f : List ℕ) (q : ℕ) → q ≡ sum (weights nets) c → (b : Bool) → Shows b (Within f q) → not b ≡ false → Within f amount_most
-flow_few g fine nets c h l f q e b s o = record { most = λ k. let p = (shown_by b s o).most k in let t = (nets_spanned g fine nets c h l).total in omega arith }
+pub flow_few : (g : Graph) → GraphWithin g → (nets : List Span) (c : ℕ) → SpansWithin g.n nets c → c ≤ net_room → (f : List ℕ) (q : ℕ) → q ≡ sum (weights nets) c → Within f q → Within f amount_most
+flow_few g fine nets c h l f q e w = record { most = λ k. let p = w.most k in let t = (nets_spanned g fine nets c h l).total in omega arith }

@@ -77,6 +77,14 @@ pub record Spanned (nets : List Span) (c : ℕ) : Type 0 where
 pub record Outweighs (g : Graph) (f : List ℕ) : Type 0 where
   pub more : weigh (minuses g.slots) (at f) g.m < weigh (pluses g.slots) (at f) g.m
 
+-- as much enters each node as leaves it
+pub record Closed (g : Graph) (f : List ℕ) : Type 0 where
+  pub balance : Balance (tails g.slots) (heads g.slots) (at f) (λ k. 0) (λ k. 0) g.m g.n
+
+-- the same, where the weights of the first c nets enter at lo and leave at hi
+pub record Balanced (g : Graph) (nets : List Span) (c : ℕ) (f : List ℕ) : Type 0 where
+  pub balance : Balance (tails g.slots) (heads g.slots) (at f) (at_node (los nets) (weights nets) c) (at_node (his nets) (weights nets) c) g.m g.n
+
 -- amounts on a graph within the limits that carry the weights of its nets
 pub record Flow (g : Graph) (nets : List Span) (c : ℕ) (f : List ℕ) : Type 0 where
   pub fine : GraphWithin g

@@ -10,10 +10,9 @@ ghost use Rattle.axis_graph.specs.Limits.{net_room, amount_most};
 ghost use Rattle.axis_bounds.specs.Listed.{tails, heads};
 ghost use Rattle.axis_graph.specs.Graph.{at, GraphWithin, Shows};
 ghost use Rattle.axis_graph.specs.Solved.{los, his, weights, Refuted};
-ghost use Rattle.axis_amounts.specs.Amounts.{Within, Idle, Outweighs, no_sums, added_at, RoomFor, Summed, Modest, SpanWithin, SpansWithin, Spanned, Flow};
+ghost use Rattle.axis_amounts.specs.Amounts.{Within, Idle, Outweighs, no_sums, added_at, RoomFor, Summed, Modest, SpanWithin, SpansWithin, Spanned, Closed, Balanced, Flow};
 
 use axis_bounds::Axis;
-use axis_graph::above::first_above;
 use axis_graph::fine::is_fine;
 use axis_graph::{Graph, NODE_ROOM, SLOT_ROOM, Span};
 use axis_tie::{is_even, is_gain};
@@ -32,33 +31,16 @@ struct Sums {
 fn within(f: [u64; SLOT_ROOM], q: u64) -> bool
     ensures { Shows result (Within f q) }
 {
-    if first_above(&f, q, SLOT_ROOM) < SLOT_ROOM {
-        return false;
-    }
-    true
+    f.iter().all(|a| *a <= q)
 }
 
 // Whether nothing is carried past the last slot, nor by a slot from a node to itself that asks nothing.
 fn idle_slots(g: Graph, f: [u64; SLOT_ROOM]) -> bool
     ensures { Shows result (Idle g f) }
 {
-    let slots = g.slots;
-    let m = g.m;
-    let mut i: usize = 0;
-    while i < SLOT_ROOM {
-        let s = slots[i];
-        let a = f[i];
-        let j = i;
-        i += 1;
-        if 0 < a {
-            if m <= j {
-                return false;
-            }
-            if s.tail == s.head {
-                if s.plus == s.minus {
-                    return false;
-                }
-            }
+    for (i, s) in g.slots.iter().enumerate() {
+        if 0 < f[i] && (g.m <= i || (s.tail == s.head && s.plus == s.minus)) {
+            return false;
         }
     }
     true
@@ -68,16 +50,7 @@ fn idle_slots(g: Graph, f: [u64; SLOT_ROOM]) -> bool
 fn fine_span(p: Span, n: usize) -> bool
     ensures { Shows result (SpanWithin n p) }
 {
-    if n <= p.lo {
-        return false;
-    }
-    if n <= p.hi {
-        return false;
-    }
-    if WEIGHT_MOST < p.weight {
-        return false;
-    }
-    true
+    p.lo < n && p.hi < n && p.weight <= WEIGHT_MOST
 }
 
 // The first nets, between n nodes.
@@ -85,15 +58,7 @@ fn fine_spans(nets: [Span; Axis::NETS], count: usize, n: usize) -> bool
     requires { count ≤ net_room }
     ensures { Shows result (SpansWithin n nets count) }
 {
-    let mut j: usize = 0;
-    while j < count {
-        let p = nets[j];
-        if !fine_span(p, n) {
-            return false;
-        }
-        j += 1;
-    }
-    true
+    nets.iter().take(count).all(|p| fine_span(*p, n))
 }
 
 // An amount more, which leaves one node and enters another.
@@ -112,15 +77,10 @@ fn slot_sums(g: Graph, f: [u64; SLOT_ROOM]) -> Sums
     requires within { Within f amount_most }
     ensures { Summed no_sums no_sums (heads g.slots) (tails g.slots) (at f) g.m result.into result.out }
 {
-    let slots = g.slots;
-    let m = g.m;
     let mut into = [0u64; NODE_ROOM];
     let mut out = [0u64; NODE_ROOM];
-    let mut i: usize = 0;
-    while i < m {
-        let s = slots[i];
-        carry(&mut into, &mut out, s.tail, s.head, f[i]);
-        i += 1;
+    for i in 0..g.m {
+        carry(&mut into, &mut out, g.slots[i].tail, g.slots[i].head, f[i]);
     }
     Sums { into, out }
 }
@@ -132,13 +92,9 @@ fn net_sums(b: Sums, nets: [Span; Axis::NETS], count: usize) -> Sums
     requires spanned { Spanned nets count }
     ensures { Summed b.into b.out (los nets) (his nets) (weights nets) count result.into result.out }
 {
-    let mut into = b.into;
-    let mut out = b.out;
-    let mut j: usize = 0;
-    while j < count {
-        let p = nets[j];
+    let Sums { mut into, mut out } = b;
+    for p in &nets[..count] {
         carry(&mut into, &mut out, p.hi, p.lo, p.weight);
-        j += 1;
     }
     Sums { into, out }
 }
@@ -149,21 +105,25 @@ fn outweighs(g: Graph, f: [u64; SLOT_ROOM]) -> bool
     requires within { Within f 1 }
     ensures { Shows result (Outweighs g f) }
 {
-    let slots = g.slots;
-    let m = g.m;
     let mut p: u64 = 0;
     let mut q: u64 = 0;
-    let mut i: usize = 0;
-    while i < m {
-        let s = slots[i];
-        let a = f[i];
-        i += 1;
-        if 0 < a {
-            p += s.plus;
-            q += s.minus;
+    for i in 0..g.m {
+        if 0 < f[i] {
+            p += g.slots[i].plus;
+            q += g.slots[i].minus;
         }
     }
     is_gain(p, q)
+}
+
+// Whether as much enters as leaves, at each node of a graph.
+fn is_closed(g: Graph, f: [u64; SLOT_ROOM]) -> bool
+    requires graph_within { GraphWithin g }
+    requires within { Within f amount_most }
+    ensures { Shows result (Closed g f) }
+{
+    let b = slot_sums(g, f);
+    is_even(b.into, b.out, g.n)
 }
 
 // Whether the amounts of a graph within the limits are a closed chain that no values keep.
@@ -171,29 +131,14 @@ fn refutes(g: Graph, f: [u64; SLOT_ROOM]) -> bool
     requires { GraphWithin g }
     ensures { Shows result (Refuted g f) }
 {
-    if !within(f, 1) {
-        return false;
-    }
-    if !idle_slots(g, f) {
-        return false;
-    }
-    let b = slot_sums(g, f);
-    let into = b.into;
-    let out = b.out;
-    if !is_even(into, out, g.n) {
-        return false;
-    }
-    outweighs(g, f)
+    within(f, 1) && idle_slots(g, f) && is_closed(g, f) && outweighs(g, f)
 }
 
 // Whether the amounts are a closed chain that no values keep.
 pub fn is_chain(g: Graph, f: [u64; SLOT_ROOM]) -> bool
     ensures { Shows result (Refuted g f) }
 {
-    if !is_fine(g) {
-        return false;
-    }
-    refutes(g, f)
+    is_fine(g) && refutes(g, f)
 }
 
 // The weights of all nets.
@@ -203,13 +148,22 @@ fn total(nets: [Span; Axis::NETS], count: usize) -> u64
     ensures { result ≡ sum (weights nets) count }
 {
     let mut w: u64 = 0;
-    let mut j: usize = 0;
-    while j < count {
-        let p = nets[j];
+    for p in &nets[..count] {
         w += p.weight;
-        j += 1;
     }
     w
+}
+
+// Whether as much enters as leaves, at each node of a graph, with the weights of its nets.
+fn is_balanced(g: Graph, nets: [Span; Axis::NETS], count: usize, f: [u64; SLOT_ROOM]) -> bool
+    requires graph_within { GraphWithin g }
+    requires within { Within f amount_most }
+    requires count_le_net_room { count ≤ net_room }
+    requires spans_within { SpansWithin g.n nets count }
+    ensures { Shows result (Balanced g nets count f) }
+{
+    let b = net_sums(slot_sums(g, f), nets, count);
+    is_even(b.into, b.out, g.n)
 }
 
 // Whether the amounts of a graph within the limits carry the weights of its nets from lo to hi.
@@ -219,31 +173,12 @@ fn carries(g: Graph, nets: [Span; Axis::NETS], count: usize, f: [u64; SLOT_ROOM]
     requires spans_within { SpansWithin g.n nets count }
     ensures { Shows result (Flow g nets count f) }
 {
-    if !within(f, total(nets, count)) {
-        return false;
-    }
-    if !idle_slots(g, f) {
-        return false;
-    }
-    let b = slot_sums(g, f);
-    let c = net_sums(b, nets, count);
-    let into = c.into;
-    let out = c.out;
-    is_even(into, out, g.n)
+    within(f, total(nets, count)) && idle_slots(g, f) && is_balanced(g, nets, count, f)
 }
 
 // Whether the amounts are a flow of the nets' weights.
 pub fn is_flow(g: Graph, nets: [Span; Axis::NETS], count: usize, f: [u64; SLOT_ROOM]) -> bool
     ensures { Shows result (Flow g nets count f) }
 {
-    if !is_fine(g) {
-        return false;
-    }
-    if Axis::NETS < count {
-        return false;
-    }
-    if !fine_spans(nets, count, g.n) {
-        return false;
-    }
-    carries(g, nets, count, f)
+    is_fine(g) && count <= Axis::NETS && fine_spans(nets, count, g.n) && carries(g, nets, count, f)
 }

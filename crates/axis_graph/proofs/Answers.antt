@@ -1,8 +1,7 @@
 -- What the answers of tests mean.
-use mathlib.Core.Path.{◌≡◌}
-use mathlib.Core.Bool.{Bool, true, false, not, true≢false, false≢true}
-use borrow.Author.Tests.{not-true, not-false}
-use Rattle.axis_graph.specs.Graph.{Decides, Shows}
+use mathlib.Core.Path.{◌≡◌, sym, ◌∙◌}
+use mathlib.Core.Bool.{Bool, true, false, true≢false, false≢true}
+use Rattle.axis_graph.specs.Graph.{Decides}
 
 pub says_yes : {P : Type 0} → P → Decides true P
 says_yes p = record { holds = λ e. p; fails = λ e q. true≢false e }
@@ -10,21 +9,10 @@ says_yes p = record { holds = λ e. p; fails = λ e q. true≢false e }
 pub says_no : {P : Type 0} → (P → ⊥) → Decides false P
 says_no n = record { holds = λ e. absurd (false≢true e); fails = λ e q. n q }
 
--- what the two answers of a test that was made mean
-pub held_by : {P : Type 0} (b : Bool) → Decides b P → not b ≡ false → P
-held_by b d e = d.holds (not-false b e)
+-- ---- both of two tests, the second made where the first holds
 
-pub failed_by : {P : Type 0} (b : Bool) → Decides b P → not b ≡ true → P → ⊥
-failed_by b d e = d.fails (not-true b e)
+pub both_then : {P Q : Type 0} (b r v : Bool) → Decides b P → b ≡ true → Decides r Q → v ≡ r → Decides v (P × Q)
+both_then b r v d e s q = record { holds = λ t. (d.holds e, s.holds (sym q ∙ t)); fails = λ t w. s.fails (sym q ∙ t) w.1 }
 
--- ---- tests that pass
-
-pub shows_no : {P : Type 0} → Shows false P
-shows_no = record { shown = λ e. absurd (false≢true e) }
-
-pub shows_yes : {P : Type 0} → P → Shows true P
-shows_yes p = record { shown = λ e. p }
-
--- what a test that was passed shows
-pub shown_by : {P : Type 0} (b : Bool) → Shows b P → not b ≡ false → P
-shown_by b s e = s.shown (not-false b e)
+pub both_else : {P Q : Type 0} (b v : Bool) → Decides b P → b ≡ false → v ≡ b → Decides v (P × Q)
+both_else b v d e q = record { holds = λ t. absurd (false≢true (sym e ∙ sym q ∙ t)); fails = λ t w. d.fails e w.0 }

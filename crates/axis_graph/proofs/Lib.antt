@@ -1,8 +1,5 @@
 pub mod Answers
 pub mod Zeros
-pub mod FirstAbove
-pub mod Fining
-pub mod SlotEnds
 pub mod Ways
 pub mod Optimum
 pub mod Graphs

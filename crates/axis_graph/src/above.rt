@@ -1,19 +1,10 @@
 // The first entry of a list that is above a limit.
-ghost use Rattle.axis_graph.specs.Above.{FirstAbove};
+ghost use Rattle.std.specs.Prelude.{◌<◌, MatchOption};
+ghost use Rattle.axis_graph.specs.Above.{NoneAbove, FirstAbove};
 
-// The place of the first of n entries that is above `most`, or n.
-pub fn first_above(ws: &[u64], most: u64, n: usize) -> usize
-    ensures { FirstAbove most ws.now n result }
+// The place of the first of n entries that is above `most`, where there is one.
+pub fn first_above(ws: &[u64], most: u64, n: usize) -> Option<usize>
+    ensures { MatchOption result (NoneAbove most ws.now n) (λ i. (i < n) × FirstAbove most ws.now n i) }
 {
-    let mut i: usize = 0;
-    while i < n {
-        if ws.len() <= i {
-            return n;
-        }
-        if most < ws[i] {
-            return i;
-        }
-        i += 1;
-    }
-    n
+    ws.iter().take(n).position(|w| most < *w)
 }

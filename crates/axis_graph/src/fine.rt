@@ -11,40 +11,12 @@ const SIDE_MOST: u64 = 32768;
 fn fine_slot(s: Slot, n: usize) -> bool
     ensures { Decides result (EndsWithin n s) }
 {
-    if n <= s.tail {
-        return false;
-    }
-    if n <= s.head {
-        return false;
-    }
-    if SIDE_MOST < s.plus {
-        return false;
-    }
-    if SIDE_MOST < s.minus {
-        return false;
-    }
-    true
+    s.tail < n && s.head < n && s.plus <= SIDE_MOST && s.minus <= SIDE_MOST
 }
 
 // Whether the graph is within the limits.
 pub fn is_fine(g: Graph) -> bool
     ensures { Decides result (GraphWithin g) }
 {
-    let n = g.n;
-    let m = g.m;
-    if NODE_ROOM < n {
-        return false;
-    }
-    if SLOT_ROOM < m {
-        return false;
-    }
-    let mut i: usize = 0;
-    while i < m {
-        let s = g.slots[i];
-        if !fine_slot(s, n) {
-            return false;
-        }
-        i += 1;
-    }
-    true
+    g.n <= NODE_ROOM && g.m <= SLOT_ROOM && g.slots.iter().take(g.m).all(|s| fine_slot(*s, g.n))
 }

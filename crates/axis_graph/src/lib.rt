@@ -3,9 +3,13 @@
 // Nodes have values, and slots have bounds. Node 0 is the die corner, then come the macros, then hi and lo of each net.
 #![tactic(auto)]
 
+ghost use Rattle.std.specs.Prelude.{◌≡◌, replicate};
+ghost use Rattle.axis_graph.specs.Limits.{slot_room};
+
 use axis_bounds::{Axis, Slot};
 
 pub mod above;
+pub mod bounds;
 pub mod fine;
 
 // The nodes and the slots that a graph has room for; its nets are those of an axis.
@@ -48,4 +52,28 @@ pub struct Solution {
     pub verdict: Verdict,
     pub at: [u64; Axis::MACROS],
     pub amounts: [u64; SLOT_ROOM],
+}
+
+impl Solution {
+    // Beyond a limit, nothing is answered.
+    pub fn malformed() -> Solution
+        ensures { result ≡ record { verdict = Verdict.Malformed; at = replicate 8 0; amounts = replicate slot_room 0 } }
+    {
+        Solution {
+            verdict: Verdict::Malformed,
+            at: [0u64; Axis::MACROS],
+            amounts: [0u64; SLOT_ROOM],
+        }
+    }
+
+    // No coordinates, and amounts that are a closed chain.
+    pub fn unsolvable(amounts: [u64; SLOT_ROOM]) -> Solution
+        ensures { result ≡ record { verdict = Verdict.Unsolvable; at = replicate 8 0; amounts = amounts } }
+    {
+        Solution {
+            verdict: Verdict::Unsolvable,
+            at: [0u64; Axis::MACROS],
+            amounts,
+        }
+    }
 }

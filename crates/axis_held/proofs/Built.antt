@@ -3,22 +3,22 @@
 use mathlib.Core.Path.{◌≡◌, refl, sym, ap, subst, ◌∙◌}
 use mathlib.Core.List.{List, ◌∷◌, ◌++◌}
 use Prim.Native.Nat.{ℕ, zero, suc, ◌+◌, ◌-◌, ◌*◌, ◌≤◌, ◌<◌}
-use native.Mathlib.Decide.{ℕ_discrete}
 use native.Mathlib.Omega.{arith}
 use mir.Syntax.{w64}
 use mir.Val.{Fits}
 use lib.ListN.{length, get_or, replicate, take, drop, set, length-take, length-drop, drop_of_length-le}
-use lib.Seq.{sets, drop-cons, drop-drop, get_or-take, get_or-set_same, get_or-set_other}
+use lib.Seq.{sets, sets-eq, drop-cons, drop-drop, get_or-take}
+use borrow.Rule.Slice.PartMut.{put_mid}
+use Rattle.std.proofs.Common.{append_assoc}
 use Rattle.num_laws.proofs.Stores.{sets_append}
 use Rattle.axis_bounds.specs.declared.Slot.{Slot}
 use Rattle.axis_bounds.specs.declared.AxisPin.{AxisPin}
 use Rattle.axis_bounds.specs.declared.AxisNet.{AxisNet}
-use Rattle.axis_bounds.specs.Axis.{no_slot, no_pin, no_net, nets_of}
-use Rattle.axis_bounds.specs.Listed.{slot, die_slots, pin_slots, net_slots, hi_node, lo_node}
+use Rattle.axis_bounds.specs.Axis.{no_pin, no_net, nets_of}
+use Rattle.axis_bounds.specs.Listed.{slot, die_slots, pin_slots, net_slots}
 use Rattle.axis_bounds.specs.Graph.{far}
 use Rattle.axis_bounds.specs.Held.{pins_before}
 use Rattle.axis_bounds.proofs.Counts.{length_pins}
-use Rattle.axis_graph.specs.declared.Span.{Span}
 use Rattle.axis_graph.specs.Solved.{no_span}
 use Rattle.axis_held.specs.Ends.{ends_of}
 use Rattle.axis_graph.specs.Build.{SpansTo}
@@ -41,9 +41,6 @@ pub record DiePut (side n : ℕ) (ws : List ℕ) (ss r : List Slot) (i : ℕ) : 
   pub rest : sets ss 0 (die_slots side 1 (take n ws)) ≡ sets r (2 * i) (die_slots side (suc i) (drop i (take n ws)))
 
 module _ (side n : ℕ) (ws : List ℕ) (ss : List Slot) where
-  pub die_none : DiePut side n ws ss ss 0
-  die_none = record { rest = refl }
-
   module _ (r : List Slot) (i : ℕ) (h : DiePut side n ws ss r i) where
     pub die_more : length ws ≡ 8 → n ≤ 8 → i < n → DiePut side n ws ss (set (set r (2 * i) (slot 0 (i + 1) 0 0)) (2 * i + 1) (slot (i + 1) 0 (get_or ws i 0) side)) (i + 1)
     unfolding die_slots
@@ -63,27 +60,11 @@ module _ (side n : ℕ) (ws : List ℕ) (ss : List Slot) where
 
 -- ---- the pairs' slots
 
-pub record PairsPut (at p : ℕ) (ps ss r : List Slot) (j : ℕ) : Type 0 where
-  pub rest : sets ss at (take p ps) ≡ sets r (at + j) (drop j (take p ps))
-
-module _ (at p : ℕ) (ps ss : List Slot) where
-  pub put_none : PairsPut at p ps ss ss 0
-  put_none = record { rest = ap (λ (k : ℕ). sets ss k (take p ps)) (omega arith) }
-
-  module _ (r : List Slot) (j : ℕ) (h : PairsPut at p ps ss r j) where
-    pub put_more : length ps ≡ 120 → p ≤ 120 → j < p → PairsPut at p ps ss (set r (at + j) (get_or ps j no_slot)) (j + 1)
-    put_more lp b l =
-        subst (λ (k : ℕ). PairsPut at p ps ss (set r (at + j) (get_or ps j no_slot)) k) (next j)
-        (record {
-          rest =
-              h.rest
-              ∙ ap (sets r (at + j)) (drop-cons (take p ps) j no_slot (let e = length-take p ps in omega arith))
-              ∙ ap (λ (s : Slot). sets r (at + j) (s ∷ drop (suc j) (take p ps))) (get_or-take p ps j no_slot l)
-              ∙ one_more r (at + j) (get_or ps j no_slot) (drop (suc j) (take p ps)) (at + suc j) (omega arith);
-        })
-
-    pub put_all : p ≤ j → r ≡ sets ss at (take p ps)
-    put_all l = sym (h.rest ∙ ap (sets r (at + j)) (drop_of_length-le (take p ps) {i = j} (let e = length-take p ps in omega arith)))
+-- the first p pairs copied to the place `at`
+pub copied : (ss ps : List Slot) (at p : ℕ) → p ≤ length ps → at + p ≤ length ss → put_mid at (at + p - at) ss (take p ps) ≡ sets ss at (take p ps)
+copied ss ps at p l m =
+    let e = length-take p ps in
+    sym (sets-eq (take p ps) ss at (omega arith) ∙ append_assoc (take at ss) (take p ps) (drop (at + length (take p ps)) ss) ∙ ap (λ (t : List Slot). take at ss ++ (take p ps ++ t)) (ap (λ (k : ℕ). drop k ss) (let z : at + length (take p ps) ≡ at + (at + p - at) = omega arith in z) ∙ sym (drop-drop (at + p - at) at ss)))
 
 -- ---- the slots of one net's pins
 
@@ -180,9 +161,6 @@ pub record EndsPut (h t at : ℕ) (ss r : List Slot) (j : ℕ) : Type 0 where
   pub rest : sets ss at (ends_of h t) ≡ sets r (at + 2 * j) (ends_of (h + 2 * j) (t - j))
 
 module _ (h t at : ℕ) (ss : List Slot) where
-  pub ends_start : EndsPut h t at ss ss 0
-  ends_start = record { rest = ap (λ (k : ℕ). sets ss k (ends_of h t)) (omega arith) ∙ ap (λ (k : ℕ). sets ss (at + 2 * 0) (ends_of k t)) (let z : h ≡ h + 2 * 0 = omega arith in z) ∙ ap (λ (k : ℕ). sets ss (at + 2 * 0) (ends_of (h + 2 * 0) k)) (let z : t ≡ t - 0 = omega arith in z) }
-
   module _ (r : List Slot) (j : ℕ) (p : EndsPut h t at ss r j) where
     pub ends_put : j < t → EndsPut h t at ss (set (set r (at + 2 * j) (slot (h + 2 * j) 0 0 far)) (at + 2 * j + 1) (slot 0 (h + 2 * j + 1) 0 far)) (j + 1)
     unfolding ends_of
@@ -214,9 +192,6 @@ module _ (ts : List AxisNet) where
     pub count_more : c + (get_or ts j no_net).pins ≡ pins_before (j + 1) ts
     count_more = (let d = pins_next j ts in let z : c + (get_or ts j no_net).pins ≡ pins_before (suc j) ts = omega arith in z) ∙ ap (λ (k : ℕ). pins_before k ts) (omega arith)
 
-    pub count_end : (t : ℕ) → j ≤ t → t ≤ j → c ≡ pins_before t ts
-    count_end t a b = e ∙ ap (λ (k : ℕ). pins_before k ts) (let z : j ≡ t = omega arith in z)
-
 blank_at : (n k : ℕ) → get_or (replicate n no_span) k no_span ≡ no_span
 blank_at zero k = refl
 blank_at (suc n) zero = refl
@@ -225,20 +200,3 @@ blank_at (suc n) (suc k) = blank_at n k
 module _ (n : ℕ) (ts : List AxisNet) where
   pub spans_none : SpansTo n ts 0 (replicate 32 no_span)
   spans_none = record { at = λ j l. absurd (omega arith); rest = λ j l. blank_at 32 j }
-
-  module _ (j : ℕ) (r : List Span) (h : SpansTo n ts j r) where
-    pub spans_more : length r ≡ 32 → (t : ℕ) → t ≤ 32 → j < t → SpansTo n ts (j + 1) (set r j (record { lo = n + 1 + 2 * j + 1; hi = n + 1 + 2 * j; weight = (get_or ts j no_net).weight }))
-    spans_more lr t b l = record { at = λ k m. by k m (ℕ_discrete k j); rest = λ k m. get_or-set_other r j k new no_span (λ e. omega arith) ∙ h.rest k (omega arith) }
-      where
-        new : Span
-        new = record { lo = n + 1 + 2 * j + 1; hi = n + 1 + 2 * j; weight = (get_or ts j no_net).weight }
-
-        same : new ≡ record { lo = lo_node n j; hi = hi_node n j; weight = (get_or ts j no_net).weight }
-        same = ap (λ (u : ℕ). record { lo = u + 1; hi = u; weight = (get_or ts j no_net).weight }) (let z : n + 1 + 2 * j ≡ hi_node n j = omega arith in z) ∙ ap (λ (u : ℕ). record { lo = u; hi = hi_node n j; weight = (get_or ts j no_net).weight }) (let z : hi_node n j + 1 ≡ lo_node n j = omega arith in z)
-
-        by : (k : ℕ) → k < j + 1 → Dec (k ≡ j) → get_or (set r j new) k no_span ≡ record { lo = lo_node n k; hi = hi_node n k; weight = (get_or ts k no_net).weight }
-        by k m (yes e) = rw (e, get_or-set_same r j new no_span (omega arith)) same
-        by k m (no o) = get_or-set_other r j k new no_span o ∙ h.at k (omega arith)
-
-    pub spans_all : (t : ℕ) → j ≤ t → t ≤ j → SpansTo n ts t r
-    spans_all t b l = record { at = λ k m. h.at k (omega arith); rest = λ k m. h.rest k (omega arith) }

@@ -1,6 +1,6 @@
 -- An axis within the limits, as its arrays have it and as its lists have it.
 use mathlib.Core.Path.{◌≡◌, sym, ap, subst, ◌∙◌}
-use mathlib.Core.Bool.{Bool, true, false, not}
+use mathlib.Core.Bool.{Bool, true, false, false≢true}
 use mathlib.Core.List.{map}
 use Prim.Native.Nat.{ℕ, zero, suc, ◌+◌, ◌-◌, ◌≤◌, ◌<◌}
 use native.Mathlib.Omega.{arith}
@@ -13,11 +13,9 @@ use Rattle.axis_bounds.specs.declared.Axis.{Axis as HeldAxis}
 use Rattle.axis_bounds.specs.Axis.{no_slot, no_pin, no_net, bare_net, nets_of, axis_of, pin_count, WellFormedPair, WellFormedPin, WellFormedNet, WellFormed}
 use Rattle.axis_bounds.specs.Held.{pins_before, Held}
 use Rattle.axis_graph.specs.Graph.{Decides}
-use Rattle.axis_graph.specs.Above.{NoneAbove, FirstAbove}
+use Rattle.axis_graph.specs.Above.{NoneAbove}
 use Rattle.axis_held.specs.Accept.{PairsTo, PinsTo, NetCounts, NetsTo, FrameTo}
-use Rattle.axis_graph.proofs.FirstAbove.{all_fit, one_above}
 use Rattle.axis_held.proofs.NetPins.{pins_next, pins_within, length_nets, count_all, pins_take, weight_held, count_held, pin_held}
-use Rattle.axis_graph.proofs.Answers.{says_no, held_by, failed_by}
 
 -- an axis whose arrays are as long as its type says
 pub record Shaped (a : HeldAxis) : Type 0 where
@@ -30,17 +28,6 @@ pub record Shaped (a : HeldAxis) : Type 0 where
 pub shaped : (a : HeldAxis) (A B C D : Type 0) (f : ℕ → A) (g : Slot → B) (h : AxisNet → C) (k : AxisPin → D) → length (map f a.sizes) ≡ 8 → length (map g a.pairs) ≡ 120 → length (map h a.nets) ≡ 32 → length (map k a.pins) ≡ 128 → Shaped a
 shaped a A B C D f g h k p q r s =
     record { sizes = sym (length-map a.sizes f) ∙ p; pairs = sym (length-map a.pairs g) ∙ q; nets = sym (length-map a.nets h) ∙ r; pins = sym (length-map a.pins k) ∙ s }
-
--- the counts that the first test passed
-module _ (a : HeldAxis) (b : Bool) (d : Decides b (FrameTo a)) (e : not b ≡ false) where
-  pub frame_n : Shaped a → a.n ≤ length a.sizes
-  frame_n sh = let p = (held_by b d e).macs in let q = sh.sizes in omega arith
-
-  pub frame_p : a.p ≤ 120
-  frame_p = (held_by b d e).pairs
-
-  pub frame_t : a.t ≤ 32
-  frame_t = (held_by b d e).nets
 
 module _ (a : HeldAxis) (sh : Shaped a) where
   pub length_sizes : a.n ≤ 8 → length (axis_of a).sizes ≡ a.n
@@ -189,23 +176,16 @@ module _ (a : HeldAxis) (sh : Shaped a) where
     held_nets : NetsTo a.n a.nets a.pins a.t
     held_nets = record { at = λ j l. record { counts = held_counts j l; pins = held_pin_law j l } }
 
+    held_sizes : NoneAbove 8192 a.sizes a.n
+    held_sizes = record { le = held_size }
+
+    held_pairs : PairsTo a.n a.pairs a.p
+    held_pairs = record { at = held_pair }
+
   -- ---- the test
 
-  module _ (b : Bool) (d : Decides b (FrameTo a)) where
-    pub frame_no : not b ≡ true → Decides false (Held a)
-    frame_no e = says_no (λ h. failed_by b d e (held_frame h))
+  pub held_all : (v r : Bool) → Decides v ((FrameTo a × NoneAbove 8192 a.sizes a.n) × PairsTo a.n a.pairs a.p) → v ≡ true → Decides r (NetsTo a.n a.nets a.pins a.t) → Decides r (Held a)
+  held_all v r d e n = let p = d.holds e in record { holds = λ t. held_of p.0.0 p.0.1 p.1 (n.holds t); fails = λ t h. n.fails t (held_nets h) }
 
-    module _ (e : not b ≡ false) where
-      frame : FrameTo a
-      frame = held_by b d e
-
-      module _ (s : ℕ) (fs : FirstAbove 8192 a.sizes a.n s) where
-        pub sizes_not : s < a.n → Decides false (Held a)
-        sizes_not l = says_no (λ h. one_above 8192 a.sizes a.n s fs l (record { le = held_size h }))
-
-        module _ (ls : a.n ≤ s) (p : Bool) (dp : Decides p (PairsTo a.n a.pairs a.p)) where
-          pub pairs_not : not p ≡ true → Decides false (Held a)
-          pairs_not o = says_no (λ h. failed_by p dp o (record { at = held_pair h }))
-
-          pub held_test : not p ≡ false → (r : Bool) → Decides r (NetsTo a.n a.nets a.pins a.t) → Decides r (Held a)
-          held_test ep r dr = record { holds = λ o. held_of frame (all_fit 8192 a.sizes a.n s fs ls) (held_by p dp ep) (dr.holds o); fails = λ o h. dr.fails o (held_nets h) }
+  pub held_none : (v : Bool) → Decides v ((FrameTo a × NoneAbove 8192 a.sizes a.n) × PairsTo a.n a.pairs a.p) → v ≡ false → Decides v (Held a)
+  held_none v d e = record { holds = λ t. absurd (false≢true (sym e ∙ t)); fails = λ t h. d.fails e ((held_frame h, held_sizes h), held_pairs h) }

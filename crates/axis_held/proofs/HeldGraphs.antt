@@ -1,6 +1,5 @@
 -- The graphs of an axis that is held as a value: what the code writes is what the definitions say.
 use mathlib.Core.Path.{◌≡◌, refl, sym, ap, ◌∙◌}
-use mathlib.Core.Bool.{Bool, true, false, not}
 use mathlib.Core.List.{List, [], ◌∷◌}
 use Prim.Native.Nat.{ℕ, suc, ◌+◌, ◌*◌, ◌<◌}
 use native.Mathlib.Omega.{arith}
@@ -15,15 +14,11 @@ use Rattle.axis_bounds.specs.Held.{pins_before, Held}
 use Rattle.axis_bounds.proofs.Counts.{length_die, length_macros, length_listed, length_graph_all}
 use Rattle.axis_bounds.proofs.Sorts.{listed_is, graph_is}
 use Rattle.axis_graph.specs.declared.Graph.{Graph}
-use Rattle.axis_graph.specs.declared.Span.{Span}
-use Rattle.axis_held.specs.Graphs.{blank_graph, GraphOf, SpansOfAxis}
-use Rattle.axis_graph.specs.Solved.{no_span}
-use Rattle.axis_graph.specs.Limits.{slot_room, net_room}
-use Rattle.axis_graph.specs.Graph.{Decides}
-use Rattle.axis_graph.specs.Build.{slots_from, die_graph, macro_graph, whole_graph, SpansTo}
+use Rattle.axis_graph.specs.Limits.{slot_room}
+use Rattle.axis_graph.specs.Build.{slots_from, die_graph, macro_graph, whole_graph}
+use Rattle.axis_held.specs.Graphs.{GraphOf}
 use Rattle.axis_held.specs.Ends.{ends_of}
 use Rattle.num_laws.proofs.Stores.{sets_append}
-use Rattle.axis_graph.proofs.Answers.{held_by, failed_by}
 use Rattle.axis_held.proofs.HeldAxes.{Shaped, length_sizes, length_pairs, length_of_nets, count_of_nets}
 
 same_graph : (n n' m m' : ℕ) (ss ss' : List Slot) → n ≡ n' → m ≡ m' → ss ≡ ss' → ◌≡◌ {A = Graph} (record { n = n; m = m; slots = ss }) (record { n = n'; m = m'; slots = ss' })
@@ -131,22 +126,7 @@ module _ (a : HeldAxis) (sh : Shaped a) (h : Held a) where
           (let e = c_is c ec in let l = length_listed (axis_of a) in let q = t_is in let g = length_graph_all (axis_of a) in omega arith)
           whole_from
 
--- ---- the answer of a function that tests the axis first
+-- ---- the graph of an axis that passed the test
 
-module _ (a : HeldAxis) (b : Bool) (d : Decides b (Held a)) where
-  pub is_held : not b ≡ false → Held a
-  is_held e = held_by b d e
-
-  module _ (e : not b ≡ true) where
-    pub graph_beyond : (g r : Graph) → r ≡ blank_graph → GraphOf a g r
-    graph_beyond g r q = record { held = λ h. absurd (failed_by b d e h); beyond = λ n. q }
-
-    pub spans_beyond : SpansOfAxis a (replicate net_room no_span)
-    spans_beyond = record { held = λ h. absurd (failed_by b d e h); beyond = λ n. refl }
-
-  module _ (e : not b ≡ false) where
-    pub graph_held : (g r : Graph) → r ≡ g → GraphOf a g r
-    graph_held g r q = record { held = λ h. q; beyond = λ n. absurd (n (is_held e)) }
-
-    pub spans_held : (r : List Span) → SpansTo a.n a.nets a.t r → SpansOfAxis a r
-    spans_held r s = record { held = λ h. s; beyond = λ n. absurd (n (is_held e)) }
+pub graph_held : (a : HeldAxis) (g r : Graph) → Held a → r ≡ g → GraphOf a g r
+graph_held a g r h e = record { held = λ k. e; beyond = λ n. absurd (n h) }

@@ -15,23 +15,16 @@ use Rattle.axis_bounds.proofs.Limits.{KeptBy, holds_each, mac_from}
 use Rattle.axis_bounds.proofs.Answers.{solved_on, unsolved_on}
 use Rattle.axis_graph.specs.declared.Graph.{Graph}
 use Rattle.axis_graph.specs.declared.Span.{Span}
-use Rattle.axis_graph.specs.Limits.{slot_room}
-use Rattle.axis_graph.specs.Graph.{at, GraphWithin, Decides}
+use Rattle.axis_graph.specs.Graph.{at, GraphWithin}
 use Rattle.axis_graph.specs.Solved.{Nets, Solved, Refuted}
 use Rattle.axis_graph.specs.Build.{macro_graph, whole_graph, SpansTo}
 use Rattle.axis_held.specs.Graphs.{Offsets}
-use Rattle.axis_graph.specs.Service.{SolvedOk, MalformedOk, UnsolvableOk}
+use Rattle.axis_graph.specs.Service.{SolvedOk, UnsolvableOk}
 use Rattle.axis_held.proofs.HeldAxes.{Shaped, held_weight}
 use Rattle.axis_graph.proofs.Graphs.{whole_fine}
 use Rattle.axis_graph.proofs.SolvedNets.{SpansOf, spans_nets, solved_holds, graph_solved}
 use Rattle.axis_held.proofs.HeldGraphs.{n_is, t_is}
-use mathlib.Core.Bool.{Bool, true, not}
-use Rattle.axis_graph.proofs.Answers.{failed_by}
 use Rattle.axis_graph.proofs.Refutes.{pairs_refuted}
-
--- beyond the limits
-pub malformed : (a : HeldAxis) (b : Bool) → Decides b (Held a) → not b ≡ true → MalformedOk a (replicate 8 0) (replicate slot_room 0)
-malformed a b d e = record { beyond = failed_by b d e; none = refl; idle = refl }
 
 module _ (a : HeldAxis) (sh : Shaped a) (h : Held a) where
   abbrev b : Axis

@@ -14,58 +14,12 @@ use axis_graph::{SLOT_ROOM, Span};
 // How far hi may lie above the die corner, and lo below it.
 const FAR: u64 = 32768;
 
-// The two slots of each macro, at the front.
-pub(crate) fn put_sizes(
-    ss: [Slot; SLOT_ROOM],
-    side: u64,
-    sizes: [u64; Axis::MACROS],
-    n: usize,
-) -> [Slot; SLOT_ROOM]
-    requires { n ≤ 8 }
-    ensures { result ≡ sets ss 0 (die_slots side 1 (take n sizes)) }
-{
-    let mut r = ss;
-    let mut i: usize = 0;
-    while i < n {
-        let o = 2 * i;
-        let w = sizes[i];
-        i += 1;
-        r[o] = Slot {
-            tail: 0,
-            head: i,
-            plus: 0,
-            minus: 0,
-        };
-        r[o + 1] = Slot {
-            tail: i,
-            head: 0,
-            plus: w,
-            minus: side,
-        };
-    }
-    r
-}
-
-// The slot of each pair, from `at` on.
-pub(crate) fn put_pairs(
-    ss: [Slot; SLOT_ROOM],
-    at: usize,
-    pairs: [Slot; Axis::PAIRS],
-    p: usize,
-) -> [Slot; SLOT_ROOM]
-    requires p_bound { p ≤ 120 }
-    requires p_bound_2 { at + p ≤ slot_room }
-    ensures { result ≡ sets ss at (take p pairs) }
-{
-    let mut r = ss;
-    let mut j: usize = 0;
-    while j < p {
-        let s = pairs[j];
-        r[at + j] = s;
-        j += 1;
-    }
-    r
-}
+// The span of no net.
+pub(crate) const NO_SPAN: Span = Span {
+    lo: 0,
+    hi: 0,
+    weight: 0,
+};
 
 // The bound of a slot.
 fn bound(tail: usize, head: usize, plus: u64, minus: u64) -> Slot
@@ -79,10 +33,42 @@ fn bound(tail: usize, head: usize, plus: u64, minus: u64) -> Slot
     }
 }
 
+// The two slots of each macro, at the front.
+pub(crate) fn put_sizes(
+    mut ss: [Slot; SLOT_ROOM],
+    side: u64,
+    sizes: [u64; Axis::MACROS],
+    n: usize,
+) -> [Slot; SLOT_ROOM]
+    requires { n ≤ 8 }
+    ensures { result ≡ sets ss 0 (die_slots side 1 (take n sizes)) }
+{
+    for i in 0..n {
+        ss[2 * i] = bound(0, i + 1, 0, 0);
+        ss[2 * i + 1] = bound(i + 1, 0, sizes[i], side);
+    }
+    ss
+}
+
+// The slot of each pair, from `at` on.
+pub(crate) fn put_pairs(
+    mut ss: [Slot; SLOT_ROOM],
+    at: usize,
+    pairs: [Slot; Axis::PAIRS],
+    p: usize,
+) -> [Slot; SLOT_ROOM]
+    requires p_bound { p ≤ 120 }
+    requires p_bound_2 { at + p ≤ slot_room }
+    ensures { result ≡ sets ss at (take p pairs) }
+{
+    ss[at..at + p].copy_from_slice(&pairs[..p]);
+    ss
+}
+
 // The slots of the pins of t nets, from `at` on; the first net has node h as its hi. Each pin has two slots: to hi, and from lo,
 // which is the node after hi.
 pub(crate) fn put_nets(
-    ss: [Slot; SLOT_ROOM],
+    mut ss: [Slot; SLOT_ROOM],
     at: usize,
     base: u64,
     h: usize,
@@ -96,55 +82,41 @@ pub(crate) fn put_nets(
     requires h_bound { h ≤ 9 }
     ensures { result ≡ sets ss at (net_slots base h (nets_of (take t nets) pins)) }
 {
-    let mut r = ss;
     let mut from: usize = 0;
-    let mut j: usize = 0;
-    while j < t {
-        let k = nets[j];
-        let c = k.pins;
+    for j in 0..t {
+        let c = nets[j].pins;
         let hi = h + 2 * j;
         let start = at + 2 * from;
-        let mut i: usize = 0;
-        while i < c {
+        for i in 0..c {
             let q = pins[from + i];
             let o = start + 2 * i;
-            r[o] = bound(q.node, hi, q.up, base);
-            r[o + 1] = bound(hi + 1, q.node, base, q.up);
-            i += 1;
+            ss[o] = bound(q.node, hi, q.up, base);
+            ss[o + 1] = bound(hi + 1, q.node, base, q.up);
         }
         from += c;
-        j += 1;
     }
-    r
+    ss
 }
 
 // The two end slots of each of t nets, from `at` on.
-pub(crate) fn put_ends(ss: [Slot; SLOT_ROOM], at: usize, h: usize, t: usize) -> [Slot; SLOT_ROOM]
+pub(crate) fn put_ends(
+    mut ss: [Slot; SLOT_ROOM],
+    at: usize,
+    h: usize,
+    t: usize,
+) -> [Slot; SLOT_ROOM]
     requires t_bound { t ≤ 32 }
     requires t_bound_2 { at + 2 * t ≤ slot_room }
     requires h_bound { h ≤ 9 }
     ensures { result ≡ sets ss at (ends_of h t) }
 {
-    let mut r = ss;
-    let mut j: usize = 0;
-    while j < t {
+    for j in 0..t {
         let o = at + 2 * j;
         let hi = h + 2 * j;
-        r[o] = Slot {
-            tail: hi,
-            head: 0,
-            plus: 0,
-            minus: FAR,
-        };
-        r[o + 1] = Slot {
-            tail: 0,
-            head: hi + 1,
-            plus: 0,
-            minus: FAR,
-        };
-        j += 1;
+        ss[o] = bound(hi, 0, 0, FAR);
+        ss[o + 1] = bound(0, hi + 1, 0, FAR);
     }
-    r
+    ss
 }
 
 // How many pins t nets have.
@@ -154,11 +126,8 @@ pub(crate) fn count_pins(nets: [AxisNet; Axis::NETS], t: usize) -> usize
     ensures { result ≡ pins_before t nets }
 {
     let mut c: usize = 0;
-    let mut j: usize = 0;
-    while j < t {
-        let k = nets[j];
+    for k in &nets[..t] {
         c += k.pins;
-        j += 1;
     }
     c
 }
@@ -169,21 +138,14 @@ pub(crate) fn spans(n: usize, nets: [AxisNet; Axis::NETS], t: usize) -> [Span; A
     requires t_bound { t ≤ 32 }
     ensures { SpansTo n nets t result }
 {
-    let mut r = [Span {
-        lo: 0,
-        hi: 0,
-        weight: 0,
-    }; Axis::NETS];
-    let mut j: usize = 0;
-    while j < t {
-        let k = nets[j];
+    let mut r = [NO_SPAN; Axis::NETS];
+    for j in 0..t {
         let hi = n + 1 + 2 * j;
         r[j] = Span {
             lo: hi + 1,
             hi,
-            weight: k.weight,
+            weight: nets[j].weight,
         };
-        j += 1;
     }
     r
 }

@@ -22,8 +22,8 @@ use Rattle.axis_solve.specs.declared.growth.Growth.{Growth}
 use Rattle.axis_graph.specs.Limits.{slot_room, low_most}
 use Rattle.axis_bounds.specs.Axis.{no_slot}
 use Rattle.axis_bounds.specs.Listed.{slot_at, tails, heads, pluses, minuses}
-use Rattle.axis_graph.specs.Graph.{at, Decides, GraphWithin, ValuesWithin, HoldsAt, Leads, Net}
-use Rattle.axis_solve.specs.Growth.{seed_of, Growing, Spread, Shifted}
+use Rattle.axis_graph.specs.Graph.{at, Decides, GraphWithin, HoldsAt, Net}
+use Rattle.axis_solve.specs.Growth.{seed_of, Growing, Shifted}
 use Rattle.axis_solve.specs.Push.{Pushable, Pushed}
 use Rattle.axis_solve.specs.Admit.{with_slot, Feasible, Fresh, Approached}
 use Rattle.axis_graph.specs.Solved.{Refuted}
@@ -40,18 +40,6 @@ pick x n i l = let a = sum_pick (at x) i 1 n l in omega arith
 module _ (g : Graph) (x : List ℕ) (s : Slot) (fine : GraphWithin g) (free : Feasible g x) (net : Net g s.head s.tail) (v : Growth) (ve : v ≡ seed_of x s.head 1) where
   pub admit_growing : Growing g none v
   admit_growing = seed_growing g none x s.head 1 fine (zero_sound g x free) s.tail net (omega arith) v ve
-
-  pub admit_leads : Leads g v.start s.tail
-  admit_leads = rw ve net.chain
-
-module _ (g : Graph) (f : List ℕ) (st : ℕ) (s : Slot) (w : Growth) (a : Approached g f st s w) where
-  pub admit_small : ValuesWithin w.x
-  admit_small = a.growing.small
-
-  pub admit_spread : Spread w.x g.n
-  admit_spread =
-      let n = a.growing.near.near w.x a.growing.holds in
-      record { near = λ k l. (n 0 k (omega arith) l, n k 0 l (omega arith)) }
 
 module _ (g : Graph) (st : ℕ) (s : Slot) (w : Growth) (a : Approached g none st s w) (b : Bool) (d : Decides b (HoldsAt s w.x)) (e : b ≡ false) where
   joined : 0 < at w.rank s.tail

@@ -1,13 +1,11 @@
 -- All bounds, one after the other.
-use mathlib.Core.Path.{◌≡◌, refl, sym, ap, subst, ◌∙◌}
-use mathlib.Core.Bool.{Bool, true, false}
+use mathlib.Core.Path.{◌≡◌, sym, ap, subst, ◌∙◌}
 use mathlib.Core.List.{List}
 use mathlib.Core.Logic.{◌⊎◌, inl, inr, ⊎_elim}
 use Prim.Native.Nat.{ℕ, ◌+◌, ◌*◌, ◌≤◌, ◌<◌}
 use native.Mathlib.Decide.{ℕ_discrete, dec_lt}
 use native.Mathlib.Omega.{arith}
 use lib.ListN.{set, length-set}
-use lib.Seq.{ext_get_or}
 use lib.Dec.{eqb}
 use Rattle.num_laws.specs.Sum.{when}
 use Rattle.num_laws.proofs.Sums.{when_zero, sum_eq}
@@ -18,7 +16,7 @@ use Rattle.axis_graph.specs.Limits.{slot_room}
 use Rattle.axis_bounds.specs.Axis.{no_slot}
 use Rattle.axis_bounds.specs.Listed.{slot_at, tails, heads}
 use Rattle.axis_graph.specs.Graph.{at, SlotWithin, GraphWithin, Net}
-use Rattle.axis_solve.specs.Admit.{with_slot, target, Feasible, Fresh, AdmitOk, Wanted}
+use Rattle.axis_solve.specs.Admit.{with_slot, target, Feasible, Fresh, Wanted}
 use Rattle.axis_graph.specs.Solved.{Refuted}
 use Rattle.axis_solve.proofs.Extensions.{new_slot, old_slot, net_with, fine_with}
 
@@ -97,16 +95,7 @@ pub record Admitting (g : Graph) (full : List Slot) (to : ℕ) (h : Graph) (y : 
   pub same : target h full ≡ target g full
 
 module _ (g : Graph) (full : List Slot) (to : ℕ) where
-  pub admitting_starts : (x : List ℕ) (j : ℕ) → GraphWithin g → Feasible g x → j ≤ to → Wanted g full j to → Admitting g full to g x j
-  admitting_starts x j f r l w = record { within = l; fine = f; free = r; wanted = w; same = refl }
-
   module _ (h : Graph) (y : List ℕ) (j : ℕ) (i : Admitting g full to h y j) where
-    pub admitting_fine : GraphWithin h
-    admitting_fine = i.fine
-
-    pub admitting_free : Feasible h y
-    admitting_free = i.free
-
     module _ (l : j < to) (room : to ≤ slot_room) where
       pub admitting_fresh : Fresh h j
       admitting_fresh = wanted_fresh h full j to i.wanted l room
@@ -117,26 +106,15 @@ module _ (g : Graph) (full : List Slot) (to : ℕ) where
       pub admitting_net : Net h (heads full j) (tails full j)
       admitting_net = wanted_net h full j to i.wanted l
 
-      module _ (b : Bool) (x' f' : List ℕ) (ok : AdmitOk (with_slot h j (slot_at full j)) b x' f') where
-        pub admitting_more : b ≡ true → Admitting g full to (with_slot h j (slot_at full j)) x' (j + 1)
-        admitting_more e =
-            record {
-              within = omega arith;
-              fine = fine_with h j (slot_at full j) admitting_fresh i.fine admitting_slot admitting_net;
-              free = subst (λ (t : Bool). AdmitOk (with_slot h j (slot_at full j)) t x' f') e ok;
-              wanted = wanted_more h full j to i.wanted l admitting_fresh;
-              same = i.same;
-            }
+      pub admitting_more : (x' : List ℕ) → Feasible (with_slot h j (slot_at full j)) x' → Admitting g full to (with_slot h j (slot_at full j)) x' (j + 1)
+      admitting_more x' free' =
+          record {
+            within = omega arith;
+            fine = fine_with h j (slot_at full j) admitting_fresh i.fine admitting_slot admitting_net;
+            free = free';
+            wanted = wanted_more h full j to i.wanted l admitting_fresh;
+            same = i.same;
+          }
 
-        pub admitting_refuted : b ≡ false → Refuted (target g full) f'
-        admitting_refuted e = subst (λ (t : Graph). Refuted t f') i.same (refuted_full h full j to i.wanted l admitting_fresh f' (subst (λ (t : Bool). AdmitOk (with_slot h j (slot_at full j)) t x' f') e ok))
-
-    pub admitting_all : to ≤ j → Feasible (target g full) y
-    admitting_all b = subst (λ (t : Graph). Feasible t y) i.same (subst (λ (ss : List Slot). Feasible (record { n = h.n; m = h.m; slots = ss }) y) whole i.free)
-      where
-        whole : h.slots ≡ full
-        whole = ext_get_or no_slot h.slots full (i.wanted.long ∙ sym i.wanted.long_full) (λ k l. by k (dec_lt k j))
-          where
-            by : (k : ℕ) → Dec (k < j) → slot_at h.slots k ≡ slot_at full k
-            by k (yes a) = i.wanted.below k a
-            by k (no a) = i.wanted.past k (let q = i.within in omega arith)
+      pub admitting_refuted : (f' : List ℕ) → Refuted (with_slot h j (slot_at full j)) f' → Refuted (target g full) f'
+      admitting_refuted f' r = subst (λ (t : Graph). Refuted t f') i.same (refuted_full h full j to i.wanted l admitting_fresh f' r)

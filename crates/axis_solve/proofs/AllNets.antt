@@ -13,8 +13,7 @@ use Rattle.axis_graph.specs.declared.Graph.{Graph}
 use Rattle.axis_graph.specs.declared.Span.{Span}
 use Rattle.axis_graph.specs.Limits.{slot_room}
 use Rattle.axis_bounds.specs.Listed.{tails, heads}
-use Rattle.axis_graph.specs.Graph.{Net}
-use Rattle.axis_solve.specs.Augment.{Sound, Spare, Augmented}
+use Rattle.axis_solve.specs.Augment.{Spare, Augmented}
 use Rattle.axis_solve.specs.Admit.{Feasible}
 use Rattle.axis_graph.specs.Solved.{los, his, weights, Nets}
 use Rattle.axis_solve.specs.Flows.{Flows}
@@ -28,13 +27,7 @@ module _ (g : Graph) (nets : List Span) where
       record { sound = zero_sound g x r; most = λ s. let a = none_at s in omega arith; idle = λ s e. none_at s; balance = record { eq = λ k l. let a = zero_node (heads g.slots) g.m k in let b = zero_node (tails g.slots) g.m k in omega arith } }
 
   module _ (j : ℕ) (x f : List ℕ) (i : Flows g nets j x f) where
-    pub flows_sound : Sound g f x
-    flows_sound = i.sound
-
     module _ (c : ℕ) (ns : Nets g nets c) (l : j < c) where
-      pub flows_net : Net g (los nets j) (his nets j)
-      flows_net = ns.net j l
-
       pub flows_spare : Spare f (weights nets j)
       unfolding sum
       flows_spare = record { most = λ s. let a = i.most s in let b = sum_grows (weights nets) (suc j) c l in let t = ns.total in omega arith }

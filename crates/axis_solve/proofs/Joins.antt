@@ -18,10 +18,10 @@ use Rattle.num_laws.proofs.Sums.{sum_change}
 use Rattle.axis_bounds.specs.declared.Slot.{Slot}
 use Rattle.axis_graph.specs.declared.Graph.{Graph}
 use Rattle.axis_solve.specs.declared.growth.Growth.{Growth}
-use Rattle.axis_graph.specs.Limits.{node_room, no_slack, value_most}
+use Rattle.axis_graph.specs.Limits.{node_room, value_most}
 use Rattle.axis_bounds.specs.Listed.{slot_at, tails, heads, pluses, minuses}
 use Rattle.axis_graph.specs.Graph.{at, GraphWithin, ValuesWithin, TightAt, slack_at, Holds, Tights}
-use Rattle.axis_solve.specs.Growth.{join_of, Least, Raised, From, Forward, Backward, Link, Tree, outside, Growing, StepOk}
+use Rattle.axis_solve.specs.Growth.{join_of, Least, Raised, From, Forward, Backward, Link, Tree, outside, Growing, Joined}
 
 -- ---- a new node v, outside so far
 
@@ -43,17 +43,6 @@ module _ (rank : List ℕ) (v c : ℕ) (l : v < length rank) (o : at rank v ≡ 
 module _ (g : Graph) (f : List ℕ) (w : Growth) (fine : GraphWithin g) (gr : Growing g f w) (best d : ℕ) (lst : Least g.slots g.m f w.x w.rank g.m best d) where
   abbrev ss : List Slot
   ss = g.slots
-
-  slack_small : (s : ℕ) → s < g.m → slack_at (slot_at ss s) w.x < no_slack
-  unfolding slack_at
-  slack_small s l = let p = gr.small.most (heads ss s) in let q = (fine.fine s l).minus in omega arith
-
-  pub step_closed : no_slack ≤ d → StepOk g f w node_room w
-  step_closed h =
-      record {
-        joined = λ l. absurd (omega arith);
-        closed = λ l. (refl, record { none = λ s k v. let p = lst.least s k v in let q = slack_small s k in omega arith });
-      }
 
   -- ---- the values raised
 
@@ -208,24 +197,22 @@ module _ (g : Graph) (f : List ℕ) (w : Growth) (fine : GraphWithin g) (gr : Gr
             by (yes e) = rw e o
             by (no n) = sym (get_or-set_other w.rank v k (w.count + 1) 0 n) ∙ h
 
-        pub joined : StepOk g f w v (join_of w y v best q)
+        pub joined : Joined g f w (join_of w y v best q)
         joined =
             let ol = outside_less w.rank v (w.count + 1) (omega (arith, v_fine)) o g.n b (omega arith) in
             record {
-              joined = λ l. record {
-                growing = record {
-                  holds = holds_up;
-                  tight = tight_up;
-                  tree = tree_up;
-                  small = small_up;
-                  low = record { low = λ k h. let a = ra.out k (was_out k h) in let c = gr.low.low k (was_out k h) in omega arith };
-                  near = gr.near;
-                  few = let fw = gr.few in omega arith;
-                };
-                new = rw rank_v (omega arith);
-                start = refl;
-                fewer = omega arith;
-                out = λ k h. ra.out k (was_out k h);
+              growing = record {
+                holds = holds_up;
+                tight = tight_up;
+                tree = tree_up;
+                small = small_up;
+                low = record { low = λ k h. let a = ra.out k (was_out k h) in let c = gr.low.low k (was_out k h) in omega arith };
+                near = gr.near;
+                few = let fw = gr.few in omega arith;
               };
-              closed = λ l. absurd (omega (arith, v_fine));
+              node = v;
+              new = rw rank_v (omega arith);
+              start = refl;
+              fewer = omega arith;
+              out = λ k h. ra.out k (was_out k h);
             }

@@ -1,6 +1,5 @@
 -- The pairs' bounds of an axis that is held as a value: what adding them starts from, and what it answers.
 use mathlib.Core.Path.{◌≡◌, sym, ap, subst, ◌∙◌}
-use mathlib.Core.Bool.{Bool, true, false}
 use mathlib.Core.List.{List}
 use Prim.Native.Nat.{ℕ, ◌+◌, ◌*◌}
 use native.Mathlib.Omega.{arith}
@@ -14,12 +13,13 @@ use Rattle.axis_graph.specs.Graph.{GraphWithin}
 use Rattle.axis_graph.specs.Above.{NoneAbove}
 use Rattle.axis_graph.specs.Build.{die_graph, macro_graph}
 use Rattle.axis_graph.specs.Service.{UnsolvableOk}
+use Rattle.axis_graph.specs.Solved.{Refuted}
 use Rattle.axis_graph.proofs.Graphs.{die_fine}
 use Rattle.axis_held.specs.Graphs.{GraphOf}
 use Rattle.axis_held.proofs.HeldAxes.{Shaped}
 use Rattle.axis_held.proofs.HeldGraphs.{n_is, p_is, size_is, side_is}
 use Rattle.axis_held.proofs.Judging.{refused}
-use Rattle.axis_solve.specs.Admit.{target, Feasible, AdmitOk, Wanted}
+use Rattle.axis_solve.specs.Admit.{target, Feasible, Wanted}
 use Rattle.axis_solve.proofs.Admitted.{even, even_free, pairs_wanted}
 
 module _ (a : HeldAxis) (sh : Shaped a) (h : Held a) (g : Graph) (of : GraphOf a (die_graph (axis_of a)) g) where
@@ -47,9 +47,5 @@ module _ (a : HeldAxis) (sh : Shaped a) (h : Held a) (g : Graph) (of : GraphOf a
     reached : target g full.slots ≡ macro_graph (axis_of a)
     reached = ap (λ (u : Graph). target u full.slots) (sym die) ∙ ap (λ (u : Graph). target (die_graph (axis_of a)) u.slots) (sym macros)
 
-    module _ (b : Bool) (x f : List ℕ) (ok : AdmitOk (target g full.slots) b x f) where
-      pub admitted_free : b ≡ true → Feasible (macro_graph (axis_of a)) x
-      admitted_free e = subst (λ (u : Graph). Feasible u x) reached (subst (λ (c : Bool). AdmitOk (target g full.slots) c x f) e ok)
-
-      pub admitted_none : b ≡ false → UnsolvableOk a (replicate 8 0) f
-      admitted_none e = refused a sh h (target g full.slots) reached f (subst (λ (c : Bool). AdmitOk (target g full.slots) c x f) e ok)
+    pub admitted_none : (f : List ℕ) → Refuted (target g full.slots) f → UnsolvableOk a (replicate 8 0) f
+    admitted_none f ok = refused a sh h (target g full.slots) reached f ok

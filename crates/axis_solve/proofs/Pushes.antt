@@ -2,7 +2,7 @@
 --
 -- Parents stand earlier in the order, so the walk from the goal to the start meets each slot once: the slot of c has the amount
 -- it had before. A slot walked backwards carries at least the room of c, hence at least q.
-use mathlib.Core.Path.{◌≡◌, refl, sym, ap, ◌∙◌}
+use mathlib.Core.Path.{◌≡◌, sym, ap, ◌∙◌}
 use mathlib.Core.List.{List}
 use mathlib.Core.Logic.{⊎_elim}
 use Prim.Native.Nat.{ℕ, ◌+◌, ◌-◌, ◌*◌, ◌≤◌, ◌<◌}
@@ -23,7 +23,7 @@ use Rattle.axis_graph.specs.Limits.{node_room, slot_room}
 use Rattle.axis_bounds.specs.Listed.{tails, heads, pluses, minuses}
 use Rattle.axis_graph.specs.Graph.{at, GraphWithin}
 use Rattle.axis_solve.specs.Growth.{From, Forward, Backward, Link}
-use Rattle.axis_solve.specs.Push.{Pushable, Walked, Pushed}
+use Rattle.axis_solve.specs.Push.{Pushable, Walked}
 
 -- the flow at node k after a store of v at slot p
 node_set : (end : ℕ → ℕ) (h : List ℕ) (m p v k : ℕ) → p < m → p < length h → at_node end (at (set h p v)) m k + when (eqb (end p) k) (at h p) ≡ at_node end (at h) m k + when (eqb (end p) k) v
@@ -48,19 +48,6 @@ module _ (g : Graph) (f : List ℕ) (w : Growth) (goal q : ℕ) (fine : GraphWit
   abbrev ss : List Slot
   ss = g.slots
 
-  pub walk_starts : length f ≡ slot_room → Walked g f w goal q f goal
-  walk_starts l =
-      record { long = l; ranked = ok.goal_in; much = ok.much; same = λ s t u. refl; tight = ok.tight; most = λ s. omega arith; idle = λ s e. refl; moved = λ k. omega arith }
-
-  pub walk_ends : (h : List ℕ) (c : ℕ) → Walked g f w goal q h c → c ≡ w.start → Pushed g f w goal q h
-  walk_ends h c i e =
-      record {
-        tight = i.tight;
-        most = i.most;
-        idle = i.idle;
-        balance = λ sup dem b. record { eq = λ k l. let u = b.eq k l in let v = i.moved k in let z : when (eqb c k) q ≡ when (eqb w.start k) q = rw e in omega arith };
-      }
-
   module _ (h : List ℕ) (c : ℕ) (i : Walked g f w goal q h c) where
     pub node_room_law : c < node_room
     node_room_law = let a = ok.tree.nodes c i.ranked in let b = fine.nodes in omega arith
@@ -78,12 +65,6 @@ module _ (g : Graph) (f : List ℕ) (w : Growth) (goal q : ℕ) (fine : GraphWit
       pub slot_room_law : at w.parent c < slot_room
       slot_room_law = let a = the_link.slot in let b = fine.slots in omega arith
 
-      pub slot_fits : Fits w64 (at w.parent c * 8)
-      slot_fits = let a = slot_room_law in omega arith
-
-      pub slot_fits_wide : Fits w64 (at w.parent c * 32)
-      slot_fits_wide = let a = slot_room_law in omega arith
-
       forward : heads ss p ≡ c → Forward ss w.rank w.room c p
       forward e = ⊎_elim (λ t. t) (λ t. let a = t.from.before in let z : at w.rank (heads ss p) ≡ at w.rank c = ap (at w.rank) e in absurd (omega arith)) the_link.way
 
@@ -97,9 +78,6 @@ module _ (g : Graph) (f : List ℕ) (w : Growth) (goal q : ℕ) (fine : GraphWit
           (λ t. let a = t.from.before in let z : at w.rank (heads ss p) ≡ at w.rank c = ap (at w.rank) t.end in i.same p (omega arith) (omega arith))
           (λ t. let a = t.from.before in let z : at w.rank (tails ss p) ≡ at w.rank c = ap (at w.rank) t.end in i.same p (omega arith) (omega arith))
           the_link.way
-
-      pub fits_more : Fits w64 (at h p + q)
-      fits_more = let a = untouched in let b = ok.few p in let d = ok.little in omega arith
 
       pub back_enough : (heads ss p ≡ c → ⊥) → q ≤ at h p
       back_enough e = let a = untouched in let b = (backward e).carries in let d = i.much in omega arith
@@ -166,9 +144,3 @@ module _ (g : Graph) (f : List ℕ) (w : Growth) (goal q : ℕ) (fine : GraphWit
           let z : when (eqb (tails ss p) k) q ≡ when (eqb c k) q = rw t.end in
           let m = i.moved k in
           omega arith)
-
-      pub forward_less : heads ss p ≡ c → at w.rank (tails ss p) < at w.rank c
-      forward_less e = (forward e).from.before
-
-      pub back_less : (heads ss p ≡ c → ⊥) → at w.rank (heads ss p) < at w.rank c
-      back_less e = (backward e).from.before

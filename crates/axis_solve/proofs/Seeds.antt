@@ -12,7 +12,7 @@ use Rattle.num_laws.proofs.Sums.{when_le}
 use Rattle.axis_graph.specs.declared.Graph.{Graph}
 use Rattle.axis_solve.specs.declared.growth.Growth.{Growth}
 use Rattle.axis_graph.specs.Limits.{node_room}
-use Rattle.axis_graph.specs.Graph.{at, GraphWithin, Leads, Net}
+use Rattle.axis_graph.specs.Graph.{at, GraphWithin, Net}
 use Rattle.axis_solve.specs.Growth.{seed_of, outside, Growing}
 use Rattle.axis_solve.specs.Augment.{Sound}
 use Rattle.num_laws.proofs.Stores.{zero_at}
@@ -69,6 +69,3 @@ module _ (g : Graph) (f x : List ℕ) (start r : ℕ) (fine : GraphWithin g) (ok
 module _ (g : Graph) (f x : List ℕ) (start r : ℕ) (fine : GraphWithin g) (ok : Sound g f x) (goal : ℕ) (net : Net g start goal) (some : 0 < r) (w : Growth) (e : w ≡ seed_of x start r) where
   pub seed_growing : Growing g f w
   seed_growing = rw e (seeded_at g f x start r fine ok net.lo_in some)
-
-  pub seed_chain : Leads g w.start goal
-  seed_chain = rw e net.chain

@@ -1,7 +1,7 @@
 -- The values that the whole graph starts from: hi of a net at the greatest place of its pins, lo at the least.
 use mathlib.Core.Path.{◌≡◌, refl, sym, ap, subst, ◌∙◌}
 use mathlib.Core.List.{List}
-use Prim.Native.Nat.{ℕ, suc, ◌+◌, ◌-◌, ◌*◌, ◌≤◌, ◌<◌, min, max}
+use Prim.Native.Nat.{ℕ, suc, ◌+◌, ◌-◌, ◌*◌, ◌≤◌, ◌<◌}
 use native.Mathlib.Decide.{ℕ_discrete}
 use native.Mathlib.Omega.{arith}
 use mir.Syntax.{w64}
@@ -10,56 +10,20 @@ use lib.ListN.{length, get_or, set, length-set}
 use lib.Seq.{get_or-set_same, get_or-set_other}
 use Rattle.axis_bounds.specs.declared.AxisPin.{AxisPin}
 use Rattle.axis_bounds.specs.declared.AxisNet.{AxisNet}
-use Rattle.axis_bounds.specs.Axis.{no_pin, no_net}
+use Rattle.axis_bounds.specs.Axis.{no_net}
 use Rattle.axis_bounds.specs.Listed.{hi_node, lo_node}
 use Rattle.axis_bounds.specs.Held.{pins_before}
-use Rattle.axis_graph.specs.Limits.{node_room, farthest, low_most}
+use Rattle.axis_graph.specs.Limits.{low_most}
 use Rattle.axis_graph.specs.Graph.{at}
-use Rattle.axis_solve.specs.Start.{topmost, pin_at, PinsIn, NetsIn, Around, Resting, Started}
+use Rattle.axis_solve.specs.Start.{pin_at, PinsIn, NetsIn, Around, Resting, Started}
 use Rattle.axis_held.proofs.NetPins.{pins_next, pins_within}
 
 -- ---- the pins of one net
 
 module _ (x : List ℕ) (ps : List AxisPin) (from : ℕ) where
-  pub around_none : Around x ps from (from + 0) topmost farthest
-  around_none = record { bottom = omega arith; top = omega arith; middle = (omega arith, omega arith); low = λ i a b. absurd (omega arith); high = λ i a b. absurd (omega arith) }
-
   module _ (c : ℕ) (h : PinsIn x ps from (from + c)) (i : ℕ) (l : i < c) where
-    pub end_node : (get_or ps (from + i) no_pin).node < node_room
-    end_node = h.node (from + i) (omega arith) (omega arith)
-
-    pub end_scaled : Fits w64 ((get_or ps (from + i) no_pin).node * 8)
-    end_scaled = let a = end_node in omega arith
-
     pub end_fits : Fits w64 (pin_at x ps (from + i))
     end_fits = let a = h.high (from + i) (omega arith) (omega arith) in omega arith
-
-    pub around_more : (lo hi : ℕ) → Around x ps from (from + i) lo hi → (lo' hi' : ℕ) → lo' ≡ min (pin_at x ps (from + i)) lo → hi' ≡ max (pin_at x ps (from + i)) hi → Around x ps from (from + (i + 1)) lo' hi'
-    around_more lo hi a lo' hi' e f =
-        let b = a.bottom in
-        let t = a.top in
-        let u = a.middle.0 in
-        let v = a.middle.1 in
-        let p = h.low (from + i) (omega arith) (omega arith) in
-        let q = h.high (from + i) (omega arith) (omega arith) in
-        record {
-          bottom = omega arith;
-          top = omega arith;
-          middle = (omega arith, omega arith);
-          low = λ k m n. low k m n (ℕ_discrete k (from + i));
-          high = λ k m n. high k m n (ℕ_discrete k (from + i));
-        }
-      where
-        low : (k : ℕ) → from ≤ k → k < from + (i + 1) → Dec (k ≡ from + i) → lo' ≤ pin_at x ps k
-        low k m n (yes q) = rw q (omega arith)
-        low k m n (no o) = let b = a.low k m (omega arith) in omega arith
-
-        high : (k : ℕ) → from ≤ k → k < from + (i + 1) → Dec (k ≡ from + i) → pin_at x ps k ≤ hi'
-        high k m n (yes q) = rw q (omega arith)
-        high k m n (no o) = let b = a.high k m (omega arith) in omega arith
-
-  pub around_all : (c i lo hi : ℕ) → Around x ps from (from + i) lo hi → i ≤ c → c ≤ i → Around x ps from (from + c) lo hi
-  around_all c i lo hi a p q = subst (λ (k : ℕ). Around x ps from (from + k) lo hi) (let z : i ≡ c = omega arith in z) a
 
 -- ---- the nets: those before j have their values, and the first `from` pins
 
@@ -135,6 +99,3 @@ module _ (n base : ℕ) (ts : List AxisNet) (ps : List AxisPin) (x : List ℕ) w
               net : (k : ℕ) → k < j + 1 → Dec (k ≡ j) → Around x ps (pins_before k ts) (pins_before (suc k) ts) (at y' (lo_node n k) + base) (at y' (hi_node n k) + base)
               net k m (yes e) = rw e (subst (λ (u : ℕ). Around x ps u (pins_before (suc j) ts) (at y' (lo_node n j) + base) (at y' (hi_node n j) + base)) s.place (subst (λ (u : ℕ). Around x ps from u (at y' (lo_node n j) + base) (at y' (hi_node n j) + base)) (sym same_end) here))
               net k m (no o) = rw (at_old (lo_node n k) (λ e. omega arith) (λ e. omega arith), at_old (hi_node n k) (λ e. omega arith) (λ e. omega arith)) (s.started.net k (omega arith))
-
-    pub start_all : (t : ℕ) → j ≤ t → t ≤ j → Started n base ts ps x y t
-    start_all t a b = subst (Started n base ts ps x y) (let z : j ≡ t = omega arith in z) s.started

@@ -2,25 +2,19 @@
 use mathlib.Core.Path.{◌≡◌, refl}
 use mathlib.Core.List.{List}
 use mathlib.Core.Logic.{inl, inr, ⊎_elim}
-use Prim.Native.Nat.{ℕ, ◌≤◌, ◌<◌}
+use Prim.Native.Nat.{ℕ, ◌≤◌, ◌<◌, min}
 use native.Mathlib.Omega.{arith}
 use lib.ListN.{length}
 use Rattle.axis_bounds.specs.declared.Slot.{Slot}
 use Rattle.axis_graph.specs.declared.Graph.{Graph}
 use Rattle.axis_solve.specs.declared.growth.Growth.{Growth}
-use Rattle.axis_graph.specs.Limits.{node_room, slot_room, no_slack}
+use Rattle.axis_graph.specs.Limits.{node_room, no_slack}
 use Rattle.axis_bounds.specs.Listed.{slot_at, tails, heads}
-use Rattle.axis_graph.specs.Graph.{at, SlotWithin, GraphWithin, TightAt, slack_at, Leaves}
-use Rattle.axis_solve.specs.Growth.{join_of, Least, Raised, Growing, Ready, StepOk}
+use Rattle.axis_graph.specs.Graph.{at, GraphWithin, TightAt, slack_at, Leaves}
+use Rattle.axis_solve.specs.Growth.{join_of, Least, Raised, Growing, Ready, Joined}
 use Rattle.axis_solve.proofs.Joins.{outside_less, tight_up, room_v, from_new, joined}
 
 module _ (g : Graph) (f : List ℕ) (w : Growth) (fine : GraphWithin g) (gr : Growing g f w) (p d : ℕ) (lst : Least g.slots g.m f w.x w.rank g.m p d) (lt : d < no_slack) where
-  pub least_room : p < slot_room
-  least_room = let q = (lst.found lt).0 in let r = fine.slots in omega arith
-
-  pub least_fine : SlotWithin (slot_at g.slots p)
-  least_fine = fine.fine p (lst.found lt).0
-
   pub ready : (y : List ℕ) → Raised w.rank d w.x y node_room → Ready g f w y p
   ready y ra = record { fine = fine; growing = gr; by = d; least = lst; below = lt; raised = ra }
 
@@ -58,19 +52,19 @@ module _ (g : Graph) (f : List ℕ) (w : Growth) (y : List ℕ) (p : ℕ) (r : R
             omega arith;
       }
 
-  pub attach_forward : 0 < at w.rank (tails rs p) → (z : Growth) → z ≡ join_of w y (heads rs p) p (at w.room (tails rs p)) → StepOk g f w (heads rs p) z
+  pub attach_forward : 0 < at w.rank (tails rs p) → (z : Growth) → z ≡ join_of w y (heads rs p) p (at w.room (tails rs p)) → Joined g f w z
   attach_forward t z e = rw e (by way)
     where
-      by : Leaves (at w.rank (tails rs p)) (at w.rank (heads rs p)) (at f p) → StepOk g f w (heads rs p) (join_of w y (heads rs p) p (at w.room (tails rs p)))
+      by : Leaves (at w.rank (tails rs p)) (at w.rank (heads rs p)) (at f p) → Joined g f w (join_of w y (heads rs p) p (at w.room (tails rs p)))
       by (inl a) =
           joined g f w r.fine gr p r.by r.least y r.raised (heads rs p) _ lr lp lo (r.fine.head.lt p pm) a.1 (gr.tree.some _ t) pm (tight_forward t a.1)
           (inl (record { end = refl; from = from_new g f w r.fine gr p r.by r.least y r.raised (heads rs p) _ lr lp lo (r.fine.head.lt p pm) a.1 (gr.tree.some _ t) (tails rs p) t (omega arith) }))
       by (inr a) = let q = a.0 in absurd (omega arith)
 
-  back : (q : ℕ) → 0 < q → q ≤ at f p → q ≤ at w.room (heads rs p) → at w.rank (tails rs p) ≤ 0 → (z : Growth) → z ≡ join_of w y (tails rs p) p q → StepOk g f w (tails rs p) z
+  back : (q : ℕ) → 0 < q → q ≤ at f p → q ≤ at w.room (heads rs p) → at w.rank (tails rs p) ≤ 0 → (z : Growth) → z ≡ join_of w y (tails rs p) p q → Joined g f w z
   back q some qf qr t z e = rw e (by way)
     where
-      by : Leaves (at w.rank (tails rs p)) (at w.rank (heads rs p)) (at f p) → StepOk g f w (tails rs p) (join_of w y (tails rs p) p q)
+      by : Leaves (at w.rank (tails rs p)) (at w.rank (heads rs p)) (at f p) → Joined g f w (join_of w y (tails rs p) p q)
       by (inl a) = let u = a.0 in absurd (omega arith)
       by (inr a) =
           joined g f w r.fine gr p r.by r.least y r.raised (tails rs p) q lr lp lo (r.fine.tail.lt p pm) a.0 some pm
@@ -80,8 +74,5 @@ module _ (g : Graph) (f : List ℕ) (w : Growth) (y : List ℕ) (p : ℕ) (r : R
   carries : at w.rank (tails rs p) ≤ 0 → (0 < at f p) × (0 < at w.room (heads rs p))
   carries t = ⊎_elim (λ a. let u = a.0 in absurd (omega arith)) (λ a. (a.2, gr.tree.some _ a.1)) way
 
-  pub attach_all : at w.rank (tails rs p) ≤ 0 → at f p < at w.room (heads rs p) → (z : Growth) → z ≡ join_of w y (tails rs p) p (at f p) → StepOk g f w (tails rs p) z
-  attach_all t h = back (at f p) (carries t).0 (omega arith) (omega arith) t
-
-  pub attach_part : at w.rank (tails rs p) ≤ 0 → at w.room (heads rs p) ≤ at f p → (z : Growth) → z ≡ join_of w y (tails rs p) p (at w.room (heads rs p)) → StepOk g f w (tails rs p) z
-  attach_part t h = back (at w.room (heads rs p)) (carries t).1 h (omega arith) t
+  pub attach_back : at w.rank (tails rs p) ≤ 0 → (q : ℕ) → q ≡ min (at f p) (at w.room (heads rs p)) → (z : Growth) → z ≡ join_of w y (tails rs p) p q → Joined g f w z
+  attach_back t q e = let c = carries t in let c0 = c.0 in let c1 = c.1 in back q (omega arith) (omega arith) (omega arith) t

@@ -1,5 +1,5 @@
 -- Bounds added to a graph: values that keep them, or a circulation that refutes them.
-use Rattle.std.specs.Prelude.{ℕ, ◌≤◌, ◌<◌, ◌≡◌, Bool, true, false, List, ◌⊎◌, set, length}
+use Rattle.std.specs.Prelude.{ℕ, ◌≤◌, ◌<◌, ◌≡◌, List, ◌⊎◌, set, length, Result, MatchResult}
 use Rattle.axis_bounds.specs.declared.Slot.{Slot}
 use Rattle.axis_graph.specs.declared.Graph.{Graph}
 use Rattle.axis_solve.specs.declared.growth.Growth.{Growth}
@@ -38,9 +38,8 @@ pub record Approached (g : Graph) (f : List ℕ) (start : ℕ) (s : Slot) (w : G
   pub done : HoldsAt s w.x ⊎ (0 < at w.rank s.tail)
 
 -- values that keep the bounds, or the circulation that refutes them
-abbrev pub AdmitOk : Graph → Bool → List ℕ → List ℕ → Type 0
-AdmitOk g true x f = Feasible g x
-AdmitOk g false x f = Refuted g f
+abbrev pub AdmitOk : Graph → Result (List ℕ) (List ℕ) → Type 0
+AdmitOk g r = MatchResult r (Feasible g) (Refuted g)
 
 -- the graph has the slots of `full` but those from j up to `to`, which ask nothing yet; each of these has a way from its head
 -- to its tail already

@@ -1,5 +1,5 @@
 -- The growth of a set along tight slots: what its state keeps, and what a step promises.
-use Rattle.std.specs.Prelude.{ℕ, ◌+◌, ◌≤◌, ◌<◌, ◌≡◌, List, ◌⊎◌, get_or, set, length, replicate, eqb}
+use Rattle.std.specs.Prelude.{ℕ, ◌+◌, ◌≤◌, ◌<◌, ◌≡◌, List, ◌⊎◌, get_or, set, length, replicate, eqb, Option, MatchOption}
 use Rattle.num_laws.specs.Sum.{sum, when}
 use Rattle.axis_bounds.specs.declared.Slot.{Slot}
 use Rattle.axis_graph.specs.declared.Graph.{Graph}
@@ -100,18 +100,18 @@ pub record Ready (g : Graph) (f : List ℕ) (w : Growth) (y : List ℕ) (p : ℕ
   pub below : by < no_slack
   pub raised : Raised w.rank by w.x y node_room
 
--- node v joined
-pub record Joined (g : Graph) (f : List ℕ) (w : Growth) (v : ℕ) (w' : Growth) : Type 0 where
+-- one more node joined
+pub record Joined (g : Graph) (f : List ℕ) (w w' : Growth) : Type 0 where
   pub growing : Growing g f w'
-  pub new : 0 < at w'.rank v
+  pub node : ℕ
+  pub new : 0 < at w'.rank node
   pub start : w'.start ≡ w.start
   pub fewer : outside w'.rank g.n < outside w.rank g.n
   pub out : (k : ℕ) → at w'.rank k ≡ 0 → at w'.x k ≡ at w.x k
 
--- node j joined, or no slot leaves and nothing changed
-pub record StepOk (g : Graph) (f : List ℕ) (w : Growth) (j : ℕ) (w' : Growth) : Type 0 where
-  pub joined : j < node_room → Joined g f w j w'
-  pub closed : node_room ≤ j → (w' ≡ w) × Closed g f w.rank
+-- one more node joined, or no slot leaves
+abbrev pub StepOk : Graph → List ℕ → Growth → Option Growth → Type 0
+StepOk g f w r = MatchOption r (Closed g f w.rank) (Joined g f w)
 
 -- ---- back to the middle
 

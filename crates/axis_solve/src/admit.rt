@@ -6,113 +6,71 @@ ghost use Rattle.axis_solve.specs.Growth.{Growing};
 ghost use Rattle.axis_solve.specs.Admit.{with_slot, target, Feasible, Fresh, Approached, Wanted, AdmitOk};
 
 use crate::growth::{Growth, grow_step, rebase, seed};
-use crate::keeps::keeps;
 use crate::push::push;
 use axis_bounds::Slot;
+use axis_graph::bounds::is_kept;
 use axis_graph::{Graph, NODE_ROOM, SLOT_ROOM};
 
-// fits: values x that keep all bounds; otherwise amounts f that refute them.
-#[derive(Clone, Copy)]
-pub struct Admitted {
-    pub fits: bool,
-    pub x: [u64; NODE_ROOM],
-    pub f: [u64; SLOT_ROOM],
-}
-
 // Grows until the bound of s holds, or its tail joins.
-fn approach(g: Graph, f: [u64; SLOT_ROOM], w: Growth, s: Slot) -> Growth
+fn approach(g: Graph, f: [u64; SLOT_ROOM], mut w: Growth, s: Slot) -> Growth
     requires graph_within { GraphWithin g }
     requires growing { Growing g f w }
     requires slot_within { SlotWithin s }
     requires leads { Leads g w.start s.tail }
     ensures { Approached g f w.start s result }
 {
-    let tail = s.tail;
-    let mut v = w;
-    while v.rank[tail] == 0 {
-        let x = v.x;
-        if keeps(s, x) {
-            return v;
-        }
-        let t = grow_step(g, f, v);
-        let j = t.joined;
-        v = t.state;
-        if NODE_ROOM <= j {
-            return v;
-        }
+    while w.rank[s.tail] == 0 && !is_kept(s, &w.x) {
+        let Some(next) = grow_step(g, f, w) else {
+            return w;
+        };
+        w = next;
     }
-    v
+    w
 }
 
-// One bound more, at the unused slot j.
-fn admit_slot(g: Graph, x: [u64; NODE_ROOM], j: usize, s: Slot) -> Admitted
+// One bound more, at the unused slot j: values that keep all bounds, or amounts that refute them.
+fn admit_slot(
+    g: Graph,
+    x: [u64; NODE_ROOM],
+    j: usize,
+    s: Slot,
+) -> Result<[u64; NODE_ROOM], [u64; SLOT_ROOM]>
     requires graph_within { GraphWithin g }
     requires feasible { Feasible g x }
     requires fresh { Fresh g j }
     requires slot_within { SlotWithin s }
     requires net { Net g s.head s.tail }
-    ensures { AdmitOk (with_slot g j s) result.fits result.x result.f }
+    ensures { AdmitOk (with_slot g j s) result }
 {
     let f = [0u64; SLOT_ROOM];
-    let tail = s.tail;
     let w = approach(g, f, seed(x, s.head, 1), s);
-    let z = w.x;
-    if keeps(s, z) {
-        let y = rebase(z, g.n);
-        return Admitted {
-            fits: true,
-            x: y,
-            f,
-        };
-    }
-    let mut h = push(g, f, w, tail, 1);
-    h[j] = 1;
-    Admitted {
-        fits: false,
-        x,
-        f: h,
+    if is_kept(s, &w.x) {
+        Ok(rebase(w.x, g.n))
+    } else {
+        let mut h = push(g, f, w, s.tail, 1);
+        h[j] = 1;
+        Err(h)
     }
 }
 
 // Every bound of `full` between the two places, one after the other.
 pub(crate) fn admit_all(
-    g: Graph,
-    x: [u64; NODE_ROOM],
+    mut g: Graph,
+    mut x: [u64; NODE_ROOM],
     full: [Slot; SLOT_ROOM],
     from: usize,
     to: usize,
-) -> Admitted
+) -> Result<[u64; NODE_ROOM], [u64; SLOT_ROOM]>
     requires graph_within { GraphWithin g }
     requires feasible { Feasible g x }
     requires from_le_to { from ≤ to }
     requires to_le_slot_room { to ≤ slot_room }
     requires wanted { Wanted g full from to }
-    ensures { AdmitOk (target g full) result.fits result.x result.f }
+    ensures { AdmitOk (target g full) result }
 {
-    let mut h = g;
-    let mut y = x;
-    let mut j = from;
-    while j < to {
-        let s = full[j];
-        let a = admit_slot(h, y, j, s);
-        let f = a.f;
-        let ok = a.fits;
-        if ok {
-            y = a.x;
-            h.slots[j] = s;
-            j += 1;
-        } else {
-            return Admitted {
-                fits: false,
-                x: y,
-                f,
-            };
-        }
+    for j in from..to {
+        x = admit_slot(g, x, j, full[j])?;
+        g.slots[j] = full[j];
     }
-    let f = [0u64; SLOT_ROOM];
-    Admitted {
-        fits: true,
-        x: y,
-        f,
-    }
+    Ok(x)
 }

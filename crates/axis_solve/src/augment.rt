@@ -8,7 +8,6 @@ ghost use Rattle.axis_solve.specs.Augment.{ReachOk, Sound, Spare, TurnOk, Augmen
 use crate::growth::{Growth, grow_step, rebase, seed};
 use crate::push::push;
 use axis_graph::{Graph, NODE_ROOM, SLOT_ROOM};
-use num_limits::lesser;
 
 // The values and amounts after one push, and the amount q of that push.
 #[derive(Clone, Copy)]
@@ -26,23 +25,20 @@ pub struct Flowed {
 }
 
 // Grows until the goal joins.
-fn reach(g: Graph, f: [u64; SLOT_ROOM], w: Growth, goal: usize) -> Growth
+fn reach(g: Graph, f: [u64; SLOT_ROOM], mut w: Growth, goal: usize) -> Growth
     requires graph_within { GraphWithin g }
     requires growing { Growing g f w }
     requires goal_lt_node_room { goal < node_room }
     requires leads { Leads g w.start goal }
     ensures { ReachOk g f w.start goal result }
 {
-    let mut v = w;
-    while v.rank[goal] == 0 {
-        let s = grow_step(g, f, v);
-        let j = s.joined;
-        v = s.state;
-        if NODE_ROOM <= j {
-            return v;
-        }
+    while w.rank[goal] == 0 {
+        let Some(next) = grow_step(g, f, w) else {
+            return w;
+        };
+        w = next;
     }
-    v
+    w
 }
 
 // One growth from lo until hi joins, and one push of at most r.
@@ -62,22 +58,22 @@ fn one_turn(
     ensures { TurnOk g f lo hi r result.x result.f result.q }
 {
     let w = reach(g, f, seed(x, lo, r), hi);
-    let room = w.room;
-    let q = lesser(room[hi], r);
-    let h = push(g, f, w, hi, q);
-    let z = w.x;
-    let y = rebase(z, g.n);
-    Turn { x: y, f: h, q }
+    let q = w.room[hi].min(r);
+    Turn {
+        x: rebase(w.x, g.n),
+        f: push(g, f, w, hi, q),
+        q,
+    }
 }
 
 // The whole weight of a net, by turns.
 pub(crate) fn augment(
     g: Graph,
-    f: [u64; SLOT_ROOM],
-    x: [u64; NODE_ROOM],
+    mut f: [u64; SLOT_ROOM],
+    mut x: [u64; NODE_ROOM],
     lo: usize,
     hi: usize,
-    weight: u64,
+    mut weight: u64,
 ) -> Flowed
     requires graph_within { GraphWithin g }
     requires sound { Sound g f x }
@@ -85,14 +81,11 @@ pub(crate) fn augment(
     requires net { Net g lo hi }
     ensures { Augmented g f lo hi weight result.x result.f }
 {
-    let mut h = f;
-    let mut y = x;
-    let mut r = weight;
-    while 0 < r {
-        let t = one_turn(g, h, y, lo, hi, r);
-        h = t.f;
-        y = t.x;
-        r -= t.q;
+    while 0 < weight {
+        let t = one_turn(g, f, x, lo, hi, weight);
+        f = t.f;
+        x = t.x;
+        weight -= t.q;
     }
-    Flowed { x: y, f: h }
+    Flowed { x, f }
 }

@@ -1,20 +1,17 @@
 // The growth of a set of nodes along tight slots. One step raises the values of the set by the least slack of a slot that
 // leaves it, and the node at the other end of that slot joins.
-ghost use Rattle.std.specs.Prelude.{◌≡◌, ◌<◌, ◌≤◌, get_or};
+ghost use Rattle.std.specs.Prelude.{◌≡◌, ◌<◌, ◌≤◌, get_or, IsTrue, MatchOption};
 ghost use Rattle.axis_graph.specs.Limits.{no_slack, node_room, slot_room};
 ghost use Rattle.axis_bounds.specs.Listed.{slot_at};
-ghost use Rattle.axis_graph.specs.Graph.{SlotWithin, GraphWithin, ValuesWithin, Holds, Leaving, Decides};
-ghost use Rattle.axis_solve.specs.Growth.{seed_of, join_of, Least, Raised, Spread, Shifted, Growing, Ready, StepOk};
+ghost use Rattle.axis_graph.specs.Graph.{SlotWithin, GraphWithin, ValuesWithin, Holds, Leaving, Closed, Decides};
+ghost use Rattle.axis_solve.specs.Growth.{seed_of, join_of, Least, Raised, Spread, Shifted, Growing, Ready, Joined, StepOk};
 
 use axis_graph::{Graph, NODE_ROOM, SLOT_ROOM};
 
 // The most that two values under all bounds differ.
 pub(crate) const FARTHEST: u64 = 250000;
 
-// A slack above all others.
-const NO_SLACK: u64 = 2000000;
-
-// The slot of least slack that leaves the set, and its slack; a slack of NO_SLACK: none leaves.
+// A slot that leaves the set, and its slack.
 #[derive(Clone, Copy)]
 struct Leave {
     slot: usize,
@@ -33,13 +30,6 @@ pub(crate) struct Growth {
     pub start: usize,
 }
 
-// The node that joined, NODE_ROOM where none could, and the growth after that.
-#[derive(Clone, Copy)]
-pub(crate) struct Step {
-    pub joined: usize,
-    pub state: Growth,
-}
-
 // The set of one node, with room r.
 pub(crate) fn seed(x: [u64; NODE_ROOM], start: usize, r: u64) -> Growth
     requires { start < node_room }
@@ -47,13 +37,12 @@ pub(crate) fn seed(x: [u64; NODE_ROOM], start: usize, r: u64) -> Growth
 {
     let mut rank = [0usize; NODE_ROOM];
     rank[start] = 1;
-    let parent = [0usize; NODE_ROOM];
     let mut room = [0u64; NODE_ROOM];
     room[start] = r;
     Growth {
         x,
         rank,
-        parent,
+        parent: [0usize; NODE_ROOM],
         room,
         count: 1,
         start,
@@ -64,56 +53,42 @@ pub(crate) fn seed(x: [u64; NODE_ROOM], start: usize, r: u64) -> Growth
 fn leaves(t: usize, h: usize, amount: u64) -> bool
     ensures { Decides result (Leaving t h amount) }
 {
-    if 0 < t {
-        if h == 0 {
-            return true;
-        }
-        return false;
-    }
-    if 0 < h {
-        if 0 < amount {
-            return true;
-        }
-    }
-    false
+    if 0 < t { h == 0 } else { 0 < h && 0 < amount }
 }
 
-// Looks through all slots; a slack of 0 ends the scan.
+// Whether a slack is below the least so far.
+fn is_less(by: u64, best: Option<Leave>) -> bool
+    ensures { MatchOption best (IsTrue result) (λ l. Decides result (by < l.by)) }
+{
+    best.is_none_or(|l| by < l.by)
+}
+
+// Looks through all slots for the one of least slack; a slack of 0 ends the scan.
 fn least_leaving(
     g: Graph,
     f: [u64; SLOT_ROOM],
     x: [u64; NODE_ROOM],
     rank: [usize; NODE_ROOM],
-) -> Leave
+) -> Option<Leave>
     requires graph_within { GraphWithin g }
     requires values_within { ValuesWithin x }
     requires holds { Holds g.slots g.m x }
-    ensures { Least g.slots g.m f x rank g.m result.slot result.by }
+    ensures { MatchOption result (Closed g f rank) (λ l. (l.by < no_slack) × Least g.slots g.m f x rank g.m l.slot l.by) }
 {
-    let slots = g.slots;
-    let m = g.m;
-    let mut best: usize = 0;
-    let mut by: u64 = NO_SLACK;
-    let mut i: usize = 0;
-    while i < m {
-        if by == 0 {
-            return Leave { slot: best, by };
-        }
-        let s = slots[i];
-        let a = f[i];
-        let j = i;
-        i += 1;
-        let tail = s.tail;
-        let head = s.head;
-        if leaves(rank[tail], rank[head], a) {
-            let d = x[head] + s.minus - (x[tail] + s.plus);
-            if d < by {
-                best = j;
-                by = d;
+    let mut best: Option<Leave> = None;
+    for i in 0..g.m {
+        let s = g.slots[i];
+        if leaves(rank[s.tail], rank[s.head], f[i]) {
+            let by = x[s.head] + s.minus - (x[s.tail] + s.plus);
+            if by == 0 {
+                return Some(Leave { slot: i, by: 0 });
+            }
+            if is_less(by, best) {
+                best = Some(Leave { slot: i, by });
             }
         }
     }
-    Leave { slot: best, by }
+    best
 }
 
 // The values of the set raised by d.
@@ -123,85 +98,51 @@ fn raise(x: [u64; NODE_ROOM], rank: [usize; NODE_ROOM], d: u64) -> [u64; NODE_RO
     ensures { Raised rank d x result node_room }
 {
     let mut y = x;
-    let mut k: usize = 0;
-    while k < NODE_ROOM {
-        let j = k;
-        k += 1;
-        if 0 < rank[j] {
-            y[j] = x[j] + d;
+    for k in 0..NODE_ROOM {
+        if 0 < rank[k] {
+            y[k] = x[k] + d;
         }
     }
     y
 }
 
 // Node v joins by slot p with room q, and the values are y.
-fn join(w: Growth, y: [u64; NODE_ROOM], v: usize, p: usize, q: u64) -> Growth
+fn join(mut w: Growth, y: [u64; NODE_ROOM], v: usize, p: usize, q: u64) -> Growth
     requires v_lt_node_room { v < node_room }
     requires count_lt_node_room { w.count < node_room }
     ensures { result ≡ join_of w y v p q }
 {
-    let mut z = w;
-    z.x = y;
-    z.rank[v] = w.count + 1;
-    z.parent[v] = p;
-    z.room[v] = q;
-    z.count = w.count + 1;
-    z
+    w.count += 1;
+    w.x = y;
+    w.rank[v] = w.count;
+    w.parent[v] = p;
+    w.room[v] = q;
+    w
 }
 
 // The node at the outer end of slot p joins.
-fn attach(g: Graph, f: [u64; SLOT_ROOM], w: Growth, y: [u64; NODE_ROOM], p: usize) -> Step
+fn attach(g: Graph, f: [u64; SLOT_ROOM], w: Growth, y: [u64; NODE_ROOM], p: usize) -> Growth
     requires p_lt_slot_room { p < slot_room }
     requires slot_within { SlotWithin (slot_at g.slots p) }
     requires ready { Ready g f w y p }
-    ensures { StepOk g f w result.joined result.state }
+    ensures { Joined g f w result }
 {
-    let rank = w.rank;
-    let room = w.room;
-    let slots = g.slots;
-    let s = slots[p];
-    let tail = s.tail;
-    let head = s.head;
-    if 0 < rank[tail] {
-        let q = room[tail];
-        return Step {
-            joined: head,
-            state: join(w, y, head, p, q),
-        };
-    }
-    let a = f[p];
-    let b = room[head];
-    if a < b {
-        return Step {
-            joined: tail,
-            state: join(w, y, tail, p, a),
-        };
-    }
-    Step {
-        joined: tail,
-        state: join(w, y, tail, p, b),
+    let s = g.slots[p];
+    if 0 < w.rank[s.tail] {
+        join(w, y, s.head, p, w.room[s.tail])
+    } else {
+        join(w, y, s.tail, p, f[p].min(w.room[s.head]))
     }
 }
 
-// One step of the growth.
-pub(crate) fn grow_step(g: Graph, f: [u64; SLOT_ROOM], w: Growth) -> Step
+// One step of the growth, if a slot leaves the set.
+pub(crate) fn grow_step(g: Graph, f: [u64; SLOT_ROOM], w: Growth) -> Option<Growth>
     requires graph_within { GraphWithin g }
     requires growing { Growing g f w }
-    ensures { StepOk g f w result.joined result.state }
+    ensures { StepOk g f w result }
 {
-    let x = w.x;
-    let rank = w.rank;
-    let l = least_leaving(g, f, x, rank);
-    let p = l.slot;
-    let d = l.by;
-    if NO_SLACK <= d {
-        return Step {
-            joined: NODE_ROOM,
-            state: w,
-        };
-    }
-    let y = raise(x, rank, d);
-    attach(g, f, w, y, p)
+    let l = least_leaving(g, f, w.x, w.rank)?;
+    Some(attach(g, f, w, raise(w.x, w.rank, l.by), l.slot))
 }
 
 // The values moved together, so that node 0 has FARTHEST.
@@ -211,12 +152,9 @@ pub(crate) fn rebase(x: [u64; NODE_ROOM], n: usize) -> [u64; NODE_ROOM]
     requires spread { Spread x n }
     ensures { Shifted (get_or x 0 0) x result n }
 {
-    let base = x[0];
     let mut y = x;
-    let mut k: usize = 0;
-    while k < n {
-        y[k] = x[k] + FARTHEST - base;
-        k += 1;
+    for k in 0..n {
+        y[k] = x[k] + FARTHEST - x[0];
     }
     y
 }

@@ -8,7 +8,6 @@
 mod admit;
 mod augment;
 mod growth;
-mod keeps;
 mod push;
 mod solve;
 mod start;
@@ -22,6 +21,7 @@ ghost use Rattle.axis_graph.specs.Service.{SolutionOk};
 ghost use Rattle.axis_solve.specs.Admit.{Feasible};
 
 use crate::admit::admit_all;
+use crate::augment::Flowed;
 use crate::growth::{FARTHEST, rebase};
 use crate::solve::solve_axis;
 use crate::start::start_values;
@@ -38,19 +38,14 @@ fn augment_nets(a: Axis, x: [u64; NODE_ROOM]) -> Solution
     requires feasible { Feasible (macro_graph (axis_of a)) x }
     ensures { SolutionOk a result.verdict result.at result.amounts }
 {
-    let nets = a.nets;
-    let pins = a.pins;
     let g = whole_graph(a);
     let e = net_spans(a);
     let y = rebase(x, a.n + 1);
-    let z = start_values(y, a.n, a.base, nets, pins, a.t);
-    let r = solve_axis(g, z, e, a.t);
-    let v = r.x;
-    let f = r.f;
-    let at = coordinates(v, a.n);
+    let z = start_values(y, a.n, a.base, a.nets, a.pins, a.t);
+    let Flowed { x, f } = solve_axis(g, z, e, a.t);
     Solution {
         verdict: Verdict::Solved,
-        at,
+        at: coordinates(x, a.n),
         amounts: f,
     }
 }
@@ -62,22 +57,11 @@ fn add_pairs(a: Axis) -> Solution
     ensures { SolutionOk a result.verdict result.at result.amounts }
 {
     let from = 2 * a.n;
-    let to = from + a.p;
     let g = die_graph(a);
     let full = macro_graph(a);
-    let all = full.slots;
-    let even = [FARTHEST; NODE_ROOM];
-    let s = admit_all(g, even, all, from, to);
-    let x = s.x;
-    let f = s.f;
-    let fits = s.fits;
-    if fits {
-        return augment_nets(a, x);
-    }
-    Solution {
-        verdict: Verdict::Unsolvable,
-        at: [0u64; Axis::MACROS],
-        amounts: f,
+    match admit_all(g, [FARTHEST; NODE_ROOM], full.slots, from, from + a.p) {
+        Ok(x) => augment_nets(a, x),
+        Err(f) => Solution::unsolvable(f),
     }
 }
 
@@ -92,11 +76,7 @@ fn too_large(a: Axis, i: usize) -> Solution
     let o = 2 * i;
     f[o] = 1;
     f[o + 1] = 1;
-    Solution {
-        verdict: Verdict::Unsolvable,
-        at: [0u64; Axis::MACROS],
-        amounts: f,
-    }
+    Solution::unsolvable(f)
 }
 
 // The least length of the axis's nets under its bounds, and of the coordinates with that length the smallest.
@@ -104,16 +84,10 @@ pub fn solve_by_growth(a: Axis) -> Solution
     ensures { SolutionOk a result.verdict result.at result.amounts }
 {
     if !is_held(a) {
-        return Solution {
-            verdict: Verdict::Malformed,
-            at: [0u64; Axis::MACROS],
-            amounts: [0u64; SLOT_ROOM],
-        };
+        return Solution::malformed();
     }
-    let sizes = a.sizes;
-    let i = first_above(&sizes, a.side, a.n);
-    if i < a.n {
-        return too_large(a, i);
+    match first_above(&a.sizes, a.side, a.n) {
+        Some(i) => too_large(a, i),
+        None => add_pairs(a),
     }
-    add_pairs(a)
 }

@@ -9,7 +9,7 @@ use axis_graph::{Graph, SLOT_ROOM};
 // loses q.
 pub(crate) fn push(
     g: Graph,
-    f: [u64; SLOT_ROOM],
+    mut f: [u64; SLOT_ROOM],
     w: Growth,
     goal: usize,
     q: u64,
@@ -18,22 +18,17 @@ pub(crate) fn push(
     requires pushable { Pushable g f w goal q }
     ensures { Pushed g f w goal q result }
 {
-    let start = w.start;
-    let mut h = f;
     let mut c = goal;
-    while c != start {
+    while c != w.start {
         let p = w.parent[c];
         let s = g.slots[p];
-        let a = h[p];
-        let tail = s.tail;
-        let head = s.head;
-        if head == c {
-            h[p] = a + q;
-            c = tail;
+        if s.head == c {
+            f[p] += q;
+            c = s.tail;
         } else {
-            h[p] = a - q;
-            c = head;
+            f[p] -= q;
+            c = s.head;
         }
     }
-    h
+    f
 }

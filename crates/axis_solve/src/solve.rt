@@ -13,7 +13,7 @@ use axis_bounds::Axis;
 use axis_graph::{Graph, NODE_ROOM, SLOT_ROOM, Span};
 
 // Every net's weight, from amounts of 0.
-fn augment_all(g: Graph, x: [u64; NODE_ROOM], nets: [Span; Axis::NETS], count: usize) -> Flowed
+fn augment_all(g: Graph, mut x: [u64; NODE_ROOM], nets: [Span; Axis::NETS], count: usize) -> Flowed
     requires graph_within { GraphWithin g }
     requires feasible { Feasible g x }
     requires count_le_net_room { count ≤ net_room }
@@ -21,33 +21,24 @@ fn augment_all(g: Graph, x: [u64; NODE_ROOM], nets: [Span; Axis::NETS], count: u
     ensures { Flows g nets count result.x result.f }
 {
     let mut f = [0u64; SLOT_ROOM];
-    let mut y = x;
-    let mut j: usize = 0;
-    while j < count {
-        let p = nets[j];
-        let t = augment(g, f, y, p.lo, p.hi, p.weight);
+    for p in &nets[..count] {
+        let t = augment(g, f, x, p.lo, p.hi, p.weight);
         f = t.f;
-        y = t.x;
-        j += 1;
+        x = t.x;
     }
-    Flowed { x: y, f }
+    Flowed { x, f }
 }
 
 // Grows until no slot leaves.
-fn settle(g: Graph, f: [u64; SLOT_ROOM], w: Growth) -> Growth
+fn settle(g: Graph, f: [u64; SLOT_ROOM], mut w: Growth) -> Growth
     requires graph_within { GraphWithin g }
     requires growing { Growing g f w }
     ensures { Settled g f w.start result }
 {
-    let mut v = w;
-    loop {
-        let s = grow_step(g, f, v);
-        let j = s.joined;
-        if NODE_ROOM <= j {
-            return v;
-        }
-        v = s.state;
+    while let Some(next) = grow_step(g, f, w) {
+        w = next;
     }
+    w
 }
 
 // Values that keep all bounds and give the least weighed sum of spans, the smallest such, and the amounts that prove it.
@@ -64,10 +55,7 @@ pub(crate) fn solve_axis(
     requires nets { Nets g nets count }
     ensures { Solved g nets count result.x result.f }
 {
-    let t = augment_all(g, x, nets, count);
-    let f = t.f;
-    let y = t.x;
-    let w = settle(g, f, seed(y, 0, 1));
-    let z = w.x;
-    Flowed { x: z, f }
+    let Flowed { x, f } = augment_all(g, x, nets, count);
+    let Growth { x, .. } = settle(g, f, seed(x, 0, 1));
+    Flowed { x, f }
 }

@@ -6,7 +6,6 @@ ghost use Rattle.axis_solve.specs.Start.{PinsIn, NetsIn, Around, Resting, Starte
 use crate::growth::FARTHEST;
 use axis_bounds::{Axis, AxisNet, AxisPin};
 use axis_graph::NODE_ROOM;
-use num_limits::{greater, lesser};
 
 // The highest place of a pin at the start; the lowest is FARTHEST, where node 0 lies.
 const TOPMOST: u64 = 274576;
@@ -24,16 +23,12 @@ fn net_ends(x: [u64; NODE_ROOM], pins: [AxisPin; Axis::PINS], from: usize, c: us
     requires pins_in { PinsIn x pins from (from + c) }
     ensures { Around x pins from (from + c) result.lo result.hi }
 {
-    let mut lo: u64 = TOPMOST;
-    let mut hi: u64 = FARTHEST;
-    let mut i: usize = 0;
-    while i < c {
-        let q = pins[from + i];
-        let node = q.node;
-        let y = x[node] + q.up;
-        i += 1;
-        lo = lesser(y, lo);
-        hi = greater(y, hi);
+    let mut lo = TOPMOST;
+    let mut hi = FARTHEST;
+    for q in &pins[from..from + c] {
+        let y = x[q.node] + q.up;
+        lo = y.min(lo);
+        hi = y.max(hi);
     }
     Ends { lo, hi }
 }
@@ -57,16 +52,13 @@ pub(crate) fn start_values(
 {
     let mut y = x;
     let mut from: usize = 0;
-    let mut j: usize = 0;
-    while j < t {
-        let k = nets[j];
-        let c = k.pins;
+    for j in 0..t {
+        let c = nets[j].pins;
         let e = net_ends(x, pins, from, c);
         let hi = n + 1 + 2 * j;
         y[hi] = e.hi - base;
         y[hi + 1] = e.lo - base;
         from += c;
-        j += 1;
     }
     y
 }

@@ -13,36 +13,14 @@ use axis_graph::NODE_ROOM;
 pub fn is_tied(s: Slot, k: usize, a: u64, t: usize, h: usize, r: usize) -> bool
     ensures { Shows result (Tied s k a t h r) }
 {
-    if s.head == k {
-        if t < r {
-            return true;
-        }
-    }
-    if s.tail == k {
-        if h < r {
-            if 0 < a {
-                return true;
-            }
-        }
-    }
-    false
+    (s.head == k && t < r) || (s.tail == k && h < r && 0 < a)
 }
 
 // Whether as much enters as leaves, at each of the first n nodes.
 pub fn is_even(into: [u64; NODE_ROOM], out: [u64; NODE_ROOM], n: usize) -> bool
     ensures { Shows result (Even into out n) }
 {
-    if NODE_ROOM < n {
-        return false;
-    }
-    let mut k: usize = 0;
-    while k < n {
-        if into[k] != out[k] {
-            return false;
-        }
-        k += 1;
-    }
-    true
+    n <= NODE_ROOM && into[..n] == out[..n]
 }
 
 // Whether a chain's pluses, p in all, outweigh its minuses.

@@ -5,10 +5,11 @@
 // the least.
 #![tactic(auto)]
 
+ghost use Rattle.std.specs.Prelude.{◌<◌};
 ghost use Rattle.axis_graph.specs.Graph.{GraphWithin, ValuesWithin, Holds, Tights, Shows};
-ghost use Rattle.axis_values.specs.Values.{Kept, Rooted, Rests};
+ghost use Rattle.axis_values.specs.Values.{Kept, Parent, Rooted, Rests};
 
-use axis_graph::above::first_above;
+use axis_graph::bounds::{is_kept, is_tight};
 use axis_graph::fine::is_fine;
 use axis_graph::{Graph, NODE_ROOM, NODES, PARENTS, SLOT_ROOM};
 use axis_tie::is_tied;
@@ -22,17 +23,10 @@ fn bounds_hold(g: Graph, x: [u64; NODE_ROOM]) -> bool
     requires values_within { ValuesWithin x }
     ensures { Shows result (Holds g.slots g.m x) }
 {
-    let slots = g.slots;
-    let m = g.m;
-    let mut i: usize = 0;
-    while i < m {
-        let s = slots[i];
-        let tail = s.tail;
-        let head = s.head;
-        if x[head] + s.minus < x[tail] + s.plus {
+    for s in &g.slots[..g.m] {
+        if !is_kept(*s, &x) {
             return false;
         }
-        i += 1;
     }
     true
 }
@@ -42,10 +36,7 @@ fn keeps_all(g: Graph, x: [u64; NODE_ROOM]) -> bool
     requires { GraphWithin g }
     ensures { Shows result (Kept g x) }
 {
-    if first_above(&x, HIGHEST, NODE_ROOM) < NODE_ROOM {
-        return false;
-    }
-    bounds_hold(g, x)
+    x.iter().all(|v| *v <= HIGHEST) && bounds_hold(g, x)
 }
 
 // Whether every slot that carries something is tight.
@@ -54,22 +45,36 @@ fn tight_slots(g: Graph, f: [u64; SLOT_ROOM], x: [u64; NODE_ROOM]) -> bool
     requires values_within { ValuesWithin x }
     ensures { Shows result (Tights g.slots g.m f x) }
 {
-    let slots = g.slots;
-    let m = g.m;
-    let mut i: usize = 0;
-    while i < m {
-        let s = slots[i];
-        let a = f[i];
-        i += 1;
-        if 0 < a {
-            let tail = s.tail;
-            let head = s.head;
-            if x[head] + s.minus != x[tail] + s.plus {
-                return false;
-            }
-        }
+    (0..g.m).all(|i| f[i] == 0 || is_tight(g.slots[i], &x))
+}
+
+// Whether node k has a parent.
+fn has_parent(
+    g: &Graph,
+    f: &[u64; SLOT_ROOM],
+    x: &[u64; NODE_ROOM],
+    parents: &[usize; PARENTS],
+    k: usize,
+) -> bool
+    requires graph_within { GraphWithin g.now }
+    requires values_within { ValuesWithin x.now }
+    requires k_in { k < 128 }
+    ensures { Shows result (Parent g.now.slots g.now.m f.now x.now parents.now k) }
+{
+    let p = parents[k];
+    if g.m <= p {
+        return false;
     }
-    true
+    let s = g.slots[p];
+    is_tight(s, x)
+        && is_tied(
+            s,
+            k,
+            f[p],
+            parents[NODES + s.tail],
+            parents[NODES + s.head],
+            parents[NODES + k],
+        )
 }
 
 // Whether every node but 0 has a parent.
@@ -78,34 +83,7 @@ fn is_rooted(g: Graph, f: [u64; SLOT_ROOM], x: [u64; NODE_ROOM], parents: [usize
     requires values_within { ValuesWithin x }
     ensures { Shows result (Rooted g.slots g.m f x parents g.n) }
 {
-    let slots = g.slots;
-    let m = g.m;
-    let n = g.n;
-    let mut k: usize = 1;
-    while k < n {
-        let p = parents[k];
-        if m <= p {
-            return false;
-        }
-        let s = slots[p];
-        let tail = s.tail;
-        let head = s.head;
-        if x[head] + s.minus != x[tail] + s.plus {
-            return false;
-        }
-        if !is_tied(
-            s,
-            k,
-            f[p],
-            parents[NODES + tail],
-            parents[NODES + head],
-            parents[NODES + k],
-        ) {
-            return false;
-        }
-        k += 1;
-    }
-    true
+    (1..g.n).all(|k| has_parent(&g, &f, &x, &parents, k))
 }
 
 // Whether the values keep all bounds, are tight where something is carried, and `parents` has parents and ranks that lead to node 0.
@@ -117,14 +95,5 @@ pub fn is_rest(
 ) -> bool
     ensures { Shows result (Rests g f x parents) }
 {
-    if !is_fine(g) {
-        return false;
-    }
-    if !keeps_all(g, x) {
-        return false;
-    }
-    if !tight_slots(g, f, x) {
-        return false;
-    }
-    is_rooted(g, f, x, parents)
+    is_fine(g) && keeps_all(g, x) && tight_slots(g, f, x) && is_rooted(g, f, x, parents)
 }

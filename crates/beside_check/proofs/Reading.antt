@@ -2,6 +2,7 @@
 use Prim.Native.Nat.{ℕ}
 use mathlib.Core.Path.{◌≡◌}
 use mathlib.Core.List.{List}
+use Rattle.std.specs.Prelude.{Result, Ok, Err}
 use Rattle.model.specs.declared.Chip.{Chip as HeldChip}
 use Rattle.model.specs.declared.Record.{Record as HeldRecord}
 use Rattle.model.specs.declared.Refusal.{Refusal}
@@ -11,12 +12,8 @@ use Rattle.refusals.proofs.FirstFailed.{number_refused, number_none}
 use Rattle.text_grammar.specs.Reading.{accepted}
 use Rattle.chip_text.specs.Text.{read_chip}
 use Rattle.record_text.specs.Text.{read_record}
-use Rattle.chip_read.specs.declared.ChipAnswer.{ChipAnswer}
-use Rattle.chip_read.specs.declared.ChipAnswer.TheVariants as chip_answer
-use Rattle.chip_read.specs.Answer.{meant as meant_chip}
-use Rattle.record_read.specs.declared.RecordAnswer.{RecordAnswer}
-use Rattle.record_read.specs.declared.RecordAnswer.TheVariants as record_answer
-use Rattle.record_read.specs.Answer.{meant as meant_record}
+use Rattle.chip_read.specs.Answer.{meant_chip}
+use Rattle.record_read.specs.Answer.{meant_record}
 use Rattle.beside_check.specs.declared.AtFault.TheVariants as text
 use Rattle.beside_check.specs.Beside.{Beside, passed, refused, beside_tests, not_of_chip, beside_read, check_beside}
 
@@ -31,13 +28,13 @@ module _ (c : Chip) (r : Record) (no k : ℕ) (q : no ≡ k) (same : k ≡ first
 
 -- ---- both texts
 
-module _ (chip beside : List ℕ) (a : ChipAnswer) (c : HeldChip) (e : meant_chip a c ≡ read_chip chip) where
-  pub chip_refused : (f : Refusal) → a ≡ chip_answer.Refused f → refused f.no f.line text.Chip ≡ check_beside chip beside
+module _ (chip beside : List ℕ) (a : Result HeldChip Refusal) (e : meant_chip a ≡ read_chip chip) where
+  pub chip_refused : (f : Refusal) → a ≡ Err f → refused f.no f.line text.Chip ≡ check_beside chip beside
   chip_refused f q = rw (← e, q)
 
-  module _ (h : a ≡ chip_answer.Accepted) (b : RecordAnswer) (r : HeldRecord) (g : meant_record b r ≡ read_record beside) where
-    pub record_refused : (f : Refusal) → b ≡ record_answer.Refused f → refused f.no f.line text.Record ≡ check_beside chip beside
+  module _ (c : HeldChip) (h : a ≡ Ok c) (b : Result HeldRecord Refusal) (g : meant_record b ≡ read_record beside) where
+    pub record_refused : (f : Refusal) → b ≡ Err f → refused f.no f.line text.Record ≡ check_beside chip beside
     record_refused f q = rw (← e, h, ← g, q)
 
-    pub both_read : b ≡ record_answer.Accepted → (m : Beside) → m ≡ beside_read (accepted (chip_of c)) (accepted (record_of r)) → m ≡ check_beside chip beside
-    both_read q m z = rw (← e, h, ← g, q) z
+    pub both_read : (r : HeldRecord) → b ≡ Ok r → (m : Beside) → m ≡ beside_read (accepted (chip_of c)) (accepted (record_of r)) → m ≡ check_beside chip beside
+    both_read r q m z = rw (← e, h, ← g, q) z

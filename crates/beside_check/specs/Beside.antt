@@ -1,7 +1,7 @@
 -- A record read beside its chip (document 02, Card 1): "The chip is read first, then the record; the count, the legality and the length are tested, in that
 -- order. A `none` record passes, and leastness is not examined here. It refuses a record with another count of macros by 13, an illegal placement by 16 and
 -- a wl other than the measured one by 17, line 0, after all reading. .. a line is that of the text at fault."
-use Rattle.std.specs.Prelude.{ℕ, List, [], ◌∷◌, eqb, length}
+use Rattle.std.specs.Prelude.{ℕ, List, [], ◌∷◌, eqb, length, Result, Ok, Err}
 use Rattle.model.specs.Meaning.{Chip, Record, none, least}
 use Rattle.refusals.specs.Tests.{Test, test, first_failed, unless_failed}
 use Rattle.text_grammar.specs.Reading.{Reading, accepted, refused as not_read}
@@ -10,8 +10,7 @@ use Rattle.record_text.specs.Text.{read_record}
 use Rattle.placement.specs.Integers.{legal_z, wirelength_z, integers}
 use Rattle.beside_check.specs.declared.AtFault.{AtFault}
 use Rattle.beside_check.specs.declared.AtFault.TheVariants as text
-use Rattle.beside_check.specs.declared.BesideAnswer.{BesideAnswer}
-use Rattle.beside_check.specs.declared.BesideAnswer.TheVariants as answer
+use Rattle.beside_check.specs.declared.BesideRefusal.{BesideRefusal}
 
 -- what is answered: the record passes, or the number and the line of a refusal, and the text at fault, which the line is one of
 pub data Beside : Type 0 where
@@ -19,9 +18,9 @@ pub data Beside : Type 0 where
   refused : ℕ → ℕ → AtFault → Beside
 
 -- the numbers and the text at fault for each case of the program's answer
-abbrev pub beside_as : BesideAnswer → Beside
-beside_as answer.Passed = passed
-beside_as (answer.Refused f t) = refused f.no f.line t
+abbrev pub beside_as : Result (Unit {0}) BesideRefusal → Beside
+beside_as (Ok _) = passed
+beside_as (Err f) = refused f.refusal.no f.refusal.line f.text
 
 -- the tests after all reading: the count, the legality and the length; a `none` record has none
 abbrev pub beside_tests : Chip → Record → List Test

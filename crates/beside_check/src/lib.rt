@@ -7,9 +7,7 @@ ghost use Rattle.text_grammar.specs.Reading.{accepted};
 ghost use Rattle.chip_text.specs.Passed.{Passed};
 ghost use Rattle.beside_check.specs.Beside.{beside_as, beside_read, check_beside};
 
-use chip_read::ChipAnswer;
 use model::{Chip, Record, Refusal};
-use record_read::RecordAnswer;
 
 // The text at fault, whose line a refusal tells; neither where both are accepted.
 #[derive(Clone, Copy)]
@@ -19,40 +17,45 @@ pub enum AtFault {
     Record,
 }
 
-// What reading a record beside its chip answers.
+// The refusal of a record beside its chip, and the text at fault.
 #[derive(Clone, Copy)]
-pub enum BesideAnswer {
-    Passed,
-    Refused(Refusal, AtFault),
+pub struct BesideRefusal {
+    pub refusal: Refusal,
+    pub text: AtFault,
 }
 
 // A chip and a record that were read.
-fn compared(c: Chip, r: Record) -> BesideAnswer
+fn compared(c: Chip, r: Record) -> Result<(), BesideRefusal>
     requires { Passed c }
     ensures { beside_as result ≡ beside_read (accepted (chip_of c)) (accepted (record_of r)) }
 {
     let no = beside_tests::record_fault(c, r);
     if no != 0 {
-        return BesideAnswer::Refused(Refusal { no, line: 0 }, AtFault::Neither);
+        return Err(BesideRefusal {
+            refusal: Refusal { no, line: 0 },
+            text: AtFault::Neither,
+        });
     }
-    BesideAnswer::Passed
+    Ok(())
 }
 
 // The chip is read, then the record; then the record is tested beside the chip.
-pub fn check_beside(chip: &[u8], beside: &[u8]) -> BesideAnswer
+pub fn check_beside(chip: &[u8], beside: &[u8]) -> Result<(), BesideRefusal>
     ensures { beside_as result ≡ check_beside chip.now beside.now }
 {
-    let of_chip = chip_read::read_chip(chip);
-    let of_record = record_read::read_record(beside);
-    let c = of_chip.chip;
-    let r = of_record.record;
-    let first = of_chip.answer;
-    let second = of_record.answer;
+    let first = chip_read::read_chip(chip);
+    let second = record_read::read_record(beside);
     match first {
-        ChipAnswer::Refused(f) => BesideAnswer::Refused(f, AtFault::Chip),
-        ChipAnswer::Accepted => match second {
-            RecordAnswer::Refused(f) => BesideAnswer::Refused(f, AtFault::Record),
-            RecordAnswer::Accepted => compared(c, r),
+        Err(refusal) => Err(BesideRefusal {
+            refusal,
+            text: AtFault::Chip,
+        }),
+        Ok(c) => match second {
+            Err(refusal) => Err(BesideRefusal {
+                refusal,
+                text: AtFault::Record,
+            }),
+            Ok(r) => compared(c, r),
         },
     }
 }

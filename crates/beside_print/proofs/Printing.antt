@@ -11,9 +11,8 @@ use Rattle.model.specs.declared.Refusal.{Refusal}
 use Rattle.text_grammar.specs.Writing.{Written, wrote, refuse, if_room}
 use Rattle.text_grammar.proofs.Fit.{too_short, all_fits}
 use Rattle.text_refusal.specs.Refusal.{refusal_line}
-use Rattle.beside_check.specs.declared.AtFault.{AtFault}
-use Rattle.beside_check.specs.declared.BesideAnswer.{BesideAnswer}
-use Rattle.beside_check.specs.declared.BesideAnswer.TheVariants as answer
+use Rattle.std.specs.Prelude.{Result, Ok, Err}
+use Rattle.beside_check.specs.declared.BesideRefusal.{BesideRefusal}
 use Rattle.beside_check.specs.Beside.{Beside, beside_as, check_beside}
 use Rattle.beside_print.specs.Printed.{passed_line, beside_line, print_beside}
 
@@ -35,9 +34,9 @@ module _ (b : List ℕ) where
 abbrev line_in : List ℕ → Beside → Written
 line_in b x = if_room (leb (length (beside_line x)) (length b)) (beside_line x) b
 
-module _ (chip beside b : List ℕ) (a : BesideAnswer) (e : beside_as a ≡ check_beside chip beside) (w : Written) where
-  pub passed_printed : a ≡ answer.Passed → w ≡ if_room (leb (length passed_line) (length b)) passed_line b → w ≡ print_beside chip beside b
-  passed_printed q h = h ∙ ap (λ (x : BesideAnswer). line_in b (beside_as x)) (sym q) ∙ ap (line_in b) e
+module _ (chip beside b : List ℕ) (a : Result (Unit {0}) BesideRefusal) (e : beside_as a ≡ check_beside chip beside) (w : Written) where
+  pub passed_printed : a ≡ Ok tt → w ≡ if_room (leb (length passed_line) (length b)) passed_line b → w ≡ print_beside chip beside b
+  passed_printed q h = h ∙ ap (λ (x : Result (Unit {0}) BesideRefusal). line_in b (beside_as x)) (sym q) ∙ ap (line_in b) e
 
-  pub refusal_printed : (f : Refusal) (t : AtFault) → a ≡ answer.Refused f t → w ≡ if_room (leb (length (refusal_line f.no f.line)) (length b)) (refusal_line f.no f.line) b → w ≡ print_beside chip beside b
-  refusal_printed f t q h = h ∙ ap (λ (x : BesideAnswer). line_in b (beside_as x)) (sym q) ∙ ap (line_in b) e
+  pub refusal_printed : (f : BesideRefusal) → a ≡ Err f → w ≡ if_room (leb (length (refusal_line f.refusal.no f.refusal.line)) (length b)) (refusal_line f.refusal.no f.refusal.line) b → w ≡ print_beside chip beside b
+  refusal_printed f q h = h ∙ ap (λ (x : Result (Unit {0}) BesideRefusal). line_in b (beside_as x)) (sym q) ∙ ap (line_in b) e

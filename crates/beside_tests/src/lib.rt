@@ -28,10 +28,8 @@ fn placement_fault(c: Chip, wl: u64, count: usize, spots: [Spot; Mac::COUNT]) ->
 pub fn record_fault(c: Chip, r: Record) -> usize
     ensures { result ≡ first_failed (held_tests c r) }
 {
-    let outcome = r.outcome;
-    let spots = r.spots;
-    match outcome {
+    match r.outcome {
         Outcome::None => 0,
-        Outcome::Least(wl, count) => placement_fault(c, wl, count, spots),
+        Outcome::Least(wl, count) => placement_fault(c, wl, count, r.spots),
     }
 }

@@ -36,15 +36,13 @@ fn put_boxes(out: &mut [u8], at: usize, c: Chip, spots: [Spot; Mac::COUNT]) -> u
     let pins = c.pins;
     let mut a = at;
     let mut from: usize = 0;
-    let mut j: usize = 0;
-    while j < Net::COUNT {
+    for j in 0..Net::COUNT {
         if c.t <= j {
             return a;
         }
         let net = nets[j];
         a = put_net_box(out, a, (j + 1) as u64, spots, pins, net, from);
         from = measure_nets::end_of(from, net.pins);
-        j += 1;
     }
     a
 }

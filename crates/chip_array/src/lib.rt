@@ -31,14 +31,12 @@ fn macs_in(cs: &[u64; CELLS]) -> [Mac; Mac::COUNT]
     ensures { result ≡ macs_in cs.now }
 {
     let mut macs = [Mac { w: 0, h: 0 }; Mac::COUNT];
-    let mut i: usize = 0;
-    while i < Mac::COUNT {
+    for i in 0..Mac::COUNT {
         let p = MACS + 2 * i;
         macs[i] = Mac {
             w: cs[p],
             h: cs[p + 1],
         };
-        i += 1;
     }
     macs
 }
@@ -48,14 +46,12 @@ fn nets_in(cs: &[u64; CELLS]) -> [Net; Net::COUNT]
     ensures { result ≡ nets_in cs.now }
 {
     let mut nets = [Net { weight: 0, pins: 0 }; Net::COUNT];
-    let mut i: usize = 0;
-    while i < Net::COUNT {
+    for i in 0..Net::COUNT {
         let p = NETS + 2 * i;
         nets[i] = Net {
             weight: cs[p],
             pins: cs[p + 1] as usize,
         };
-        i += 1;
     }
     nets
 }
@@ -69,15 +65,13 @@ fn pins_in(cs: &[u64; CELLS]) -> [Pin; Pin::COUNT]
         xup: 0,
         yup: 0,
     }; Pin::COUNT];
-    let mut i: usize = 0;
-    while i < Pin::COUNT {
+    for i in 0..Pin::COUNT {
         let p = PINS + 3 * i;
         pins[i] = Pin {
             m: cs[p] as usize,
             xup: cs[p + 1],
             yup: cs[p + 2],
         };
-        i += 1;
     }
     pins
 }
@@ -92,8 +86,7 @@ fn fixes_in(cs: &[u64; CELLS]) -> [Fix; Fix::COUNT]
         w: 0,
         h: 0,
     }; Fix::COUNT];
-    let mut i: usize = 0;
-    while i < Fix::COUNT {
+    for i in 0..Fix::COUNT {
         let p = FIXES + 4 * i;
         fixes[i] = Fix {
             x: cs[p],
@@ -101,7 +94,6 @@ fn fixes_in(cs: &[u64; CELLS]) -> [Fix; Fix::COUNT]
             w: cs[p + 2],
             h: cs[p + 3],
         };
-        i += 1;
     }
     fixes
 }

@@ -4,15 +4,15 @@
 ghost use Rattle.std.specs.Prelude.{◌≡◌};
 ghost use Rattle.chip_faults.specs.Faults.{die_fault, fix_fault, mac_fault, bare_before, net_fault, pin_fault, row_fault};
 
-use model::{Chip, Die, DieMade, Fix, FixMade, Mac, MacMade, Net, NetMade, Pin, PinMade};
+use model::{Chip, Die, Fix, Mac, Net, Pin};
 
 // The fault of the die, or 0: range 4.
 pub fn die_fault(d: Die) -> usize
     ensures { result ≡ die_fault d }
 {
     match Die::new(d.w, d.h) {
-        DieMade::Made(_) => 0,
-        DieMade::Outside => 4,
+        Some(_) => 0,
+        None => 4,
     }
 }
 
@@ -24,9 +24,9 @@ fn fix_fault(d: Die, fixes: [Fix; Fix::COUNT], i: usize) -> usize
         return 6;
     }
     let f = fixes[i];
-    let FixMade::Made(_) = Fix::new(f.x, f.y, f.w, f.h) else {
+    if Fix::new(f.x, f.y, f.w, f.h).is_none() {
         return 4;
-    };
+    }
     chip_text::placed_fault(d, f, fixes, i)
 }
 
@@ -39,8 +39,8 @@ fn mac_fault(macs: [Mac; Mac::COUNT], i: usize) -> usize
     }
     let m = macs[i];
     match Mac::new(m.w, m.h) {
-        MacMade::Made(_) => 0,
-        MacMade::Outside => 4,
+        Some(_) => 0,
+        None => 4,
     }
 }
 
@@ -70,8 +70,8 @@ pub fn net_fault(nets: [Net; Net::COUNT], j: usize) -> usize
     }
     let t = nets[j];
     match Net::new(t.weight, t.pins) {
-        NetMade::Made(_) => 0,
-        NetMade::Outside => 4,
+        Some(_) => 0,
+        None => 4,
     }
 }
 
@@ -83,9 +83,9 @@ fn pin_fault(pins: [Pin; Pin::COUNT], n: usize, i: usize) -> usize
         return 6;
     }
     let p = pins[i];
-    let PinMade::Made(_) = Pin::held(p.m, p.xup, p.yup) else {
+    if Pin::held(p.m, p.xup, p.yup).is_none() {
         return 4;
-    };
+    }
     chip_text::macro_fault(n, p.m)
 }
 
@@ -102,18 +102,8 @@ pub fn row_fault(c: Chip, row: Row, i: usize) -> usize
     ensures { result ≡ row_fault c row i }
 {
     match row {
-        Row::Fixes => {
-            let die = c.die;
-            let fixes = c.fixes;
-            fix_fault(die, fixes, i)
-        }
-        Row::Macs => {
-            let macs = c.macs;
-            mac_fault(macs, i)
-        }
-        Row::Pins => {
-            let pins = c.pins;
-            pin_fault(pins, c.n, i)
-        }
+        Row::Fixes => fix_fault(c.die, c.fixes, i),
+        Row::Macs => mac_fault(c.macs, i),
+        Row::Pins => pin_fault(c.pins, c.n, i),
     }
 }

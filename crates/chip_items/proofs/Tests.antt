@@ -1,4 +1,6 @@
 -- The loops over items of one kind: what they have left to test, each answer, and that items that pass keep to their count.
+use Rattle.std.specs.Prelude.{Ok, Err, Result}
+use Rattle.model.specs.declared.Refusal.{Refusal}
 use mathlib.Core.Path.{◌≡◌, refl, sym, ◌∙◌}
 use Prim.Native.Nat.{ℕ, zero, suc, ◌+◌, ◌-◌, ◌≤◌, ◌<◌}
 use native.Mathlib.Decide.{dec_lt}
@@ -8,19 +10,17 @@ use native.Mathlib.Omega.{arith}
 use lib.Dec.{ltb}
 use borrow.Author.Tests.{le-ltb}
 use Rattle.model.specs.declared.Chip.{Chip as HeldChip}
-use Rattle.model.specs.declared.Tested.{Tested}
-use Rattle.model.specs.declared.Tested.TheVariants as tested
 use Rattle.text_grammar.specs.Steps.{need}
 use Rattle.chip_faults.specs.declared.Row.{Row}
 use Rattle.chip_faults.specs.declared.Row.TheVariants as row
 use Rattle.chip_faults.specs.Faults.{row_fault}
 use Rattle.chip_items.specs.Tests.{on_fault, tests}
 
-pub refused_at_law : (a line : ℕ) (more : Tested) → (a ≡ 0 → ⊥) → tested.Refused (record { no = a; line = line }) ≡ on_fault a line more
+pub refused_at_law : (a line : ℕ) (more : Result (Unit {0}) Refusal) → (a ≡ 0 → ⊥) → Err (record { no = a; line = line }) ≡ on_fault a line more
 refused_at_law zero line more h = absurd (h refl)
 refused_at_law (suc n) line more h = refl
 
-pub passed_fault : (a line : ℕ) (more : Tested) → on_fault a line more ≡ tested.Passed → (a ≡ 0) × (more ≡ tested.Passed)
+pub passed_fault : (a line : ℕ) (more : Result (Unit {0}) Refusal) → on_fault a line more ≡ Ok tt → (a ≡ 0) × (more ≡ Ok tt)
 passed_fault zero line more e = (refl, e)
 passed_fault (suc a) line more e = let w : ◌≡◌ {A = ℕ} 0 1 = cc in absurd (omega arith)
 
@@ -50,7 +50,7 @@ module _ (f : ℕ → ℕ) (line n : ℕ) where
   none_tested = rw sub-zero
 
   module _ (i : ℕ) (left : LeftFrom i) where
-    pub all_tested : n ≤ i → tested.Passed ≡ tests f line 0 n
+    pub all_tested : n ≤ i → Ok tt ≡ tests f line 0 n
     unfolding tests
     all_tested h = let e : n - i ≡ 0 = omega arith in rw (left, e)
 
@@ -59,14 +59,14 @@ module _ (f : ℕ → ℕ) (line n : ℕ) where
       unfolding tests
       next_tested = let q : n - i ≡ suc (n - suc i) = omega arith in rw (left, q, e)
 
-      pub item_refused : (a ≡ 0 → ⊥) → tested.Refused (record { no = a; line = line + i }) ≡ tests f line 0 n
+      pub item_refused : (a ≡ 0 → ⊥) → Err (record { no = a; line = line + i }) ≡ tests f line 0 n
       item_refused z = refused_at_law a (line + i) _ z ∙ sym next_tested
 
       pub item_passed : a ≡ 0 → LeftFrom (i + 1)
       item_passed z = next_tested ∙ rw (z, add-one)
 
 -- items that pass leave none over the count
-pub within_count : (f : ℕ → ℕ) (line i n count : ℕ) → f count ≡ 6 → i ≤ count → tests f line i n ≡ tested.Passed → i + n ≤ count
+pub within_count : (f : ℕ → ℕ) (line i n count : ℕ) → f count ≡ 6 → i ≤ count → tests f line i n ≡ Ok tt → i + n ≤ count
 unfolding tests
 within_count f line i zero count z h e = omega arith
 within_count f line i (suc n) count z h e =

@@ -14,20 +14,8 @@ pub fn pins_before(nets: [Net; Net::COUNT], j: usize) -> usize
     ensures { result ≡ min 129 (pins_before j nets) }
 {
     let mut q: usize = 0;
-    let mut k: usize = 0;
-    while k < Net::COUNT {
-        if j <= k {
-            return q;
-        }
-        let net = nets[k];
-        if Pin::COUNT < net.pins {
-            return MORE;
-        }
-        q += net.pins;
-        k += 1;
-        if Pin::COUNT < q {
-            return MORE;
-        }
+    for k in 0..j.min(Net::COUNT) {
+        q = q.saturating_add(nets[k].pins).min(MORE);
     }
     q
 }

@@ -20,49 +20,37 @@ use model::{Chip, Fix, Mac, Net, Pin};
 fn fix_at(fixes: [Fix; Fix::COUNT], i: usize) -> Fix
     ensures { result ≡ get_or fixes i blank_fix }
 {
-    if i < Fix::COUNT {
-        return fixes[i];
-    }
-    Fix {
+    fixes.get(i).copied().unwrap_or(Fix {
         x: 0,
         y: 0,
         w: 0,
         h: 0,
-    }
+    })
 }
 
 // Macro i of the array, or a blank one past its end.
 fn mac_at(macs: [Mac; Mac::COUNT], i: usize) -> Mac
     ensures { result ≡ get_or macs i blank_mac }
 {
-    if i < Mac::COUNT {
-        return macs[i];
-    }
-    Mac { w: 0, h: 0 }
+    macs.get(i).copied().unwrap_or(Mac { w: 0, h: 0 })
 }
 
 // Net i of the array, or a blank one past its end.
 fn net_at(nets: [Net; Net::COUNT], i: usize) -> Net
     ensures { result ≡ get_or nets i blank_net }
 {
-    if i < Net::COUNT {
-        return nets[i];
-    }
-    Net { weight: 0, pins: 0 }
+    nets.get(i).copied().unwrap_or(Net { weight: 0, pins: 0 })
 }
 
 // Pin i of the array, or a blank one past its end.
 fn pin_at(pins: [Pin; Pin::COUNT], i: usize) -> Pin
     ensures { result ≡ get_or pins i blank_pin }
 {
-    if i < Pin::COUNT {
-        return pins[i];
-    }
-    Pin {
+    pins.get(i).copied().unwrap_or(Pin {
         m: 0,
         xup: 0,
         yup: 0,
-    }
+    })
 }
 
 // The values, as held, of item i of a kind.
@@ -70,28 +58,21 @@ fn values_at(c: Chip, w: ChipWord, i: usize) -> [u64; 4]
     ensures { record { word = w; values = values_in (form w) [] result } ≡ item_at c w i }
 {
     match w {
-        ChipWord::Die => {
-            let d = c.die;
-            [d.w, d.h, 0, 0]
-        }
+        ChipWord::Die => [c.die.w, c.die.h, 0, 0],
         ChipWord::Fix => {
-            let fixes = c.fixes;
-            let f = fix_at(fixes, i);
+            let f = fix_at(c.fixes, i);
             [f.x, f.y, f.w, f.h]
         }
         ChipWord::Mac => {
-            let macs = c.macs;
-            let m = mac_at(macs, i);
+            let m = mac_at(c.macs, i);
             [m.w, m.h, 0, 0]
         }
         ChipWord::Net => {
-            let nets = c.nets;
-            let t = net_at(nets, i);
+            let t = net_at(c.nets, i);
             [t.weight, 0, 0, 0]
         }
         ChipWord::Pin => {
-            let pins = c.pins;
-            let p = pin_at(pins, i);
+            let p = pin_at(c.pins, i);
             [p.m as u64, p.xup, p.yup, 0]
         }
         ChipWord::End => [0, 0, 0, 0],
@@ -114,10 +95,8 @@ fn put_run(out: &mut [u8], at: usize, c: Chip, w: ChipWord, q: usize, n: usize) 
     ensures { Wrote out.old out.new (items_text chip_words (run (item_at c w) q n)) at result }
 {
     let mut a = at;
-    let mut i: usize = 0;
-    while i < n {
+    for i in 0..n {
         a = put_item(out, a, c, w, q + i);
-        i += 1;
     }
     a
 }
@@ -127,11 +106,7 @@ fn past(q: usize, count: usize) -> usize
     requires { q ≤ most_pins }
     ensures { result ≡ min (q + count) most_pins }
 {
-    if count <= Pin::COUNT - q {
-        q + count
-    } else {
-        Pin::COUNT
-    }
+    q.saturating_add(count).min(Pin::COUNT)
 }
 
 // The same for net j with its pins from pin q on.
@@ -139,8 +114,7 @@ fn put_net(out: &mut [u8], at: usize, c: Chip, j: usize, q: usize) -> usize
     requires { q ≤ most_pins }
     ensures { Wrote out.old out.new (items_text chip_words (net_at c j q)) at result }
 {
-    let nets = c.nets;
-    let t = net_at(nets, j);
+    let t = net_at(c.nets, j);
     let n = model::item_count(t.pins, Pin::COUNT - q);
     let a = put_item(out, at, c, ChipWord::Net, j);
     put_run(out, a, c, ChipWord::Pin, q, n)
@@ -151,16 +125,13 @@ fn put_nets(out: &mut [u8], at: usize, c: Chip) -> usize
     requires { Whole c }
     ensures { Wrote out.old out.new (items_text chip_words (net_items (chip_of c).nets)) at result }
 {
-    let nets = c.nets;
     let n = model::item_count(c.t, Net::COUNT);
     let mut a = at;
     let mut q: usize = 0;
-    let mut j: usize = 0;
-    while j < n {
-        let t = net_at(nets, j);
+    for j in 0..n {
+        let t = net_at(c.nets, j);
         a = put_net(out, a, c, j, q);
         q = past(q, t.pins);
-        j += 1;
     }
     a
 }

@@ -15,10 +15,8 @@ fn put(v: [u64; 4], w: usize, p: usize, cs: &mut [u64; CELLS])
     requires { (w ≤ 4) × (p + w ≤ 640) }
     ensures { cs.new ≡ sets cs.old p (take w v) }
 {
-    let mut q: usize = 0;
-    while q < w {
+    for q in 0..w {
         cs[p + q] = v[q];
-        q += 1;
     }
 }
 
@@ -26,11 +24,9 @@ fn put(v: [u64; 4], w: usize, p: usize, cs: &mut [u64; CELLS])
 fn put_macs(macs: [Mac; Mac::COUNT], cs: &mut [u64; CELLS])
     ensures { cs.new ≡ sets cs.old macs_at (flat_map mac_numbers macs) }
 {
-    let mut i: usize = 0;
-    while i < Mac::COUNT {
+    for i in 0..Mac::COUNT {
         let m = macs[i];
         put([m.w, m.h, 0, 0], 2, MACS + 2 * i, cs);
-        i += 1;
     }
 }
 
@@ -38,11 +34,9 @@ fn put_macs(macs: [Mac; Mac::COUNT], cs: &mut [u64; CELLS])
 fn put_nets(nets: [Net; Net::COUNT], cs: &mut [u64; CELLS])
     ensures { cs.new ≡ sets cs.old nets_at (flat_map net_numbers nets) }
 {
-    let mut i: usize = 0;
-    while i < Net::COUNT {
+    for i in 0..Net::COUNT {
         let t = nets[i];
         put([t.weight, t.pins as u64, 0, 0], 2, NETS + 2 * i, cs);
-        i += 1;
     }
 }
 
@@ -50,11 +44,9 @@ fn put_nets(nets: [Net; Net::COUNT], cs: &mut [u64; CELLS])
 fn put_pins(pins: [Pin; Pin::COUNT], cs: &mut [u64; CELLS])
     ensures { cs.new ≡ sets cs.old pins_at (flat_map pin_numbers pins) }
 {
-    let mut i: usize = 0;
-    while i < Pin::COUNT {
+    for i in 0..Pin::COUNT {
         let q = pins[i];
         put([q.m as u64, q.xup, q.yup, 0], 3, PINS + 3 * i, cs);
-        i += 1;
     }
 }
 
@@ -62,11 +54,9 @@ fn put_pins(pins: [Pin; Pin::COUNT], cs: &mut [u64; CELLS])
 fn put_fixes(fixes: [Fix; Fix::COUNT], cs: &mut [u64; CELLS])
     ensures { cs.new ≡ sets cs.old fixes_at (flat_map fix_numbers fixes) }
 {
-    let mut i: usize = 0;
-    while i < Fix::COUNT {
+    for i in 0..Fix::COUNT {
         let f = fixes[i];
         put([f.x, f.y, f.w, f.h], 4, FIXES + 4 * i, cs);
-        i += 1;
     }
 }
 

@@ -7,14 +7,14 @@ use lib.ListN.{length, get_or, drop, set, length-drop}
 use lib.Seq.{drop-set-add}
 use mir.Syntax.{w64}
 use mir.Val.{Fits}
+use Rattle.model.specs.declared.Refusal.{Refusal}
+use Rattle.std.specs.Prelude.{Result, Ok, Err, Option, Some, None}
 use Rattle.model.specs.declared.Net.{Net as HeldNet}
 use Rattle.model.specs.declared.Pin.{Pin as HeldPin}
-use Rattle.model.specs.declared.PinMade.{PinMade}
-use Rattle.model.specs.declared.PinMade.TheVariants as pin
 use Rattle.model.specs.declared.Chip.{Chip as HeldChip}
 use Rattle.model.specs.Counted.{taken}
 use Rattle.model.specs.Meaning.{Pin, Net, chip_of, first_of, nets_of, pin_of, pins_of, blank_net, blank_pin}
-use Rattle.model.specs.Made.{meant_pin, remake_pin}
+use Rattle.model.specs.Made.{made_pin, remake_pin}
 use Rattle.model.proofs.Holding.{holds_more, holds_set}
 use Rattle.model.proofs.FirstOf.{first_suc, first_set}
 use Rattle.model.proofs.Nets.{taken_snoc, nets_snoc, nets_kept, pins_append}
@@ -22,15 +22,12 @@ use Rattle.model.specs.Step.{Step, fault}
 use Rattle.text_grammar.specs.Steps.{Entered}
 use Rattle.chip_read.proofs.MadeOf.{the_pin}
 use Rattle.chip_text.specs.declared.ChipWord.TheVariants as word
-use Rattle.chip_text.specs.declared.ChipLast.TheVariants as last
 use Rattle.chip_text.specs.Kind.{Part, chip_kind, add, add_pin, read_to, with_pin}
 use Rattle.chip_text.specs.Faults.{macro_fault}
 use Rattle.chip_text.proofs.Faults.{pin_adds}
 use Rattle.text_grammar.proofs.Entry.{found_or, found_none, found_fault}
 use Rattle.chip_read.specs.declared.State.{State}
-use Rattle.text_line.specs.declared.Fault.TheVariants as held
-use Rattle.chip_read.specs.declared.Taken.{Taken}
-use Rattle.chip_read.specs.State.{Sound, part_of, chip_values, with_fault, TakenOk}
+use Rattle.chip_read.specs.State.{Sound, part_of, chip_values, TakenOk}
 use Rattle.chip_read.proofs.Values.{held_pin, pin_values}
 use Rattle.chip_read.proofs.Room.{mac_count_law}
 use Rattle.chip_read.proofs.Entry.{pin_fits, net_open}
@@ -98,8 +95,8 @@ module _ (s : State) (sound : Sound s) (entered : Entered chip_kind (part_of s) 
       by_fault : add (part_of s) word.Pin (chip_values word.Pin v) ≡ found_or no (read_to word.Pin (with_pin (chip_of s.chip) (pin_of (held_pin v))))
       by_fault = step_pin ∙ rw (mac_count_law s sound, e)
 
-      pub no_macro : (r : Taken) → (no ≡ 0 → ⊥) → r ≡ with_fault s (record { no = no; line = l }) → TakenOk r l (add (part_of s) word.Pin (chip_values word.Pin v))
-      no_macro r z q = rw (q, by_fault) (record { ok = record { meant = found_fault no _ z; at = refl }; sound = sound })
+      pub no_macro : (no ≡ 0 → ⊥) → TakenOk (Err (record { no = no; line = l })) l (add (part_of s) word.Pin (chip_values word.Pin v))
+      no_macro z = rw by_fault (record { ok = record { meant = found_fault no _ z; at = refl }; sound = tt })
 
     abbrev hold_pin : HeldPin → HeldChip
     hold_pin p = record { die = s.chip.die; k = s.chip.k; fixes = s.chip.fixes; n = s.chip.n; macs = s.chip.macs; t = s.chip.t; nets = set s.chip.nets place (one_pin net); pins = set s.chip.pins s.pins p }
@@ -107,7 +104,7 @@ module _ (s : State) (sound : Sound s) (entered : Entered chip_kind (part_of s) 
     nets_with : (p : HeldPin) → nets_of (first_of blank_net s.chip.t (set s.chip.nets place (one_pin net))) (set s.chip.pins s.pins p) ≡ add_pin (pin_of p) (nets_of (first_of blank_net s.chip.t s.chip.nets) s.chip.pins)
     nets_with p = rw (last_pinned, last_net_law, ← all_pins) (nets_pin before net s.chip.pins p (omega (arith, all_pins, pin_fits s sound entered, sound.pins.long)))
 
-    pub pin_added : (no : ℕ) → no ≡ macro_fault s.chip.n (get_or v 0 0) → no ≡ 0 → (m : PinMade) → meant_pin m ≡ remake_pin (held_pin v) → (p : HeldPin) → m ≡ pin.Made p → TakenOk (record { fault = held.Clear; state = record { last = last.After word.Pin; pins = s.pins + 1; chip = hold_pin p } }) l (add (part_of s) word.Pin (chip_values word.Pin v))
+    pub pin_added : (no : ℕ) → no ≡ macro_fault s.chip.n (get_or v 0 0) → no ≡ 0 → (m : Option HeldPin) → made_pin m ≡ remake_pin (held_pin v) → (p : HeldPin) → m ≡ Some p → TakenOk (Ok (record { last = Some word.Pin; pins = s.pins + 1; chip = hold_pin p })) l (add (part_of s) word.Pin (chip_values word.Pin v))
     unfolding chip_of
     pin_added n e z m o p q =
         record {

@@ -1,4 +1,5 @@
 -- A chip is tested as its text would be: each answer of the test, by its items' answer and the length of its text.
+use Rattle.std.specs.Prelude.{Ok, Err, Result}
 use mathlib.Core.Path.{◌≡◌, refl, sym, ap, ◌∙◌}
 use mathlib.Core.Bool.{true}
 use mathlib.Core.List.{List}
@@ -6,8 +7,6 @@ use Prim.Native.Nat.{ℕ, ◌≤◌, ◌<◌}
 use native.Mathlib.Omega.{arith}
 use lib.ListN.{length}
 use Rattle.model.specs.declared.Refusal.{Refusal}
-use Rattle.model.specs.declared.Tested.{Tested}
-use Rattle.model.specs.declared.Tested.TheVariants as tested
 use Rattle.model.specs.declared.Chip.{Chip as HeldChip}
 use Rattle.model.specs.Meaning.{chip_of}
 use Rattle.num_text.specs.Held.{Wrote}
@@ -40,10 +39,10 @@ module _ (c : HeldChip) (ok : Whole c) where
     pub long_read : 16384 < n → refused 1 0 ≡ read_chip (chip_text (chip_of c))
     long_read h = too_long (chip_text (chip_of c)) (omega arith)
 
-    pub refused_read : (r : Tested) → r ≡ items_tested c → (f : Refusal) → r ≡ tested.Refused f → n ≤ 16384 → refused f.no f.line ≡ read_chip (chip_text (chip_of c))
+    pub refused_read : (r : Result (Unit {0}) Refusal) → r ≡ items_tested c → (f : Refusal) → r ≡ Err f → n ≤ 16384 → refused f.no f.line ≡ read_chip (chip_text (chip_of c))
     refused_read r a f p h = sym (chip_run (chip_of c) (omega arith) ∙ ap (part_read (λ (s : Part). s.chip)) (items_refused c ok r a f p))
 
-  module _ (r : Tested) (a : r ≡ items_tested c) (p : r ≡ tested.Passed) where
+  module _ (r : Result (Unit {0}) Refusal) (a : r ≡ items_tested c) (p : r ≡ Ok tt) where
     passed_short : length (chip_text (chip_of c)) ≤ 16384
     unfolding chip_text
     passed_short =

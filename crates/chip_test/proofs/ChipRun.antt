@@ -1,4 +1,5 @@
 -- A run of the items of a chip answers what their tests answer: `items_accepted`, `items_refused`.
+use Rattle.std.specs.Prelude.{Ok, Err, Result}
 use mathlib.Core.Path.{◌≡◌, refl, sym, ap, subst, ◌∙◌}
 use mathlib.Core.List.{List, [], ◌∷◌, ◌++◌, map, append_assoc, append-nil}
 use Prim.Native.Nat.{ℕ, zero, suc, ◌+◌, ◌-◌, ◌≤◌, ◌<◌}
@@ -12,8 +13,6 @@ use Rattle.model.specs.declared.Net.{Net as HeldNet}
 use Rattle.model.specs.declared.Pin.{Pin as HeldPin}
 use Rattle.model.specs.declared.Chip.{Chip as HeldChip}
 use Rattle.model.specs.declared.Refusal.{Refusal}
-use Rattle.model.specs.declared.Tested.{Tested}
-use Rattle.model.specs.declared.Tested.TheVariants as tested
 use Rattle.model.specs.Meaning.{first_of, blank_fix, blank_mac, blank_net, blank_pin, pin_of, pins_of, nets_of, chip_of}
 use Rattle.model.proofs.FirstOf.{length_first}
 use Rattle.model.proofs.Nets.{length_pins}
@@ -30,7 +29,7 @@ use Rattle.chip_items.specs.Tests.{row_tested, nets_tested, items_tested}
 use Rattle.chip_test.proofs.Runs.{Run, passes, refuses, run_none, run_item, run_then, too_many, run_many}
 use Rattle.chip_test.proofs.Parts.{Fixes, Macs, Nets, Pins, Ended, die_steps, fix_steps, macs_next, mac_steps, nets_next, net_steps, pin_steps, end_steps, net_next}
 
-module _ {P : Part → Type 0} (s : Part) (is : List Item) (r : Tested) where
+module _ {P : Part → Type 0} (s : Part) (is : List Item) (r : Result (Unit {0}) Refusal) where
   line_is : {a b : ℕ} → a ≡ b → Run P s a is r → Run P s b is r
   line_is e = subst (λ (n : ℕ). Run P s n is r) e
 
@@ -57,7 +56,7 @@ module _ (c : HeldChip) (ok : Whole c) where
   -- the nets from net j on with their pins from pin q on, and the end
   nets_run : (first t q j : ℕ) (s : Part) → Nets n ts q j s → Run Ended s (first + j + q) (net_items (nets_of (first_of blank_net t (drop j ts)) (drop q ps)) ++ (end_item ∷ [])) (nets_tested c first q j t)
   unfolding nets_tested net_items nets_of first_of pins_of
-  nets_run first zero q j s p = run_item s (first + j + q) end_item [] _ tested.Passed (end_steps n ts q j s p) (λ t e. run_none t _ e)
+  nets_run first zero q j s p = run_item s (first + j + q) end_item [] _ (Ok tt) (end_steps n ts q j s p) (λ t e. run_none t _ e)
   nets_run first (suc t) q j s p = by (dec_lt j (length ts)) (nets_run first t (q + (get_or ts j blank_net).pins) (suc j))
     where
       by : Dec (j < length ts) → ((u : Part) → Nets n ts (q + (get_or ts j blank_net).pins) (suc j) u → Run Ended u (first + suc j + (q + (get_or ts j blank_net).pins)) (net_items (nets_of (first_of blank_net t (drop (suc j) ts)) (drop (q + (get_or ts j blank_net).pins) ps)) ++ (end_item ∷ [])) (nets_tested c first (q + (get_or ts j blank_net).pins) (suc j) t))
@@ -73,7 +72,7 @@ module _ (c : HeldChip) (ok : Whole c) where
           let h : j ≤ 32 = p.few.0 in
           let z : 32 ≤ j = omega arith in
           rw (drop_of_length-le ts {i = j} (omega arith), le-ltb j 32 z)
-          (too_many s (first + j + q) (weight_item blank_net) (end_item ∷ []) 6 tested.Passed refl (rw (get_or-eq_default ts blank_net {n = j} (omega arith), le-ltb j 32 z) at (net_steps n ts q j s p)))
+          (too_many s (first + j + q) (weight_item blank_net) (end_item ∷ []) 6 (Ok tt) refl (rw (get_or-eq_default ts blank_net {n = j} (omega arith), le-ltb j 32 z) at (net_steps n ts q j s p)))
 
   -- the fixes, and the macros after k fixes
   fixes_run : (s : Part) → Fixes c.die c.fixes 0 s → Run (Fixes c.die c.fixes c.k) s 2 (map fix_item (first_of blank_fix c.k c.fixes)) (row_tested c row.Fixes 0 2 c.k)
@@ -90,7 +89,7 @@ module _ (c : HeldChip) (ok : Whole c) where
   items_length : {A : Type 0} (item : A → Item) (z : A) (k : ℕ) (xs : List A) → k ≤ length xs → length (map item (first_of z k xs)) ≡ k
   items_length item z k xs h = length-map (first_of z k xs) item ∙ length_first z k xs h
 
-  module _ (r : Tested) (a : r ≡ items_tested c) where
+  module _ (r : Result (Unit {0}) Refusal) (a : r ≡ items_tested c) where
     items_run : Run Ended start 1 (chip_items (chip_of c)) r
     unfolding chip_items chip_of items_tested
     items_run = rw a
@@ -106,17 +105,17 @@ module _ (c : HeldChip) (ok : Whole c) where
         let d = items_length mac_item blank_mac c.n c.macs (rw ok.macs g) in
         line_is u _ _ (omega arith) (nets_run (c.k + 2 + c.n) c.t 0 0 u (nets_next ts u v)))))))
 
-    pub items_accepted : r ≡ tested.Passed → (t : Part) × (run_items chip_kind start 1 (chip_items (chip_of c)) ≡ accepted t)
+    pub items_accepted : r ≡ Ok tt → (t : Part) × (run_items chip_kind start 1 (chip_items (chip_of c)) ≡ accepted t)
     unfolding run_items
     items_accepted p = by items_run p
       where
-        by : {q : Tested} → Run Ended start 1 (chip_items (chip_of c)) q → q ≡ tested.Passed → (t : Part) × (run_items chip_kind start 1 (chip_items (chip_of c)) ≡ accepted t)
+        by : {q : (Result (Unit {0}) Refusal)} → Run Ended start 1 (chip_items (chip_of c)) q → q ≡ Ok tt → (t : Part) × (run_items chip_kind start 1 (chip_items (chip_of c)) ≡ accepted t)
         by (passes t f e) p = (t, ap (run_items chip_kind start 1) (sym (append-nil (chip_items (chip_of c)))) ∙ (f [] ∙ rw e.last))
         by (refuses w f) p = let z : ◌≡◌ {A = ℕ} 0 1 = cc in absurd (omega arith)
 
-    pub items_refused : (w : Refusal) → r ≡ tested.Refused w → run_items chip_kind start 1 (chip_items (chip_of c)) ≡ refused w.no w.line
+    pub items_refused : (w : Refusal) → r ≡ Err w → run_items chip_kind start 1 (chip_items (chip_of c)) ≡ refused w.no w.line
     items_refused w p = by items_run p
       where
-        by : {q : Tested} → Run Ended start 1 (chip_items (chip_of c)) q → q ≡ tested.Refused w → run_items chip_kind start 1 (chip_items (chip_of c)) ≡ refused w.no w.line
+        by : {q : (Result (Unit {0}) Refusal)} → Run Ended start 1 (chip_items (chip_of c)) q → q ≡ Err w → run_items chip_kind start 1 (chip_items (chip_of c)) ≡ refused w.no w.line
         by (passes t f e) p = let z : ◌≡◌ {A = ℕ} 0 1 = cc in absurd (omega arith)
         by (refuses v f) p = let z : v ≡ w = cc in ap (run_items chip_kind start 1) (sym (append-nil (chip_items (chip_of c)))) ∙ (f [] ∙ rw z)

@@ -1,4 +1,5 @@
 -- Runs of items by the first refusal of their tests: one item, lists one after the other, and the items that a count stands for.
+use Rattle.std.specs.Prelude.{Ok, Err, Result}
 use mathlib.Core.Path.{◌≡◌, ap, subst, ◌∙◌}
 use mathlib.Core.List.{List, [], ◌∷◌, ◌++◌, map, append_assoc}
 use Prim.Native.Nat.{ℕ, zero, suc, ◌+◌, ◌≤◌, ◌<◌}
@@ -7,8 +8,6 @@ use native.Mathlib.Omega.{arith}
 use lib.ListN.{length, get_or, drop, length-append, drop_of_length-le, get_or-eq_default}
 use lib.Seq.{drop-cons}
 use Rattle.model.specs.declared.Refusal.{Refusal}
-use Rattle.model.specs.declared.Tested.{Tested}
-use Rattle.model.specs.declared.Tested.TheVariants as tested
 use Rattle.model.specs.Meaning.{first_of}
 use Rattle.model.specs.Step.{next}
 use Rattle.text_grammar.specs.Reading.{refused}
@@ -19,37 +18,37 @@ use Rattle.chip_items.specs.Tests.{on_fault, then_tested, tests}
 use Rattle.chip_test.proofs.Steps.{Steps, goes, stops}
 
 -- a run of the items is from s on a line leads to a state that P holds of, whatever follows them, or is refused
-pub data Run (P : Part → Type 0) (s : Part) (line : ℕ) (is : List Item) : Tested → Type 0 where
-  passes : (t : Part) → ((rest : List Item) → run_items chip_kind s line (is ++ rest) ≡ run_items chip_kind t (line + length is) rest) → P t → Run P s line is tested.Passed
-  refuses : (w : Refusal) → ((rest : List Item) → run_items chip_kind s line (is ++ rest) ≡ refused w.no w.line) → Run P s line is (tested.Refused w)
+pub data Run (P : Part → Type 0) (s : Part) (line : ℕ) (is : List Item) : Result (Unit {0}) Refusal → Type 0 where
+  passes : (t : Part) → ((rest : List Item) → run_items chip_kind s line (is ++ rest) ≡ run_items chip_kind t (line + length is) rest) → P t → Run P s line is (Ok tt)
+  refuses : (w : Refusal) → ((rest : List Item) → run_items chip_kind s line (is ++ rest) ≡ refused w.no w.line) → Run P s line is (Err w)
 
 on_line : (s : Part) (is : List Item) {a b : ℕ} → a ≡ b → run_items chip_kind s a is ≡ run_items chip_kind s b is
 on_line s is e = ap (λ (n : ℕ). run_items chip_kind s n is) e
 
 module _ {P : Part → Type 0} where
-  pub run_none : (s : Part) (line : ℕ) → P s → Run P s line [] tested.Passed
+  pub run_none : (s : Part) (line : ℕ) → P s → Run P s line [] (Ok tt)
   run_none s line p = passes s (λ rest. on_line s rest (omega arith)) p
 
-  after_step : (s t : Part) (line : ℕ) (i : Item) (is : List Item) (r : Tested) → item_step chip_kind s i ≡ next t → Run P t (suc line) is r → Run P s line (i ∷ is) r
+  after_step : (s t : Part) (line : ℕ) (i : Item) (is : List Item) (r : Result (Unit {0}) Refusal) → item_step chip_kind s i ≡ next t → Run P t (suc line) is r → Run P s line (i ∷ is) r
   unfolding run_items
   after_step s t line i is r e (passes u f p) = passes u (λ rest. rw e (f rest ∙ on_line u rest (omega arith))) p
   after_step s t line i is r e (refuses w f) = refuses w (λ rest. rw e (f rest))
 
-  pub run_item : {Q : Part → Type 0} (s : Part) (line : ℕ) (i : Item) (is : List Item) (n : ℕ) (r : Tested) → Steps Q (item_step chip_kind s i) n → ((t : Part) → Q t → Run P t (suc line) is r) → Run P s line (i ∷ is) (on_fault n line r)
+  pub run_item : {Q : Part → Type 0} (s : Part) (line : ℕ) (i : Item) (is : List Item) (n : ℕ) (r : Result (Unit {0}) Refusal) → Steps Q (item_step chip_kind s i) n → ((t : Part) → Q t → Run P t (suc line) is r) → Run P s line (i ∷ is) (on_fault n line r)
   unfolding run_items
   run_item s line i is n r (goes t e q) k = after_step s t line i is r e (k t q)
   run_item s line i is n r (stops m e) k = refuses (record { no = suc m; line = line }) (λ rest. rw e)
 
-  after_run : (s t : Part) (line : ℕ) (is js : List Item) (r : Tested) → ((rest : List Item) → run_items chip_kind s line (is ++ rest) ≡ run_items chip_kind t (line + length is) rest) → Run P t (line + length is) js r → Run P s line (is ++ js) r
+  after_run : (s t : Part) (line : ℕ) (is js : List Item) (r : Result (Unit {0}) Refusal) → ((rest : List Item) → run_items chip_kind s line (is ++ rest) ≡ run_items chip_kind t (line + length is) rest) → Run P t (line + length is) js r → Run P s line (is ++ js) r
   after_run s t line is js r f (passes u g p) = passes u (λ rest. rw (append_assoc is js rest, length-append is js) (f (js ++ rest) ∙ (g rest ∙ on_line u rest (omega arith)))) p
   after_run s t line is js r f (refuses w g) = refuses w (λ rest. rw append_assoc (f (js ++ rest) ∙ g rest))
 
-  pub run_then : {Q : Part → Type 0} (s : Part) (line : ℕ) (is js : List Item) (q r : Tested) → Run Q s line is q → ((t : Part) → Q t → Run P t (line + length is) js r) → Run P s line (is ++ js) (then_tested q r)
+  pub run_then : {Q : Part → Type 0} (s : Part) (line : ℕ) (is js : List Item) (q r : Result (Unit {0}) Refusal) → Run Q s line is q → ((t : Part) → Q t → Run P t (line + length is) js r) → Run P s line (is ++ js) (then_tested q r)
   run_then s line is js q r (passes t f p) k = after_run s t line is js r f (k t p)
   run_then s line is js q r (refuses w f) k = refuses w (λ rest. rw append_assoc (f (js ++ rest)))
 
 -- an item too many, and those after it
-pub too_many : {P Q : Part → Type 0} (s : Part) (line : ℕ) (i : Item) (is : List Item) (n : ℕ) (r : Tested) → n ≡ 6 → Steps Q (item_step chip_kind s i) n → Run P s line (i ∷ is) (on_fault n line r)
+pub too_many : {P Q : Part → Type 0} (s : Part) (line : ℕ) (i : Item) (is : List Item) (n : ℕ) (r : Result (Unit {0}) Refusal) → n ≡ 6 → Steps Q (item_step chip_kind s i) n → Run P s line (i ∷ is) (on_fault n line r)
 unfolding run_items
 too_many s line i is n r e (goes t g p) = absurd (omega arith)
 too_many s line i is n r e (stops m g) = refuses (record { no = suc m; line = line }) (λ rest. rw g)

@@ -6,19 +6,18 @@ ghost use Rattle.model.specs.Meaning.{chip_of};
 ghost use Rattle.text_grammar.specs.Writing.{tested_as};
 ghost use Rattle.chip_text.specs.Text.{read_chip, chip_text};
 
-use model::{Chip, Refusal, TEXT_MOST, Tested};
+use model::{Chip, Refusal, TEXT_MOST};
 
 // The test of a chip: its items, and where one of them is refused, first the length of its text.
-pub fn test_chip(c: Chip) -> Tested
+pub fn test_chip(c: Chip) -> Result<(), Refusal>
     ensures { tested_as (chip_of c) result ≡ read_chip (chip_text (chip_of c)) }
 {
-    let tested = chip_items::test_items(c);
-    let Tested::Refused(f) = tested else {
-        return Tested::Passed;
+    let Err(f) = chip_items::test_items(c) else {
+        return Ok(());
     };
     let mut scratch = [0u8; 1];
     if TEXT_MOST < chip_print::put_chip(&mut scratch, 0, c) {
-        return Tested::Refused(Refusal { no: 1, line: 0 });
+        return Err(Refusal { no: 1, line: 0 });
     }
-    Tested::Refused(f)
+    Err(f)
 }

@@ -1,4 +1,6 @@
 -- From the test of a chip to what it then keeps: in the form of the needs of the services that take a chip.
+use Rattle.std.specs.Prelude.{Ok, Err, Result}
+use Rattle.model.specs.declared.Refusal.{Refusal}
 use mathlib.Core.Path.{◌≡◌, sym, ap, ◌∙◌}
 use mathlib.Core.List.{map}
 use native.Mathlib.Omega.{arith}
@@ -8,8 +10,6 @@ use Rattle.model.specs.declared.Mac.{Mac}
 use Rattle.model.specs.declared.Net.{Net as HeldNet}
 use Rattle.model.specs.declared.Pin.{Pin as HeldPin}
 use Rattle.model.specs.declared.Chip.{Chip as HeldChip}
-use Rattle.model.specs.declared.Tested.{Tested}
-use Rattle.model.specs.declared.Tested.TheVariants as tested
 use Rattle.model.specs.Meaning.{first_of, blank_net, chip_of}
 use Rattle.text_grammar.specs.Writing.{tested_as}
 use Rattle.chip_text.specs.Kind.{pin_count}
@@ -55,5 +55,5 @@ module _ (c : HeldChip) (w : Whole c) where
         pins = pins_held v;
       }
 
-  pub test_passed : (t : Tested) → tested_as (chip_of c) t ≡ read_chip (chip_text (chip_of c)) → t ≡ tested.Passed → Passed c
+  pub test_passed : (t : Result (Unit {0}) Refusal) → tested_as (chip_of c) t ≡ read_chip (chip_text (chip_of c)) → t ≡ Ok tt → Passed c
   test_passed t e q = passed_by (ap (tested_as (chip_of c)) (sym q) ∙ e)

@@ -8,17 +8,16 @@ use Rattle.text_grammar.specs.Follow.{followed_by, followed_by_none}
 use Rattle.text_grammar.specs.Reading.{before, after}
 use Rattle.chip_text.specs.declared.ChipWord.{ChipWord}
 use Rattle.chip_text.specs.declared.ChipWord.TheVariants as word
-use Rattle.chip_text.specs.declared.ChipLast.{ChipLast}
-use Rattle.chip_text.specs.declared.ChipLast.TheVariants as last
+use Rattle.std.specs.Prelude.{Option, Some, None}
 use Rattle.chip_text.specs.Tests.{last_of, chip_following}
 
 -- the row r is a, and so what is known after the last word
-module _ (l : ChipLast) (r a : Following) (q : r ≡ a) where
-  pub first_row : l ≡ last.Before → a ≡ chip_following before → r ≡ chip_following (last_of l)
+module _ (l : Option ChipWord) (r a : Following) (q : r ≡ a) where
+  pub first_row : l ≡ None → a ≡ chip_following before → r ≡ chip_following (last_of l)
   first_row e k = q ∙ k ∙ rw e
 
   -- after the word v, which is x
-  pub next_row : (v : ChipWord) → l ≡ last.After v → (x : ChipWord) → v ≡ x → a ≡ chip_following (after x) → r ≡ chip_following (last_of l)
+  pub next_row : (v : ChipWord) → l ≡ Some v → (x : ChipWord) → v ≡ x → a ≡ chip_following (after x) → r ≡ chip_following (last_of l)
   next_row v e x p k = q ∙ k ∙ rw (e, p)
 
 pub before_first : followed_by (true ∷ false ∷ false ∷ false ∷ false ∷ false ∷ false ∷ false ∷ []) ≡ chip_following before

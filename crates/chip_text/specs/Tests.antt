@@ -1,20 +1,18 @@
 -- The tests of a line before its fields, as tables: an entry for each word in their order, and more up to eight; and what the program's values mean.
-use Rattle.std.specs.Prelude.{Bool, true, List}
+use Rattle.std.specs.Prelude.{Bool, true, List, Option, Some, None}
 use Rattle.text_grammar.specs.declared.Following.{Following}
 use Rattle.text_grammar.specs.Follow.{table_of, places_of}
 use Rattle.text_grammar.specs.Reading.{Last, before, after, is_last}
 use Rattle.chip_text.specs.declared.ChipWord.{ChipWord}
 use Rattle.chip_text.specs.declared.ChipWord.TheVariants as word
 use Rattle.chip_text.specs.declared.Counts.{Counts as HeldCounts}
-use Rattle.chip_text.specs.declared.ChipLast.{ChipLast}
-use Rattle.chip_text.specs.declared.ChipLast.TheVariants as last
 use Rattle.chip_text.specs.Words.{chip_words}
 use Rattle.chip_text.specs.Kind.{Counts, counts, followers, room, pinned}
 
 -- the word of the last line
-abbrev pub last_of : ChipLast → Last ChipWord
-last_of last.Before = before
-last_of (last.After w) = after w
+abbrev pub last_of : Option ChipWord → Last ChipWord
+last_of None = before
+last_of (Some w) = after w
 
 -- how many things have been read
 abbrev pub counts_in : HeldCounts → Counts

@@ -20,13 +20,6 @@ pub enum ChipWord {
     End,
 }
 
-// The word of the last line, or that there was none yet.
-#[derive(Clone, Copy)]
-pub enum ChipLast {
-    Before,
-    After(ChipWord),
-}
-
 // How many fixes, macros, nets and pins have been read.
 #[derive(Clone, Copy)]
 pub struct Counts {
@@ -42,28 +35,30 @@ const YES: bool = true;
 
 const NO: bool = false;
 
-// What the last word says of the next line: which words may stand after it, that after a net only a pin may, and whether it is `end`.
-pub fn following(last: ChipLast) -> Following
+// What the word of the last line, or that there was none yet, says of the next line: which words may stand after it, that after a net only a pin may, and whether
+// it is `end`.
+#[tactic(auto, unfolding(crate::specs::Tests::chip_following, text_grammar::specs::Words::is_in, text_grammar::specs::Words::same))]
+pub fn following(last: Option<ChipWord>) -> Following
     ensures { result ≡ chip_following (last_of last) }
 {
-    let ChipLast::After(v) = last else {
-        return text_grammar::followed_by([YES, NO, NO, NO, NO, NO, NO, NO]);
-    };
-    match v {
-        ChipWord::Die => text_grammar::followed_by([NO, YES, YES, YES, NO, YES, NO, NO]),
-        ChipWord::Fix => text_grammar::followed_by([NO, YES, YES, YES, NO, YES, NO, NO]),
-        ChipWord::Mac => text_grammar::followed_by([NO, NO, YES, YES, NO, YES, NO, NO]),
-        ChipWord::Net => Following {
+    match last {
+        None => text_grammar::followed_by([YES, NO, NO, NO, NO, NO, NO, NO]),
+        Some(ChipWord::Die | ChipWord::Fix) => {
+            text_grammar::followed_by([NO, YES, YES, YES, NO, YES, NO, NO])
+        }
+        Some(ChipWord::Mac) => text_grammar::followed_by([NO, NO, YES, YES, NO, YES, NO, NO]),
+        Some(ChipWord::Net) => Following {
             placed: [NO, NO, NO, YES, YES, YES, NO, NO],
             pinned: [NO, NO, NO, NO, YES, NO, YES, YES],
             over: false,
         },
-        ChipWord::Pin => text_grammar::followed_by([NO, NO, NO, YES, YES, YES, NO, NO]),
-        ChipWord::End => text_grammar::followed_by_none(),
+        Some(ChipWord::Pin) => text_grammar::followed_by([NO, NO, NO, YES, YES, YES, NO, NO]),
+        Some(ChipWord::End) => text_grammar::followed_by_none(),
     }
 }
 
 // Count: the words that there is room for one more of.
+#[tactic(auto, unfolding(crate::specs::Tests::chip_rooms))]
 pub fn rooms(held: Counts) -> [bool; WORDS]
     ensures { result ≡ chip_rooms (counts_in held) }
 {
@@ -78,8 +73,7 @@ pub fn rooms(held: Counts) -> [bool; WORDS]
 fn clear_of_fixes(f: Fix, fixes: [Fix; Fix::COUNT], k: usize) -> bool
     ensures { result ≡ clear_of 0 (box_of f) (map box_of (take k fixes)) }
 {
-    let others = geometry::boxes_of(fixes);
-    geometry::clear_of(geometry::box_of(f), others, k, 0)
+    geometry::clear_of(geometry::box_of(f), geometry::boxes_of(fixes), k, 0)
 }
 
 // The fault of a fix beside the first k fixes, or 0: it leaves the die 9, overlaps one of them 10.

@@ -20,22 +20,6 @@ use Rattle.text_grammar.specs.Reading.{Last}
 use Rattle.chip_text.specs.Tests.{chip_following, chip_rooms}
 use Rattle.chip_words.specs.Meant.{chip_spellings, chip_tests}
 
-pub all_spelled : (z a b c e f g : Spelling) → z ≡ spelled [] → a ≡ spelled (spell word.Die) → b ≡ spelled (spell word.Fix) → c ≡ spelled (spell word.Mac) → e ≡ spelled (spell word.Net) → f ≡ spelled (spell word.Pin) → g ≡ spelled (spell word.End) → (a ∷ b ∷ c ∷ e ∷ f ∷ g ∷ z ∷ z ∷ []) ≡ chip_spellings
-all_spelled z a b c e f g ez ea eb ec ee ef eg = rw (ez, ea, eb, ec, ee, ef, eg)
-
-pub all_tests : (l : Last ChipWord) (c : Counts) (f : Following) (rs : List Bool) → f ≡ chip_following l → rs ≡ chip_rooms c → record { placed = f.placed; room = rs; pinned = f.pinned } ≡ chip_tests l c
-all_tests l c f rs ef er = rw (ef, er)
-
--- past the last word stands the first
-pub past_last : (i : ℕ) → 6 ≤ i → word.Die ≡ get_or chip_words.all i word.Die
-past_last zero h = absurd (omega arith)
-past_last (suc zero) h = absurd (omega arith)
-past_last (suc (suc zero)) h = absurd (omega arith)
-past_last (suc (suc (suc zero))) h = absurd (omega arith)
-past_last (suc (suc (suc (suc zero)))) h = absurd (omega arith)
-past_last (suc (suc (suc (suc (suc zero))))) h = absurd (omega arith)
-past_last (suc (suc (suc (suc (suc (suc i)))))) h = refl
-
 pub table_of : (ps : List Spelling) → ps ≡ chip_spellings → TableOf chip_kind word.Die ps 6
 table_of ps e = rw e (record { spells = refl })
 

@@ -14,16 +14,6 @@ use Rattle.chip_text.specs.Words.{spell, form}
 
 -- ---- a word that is x
 
-module _ (x w : ChipWord) (e : w ≡ x) where
-  pub spelled_as : spelled (spell x) ≡ spelled (spell w)
-  spelled_as = rw e
-
-  pub laid_as : (r : Layout) → r ≡ layout_for (form x) → r ≡ layout_for (form w)
-  laid_as r q = rw e q
-
-pub net_laid : (w : ChipWord) → w ≡ word.Net → (a : Rule) (r : Layout) → a ≡ short_rule 119 0 1 1000 → r ≡ laid_out (a ∷ []) → r ≡ layout_for (form w)
-net_laid w e a r p q = q ∙ rw (p, e)
-
 -- ---- the layout of a word is its form, within the limits
 
 form_of_law : (w : ChipWord) → form_of (layout_for (form w)).rules ≡ form w

@@ -8,7 +8,7 @@ ghost use Rattle.chip_text.specs.Words.{spell, form, chip_words};
 ghost use Rattle.chip_text.specs.Tests.{last_of, counts_in};
 ghost use Rattle.chip_words.specs.Meant.{chip_spellings, chip_tests};
 
-use chip_text::{ChipLast, ChipWord, Counts};
+use chip_text::{ChipWord, Counts};
 use model::{Die, Fix, Mac, Net, Pin};
 use text_grammar::WORDS;
 use text_line::{Layout, Spelling};
@@ -78,10 +78,7 @@ pub fn word_at(i: usize) -> ChipWord
         ChipWord::Pin,
         ChipWord::End,
     ];
-    if COUNT <= i {
-        return ChipWord::Die;
-    }
-    all[i]
+    all.get(i).copied().unwrap_or(ChipWord::Die)
 }
 
 // The fields of a line of two sides.
@@ -142,7 +139,7 @@ pub fn layout_of(w: ChipWord) -> Layout
 }
 
 // The tests before the fields of a line, by word.
-pub fn entry_tests(last: ChipLast, held: Counts) -> Tests
+pub fn entry_tests(last: Option<ChipWord>, held: Counts) -> Tests
     ensures { result ≡ chip_tests (last_of last) (counts_in held) }
 {
     let after = chip_text::following(last);

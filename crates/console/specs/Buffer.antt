@@ -1,15 +1,14 @@
 -- What was written into a buffer, for a function that writes it out.
-use Rattle.std.specs.Prelude.{List, [], ℕ, take}
+use Rattle.model.specs.declared.Refusal.{Refusal}
+use Rattle.std.specs.Prelude.{List, [], ℕ, take, Ok, Err, Result}
 use Rattle.io.specs.Counts.{IsPrefixLen}
-use Rattle.model.specs.declared.WriteAnswer.{WriteAnswer}
-use Rattle.model.specs.declared.WriteAnswer.TheVariants as write
 
 -- the answer is a text, which stands in the first bytes of the buffer
-abbrev pub InBuffer : WriteAnswer → List ℕ → Type 0
-InBuffer (write.Text n) b = IsPrefixLen n b
-InBuffer (write.Refused f) b = ⊥
+abbrev pub InBuffer : Result ℕ Refusal → List ℕ → Type 0
+InBuffer (Ok n) b = IsPrefixLen n b
+InBuffer (Err f) b = ⊥
 
 -- that text; a refusal wrote nothing
-abbrev pub text_in : WriteAnswer → List ℕ → List ℕ
-text_in (write.Text n) b = take n b
-text_in (write.Refused f) b = []
+abbrev pub text_in : Result ℕ Refusal → List ℕ → List ℕ
+text_in (Ok n) b = take n b
+text_in (Err f) b = []

@@ -5,7 +5,7 @@ ghost use Rattle.io.specs.Counts.{IsPrefixLen};
 ghost use Rattle.console.specs.Buffer.{InBuffer, text_in};
 
 use crate::tell::{Told, tell, tell_use};
-use model::WriteAnswer;
+use model::Refusal;
 use std::env::FillError;
 use std::io::{Error, ErrorKind, Read, Write};
 use std::rt::{Env, Files};
@@ -109,13 +109,17 @@ fn write_out<W: Write>(to: &mut W, text: &[u8]) -> io::Result<()>
 }
 
 // Writes the text that stands in a buffer.
-pub(crate) fn write_answer<W: Write>(to: &mut W, answer: WriteAnswer, out: &[u8]) -> io::Result<()>
+pub(crate) fn write_answer<W: Write>(
+    to: &mut W,
+    answer: Result<usize, Refusal>,
+    out: &[u8],
+) -> io::Result<()>
     requires { InBuffer answer out.now }
     ensures { OnOk result (Appends (W.contents to.old) (W.contents to.new) (text_in answer out.now)) }
 {
     match answer {
-        WriteAnswer::Text(n) => write_out(to, &out[..n]),
-        WriteAnswer::Refused(_) => unreachable!(),
+        Ok(n) => write_out(to, &out[..n]),
+        Err(_) => unreachable!(),
     }
 }
 

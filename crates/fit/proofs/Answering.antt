@@ -1,4 +1,5 @@
 -- From the tests before the fit and the two directions to the answer, in the form of the needs.
+use Rattle.std.specs.Prelude.{Result, Ok, Err, Option, Some, None}
 use Prim.Native.Nat.{ℕ, ◌+◌, ◌≤◌}
 use mathlib.Core.Path.{◌≡◌, refl, sym, ap, subst, ◌∙◌}
 use mathlib.Core.Bool.{Bool, true, false, not, true≢false, false≢true}
@@ -22,11 +23,8 @@ use Rattle.fit_pairs.specs.Count.{letter_total}
 use Rattle.fit_pairs.proofs.Counts.{chip_letters, chip_few}
 use Rattle.fit_axes.specs.Axes.{SolvedBy, Directed, Solves}
 use Rattle.fit_lists.specs.Lists.{is_solved, slots_put}
-use Rattle.fit_tests.specs.declared.Entry.{Entry}
-use Rattle.fit_tests.specs.declared.Entry.TheVariants as entry
 use Rattle.fit_tests.specs.Entry.{Asking, fitting, Ready, Entered}
 use Rattle.fit.specs.declared.FitAnswer.{FitAnswer}
-use Rattle.fit.specs.declared.FitOutcome.TheVariants as outcome
 use Rattle.fit.specs.Answer.{answer_for}
 use Rattle.fit.specs.Results.{Second, Answered}
 use Rattle.fit.proofs.Asked.{taken, no_fitting}
@@ -40,7 +38,7 @@ module _ (c : HeldChip) (s : List ℕ) (d : Direction) (at f : List ℕ) where
   solved_by verdict.Unsolvable told e = absurd (true≢false e)
   solved_by verdict.Malformed told e = absurd told
 
-  no_fit_law : (m : ℕ) → Asking c s m → (v : Verdict) → Directed c s d v at f → false ≡ is_solved v → record { outcome = outcome.NoFit; spots = filled most_macs blank_spot [] } ≡ answer_for (fitting c s)
+  no_fit_law : (m : ℕ) → Asking c s m → (v : Verdict) → Directed c s d v at f → false ≡ is_solved v → record { outcome = Ok None; spots = filled most_macs blank_spot [] } ≡ answer_for (fitting c s)
   no_fit_law m ask verdict.Solved told e = absurd (false≢true e)
   no_fit_law m ask verdict.Unsolvable told e = ap answer_for (sym (no_fitting c s m ask d f told))
   no_fit_law m ask verdict.Malformed told e = absurd told
@@ -49,7 +47,7 @@ module _ (c : HeldChip) (s : List ℕ) (d : Direction) (at f : List ℕ) where
     pub has_coordinates : not b ≡ false → SolvedBy c s d at f
     has_coordinates h = solved_by v told (sym (not-false b h) ∙ e)
 
-    pub no_coordinates : (m : ℕ) → Asking c s m → not b ≡ true → (r : FitAnswer) → r ≡ record { outcome = outcome.NoFit; spots = filled most_macs blank_spot [] } → r ≡ answer_for (fitting c s)
+    pub no_coordinates : (m : ℕ) → Asking c s m → not b ≡ true → (r : FitAnswer) → r ≡ record { outcome = Ok None; spots = filled most_macs blank_spot [] } → r ≡ answer_for (fitting c s)
     no_coordinates m ask h r q = q ∙ no_fit_law m ask v told (sym (not-true b h) ∙ e)
 
 -- ---- the vertical direction beside the horizontal one
@@ -68,7 +66,7 @@ module _ (c : HeldChip) (s : List ℕ) (v : Verdict) (b : Bool) (e : b ≡ is_so
     pub second_coordinates : not k ≡ false → SolvedBy c s vertical at f
     second_coordinates i = has_coordinates c s vertical at f w told k g i
 
-    pub no_second : not k ≡ true → (r : FitAnswer) → r ≡ record { outcome = outcome.NoFit; spots = filled most_macs blank_spot [] } → r ≡ answer_for (fitting c s)
+    pub no_second : not k ≡ true → (r : FitAnswer) → r ≡ record { outcome = Ok None; spots = filled most_macs blank_spot [] } → r ≡ answer_for (fitting c s)
     no_second i r q = no_coordinates c s vertical at f w told k g m ask i r q
 
 -- ---- a chip and one letter for each pair
@@ -135,28 +133,28 @@ module _ (c : HeldChip) (s : List ℕ) (room m : ℕ) (ready : Ready c s room m)
 
 -- ---- the tests before the fit
 
-module _ (c : HeldChip) (s : List ℕ) (room : ℕ) (e : Entry) (told : Entered c s room e) where
+module _ (c : HeldChip) (s : List ℕ) (room : ℕ) (e : Result ℕ Refusal) (told : Entered c s room e) where
   abbrev F : Fit
   F = fit_letters (chip_of c) s room
 
   abbrev its : List ℕ
   its = string_for (chip_of c) s
 
-  pub entry_ready : (m : ℕ) → e ≡ entry.Slots m → Ready c s room m
+  pub entry_ready : (m : ℕ) → e ≡ Ok m → Ready c s room m
   entry_ready m q = subst (Entered c s room) q told
 
-  module _ (m : ℕ) (q : e ≡ entry.Slots m) (r : FitAnswer) (before after : List ℕ) (a : Answered c its (fitting c its) r before after) where
+  module _ (m : ℕ) (q : e ≡ Ok m) (r : FitAnswer) (before after : List ℕ) (a : Answered c its (fitting c its) r before after) where
     pub ready_answer : r ≡ answer_for F
     ready_answer = a.answer ∙ ap answer_for (sym (entry_ready m q).fits)
 
     pub ready_list : Filled (chip_of c) its F before after
     ready_list = subst (λ (f : Fit). Filled (chip_of c) its f before after) (sym (entry_ready m q).fits) a.list
 
-  module _ (f : Refusal) (q : e ≡ entry.Refused f) where
+  module _ (f : Refusal) (q : e ≡ Err f) where
     is_refused : F ≡ refused_by f.no f.line
     is_refused = subst (Entered c s room) q told
 
-    pub refused_answer : (r : FitAnswer) → r ≡ record { outcome = outcome.Refused f; spots = filled most_macs blank_spot [] } → r ≡ answer_for F
+    pub refused_answer : (r : FitAnswer) → r ≡ record { outcome = Err f; spots = filled most_macs blank_spot [] } → r ≡ answer_for F
     refused_answer r o = o ∙ ap answer_for (sym is_refused)
 
     pub refused_list : (list : List ℕ) → Filled (chip_of c) its F list list

@@ -1,4 +1,5 @@
 -- The program's answer for a fit, read back: which fit it stands for, and its positions.
+use Rattle.std.specs.Prelude.{Result, Ok, Err, Option, Some, None}
 use Prim.Native.Nat.{ℕ, ◌-◌, ◌≤◌}
 use mathlib.Core.Path.{◌≡◌, refl, sym, ap, ◌∙◌}
 use mathlib.Core.List.{List}
@@ -12,8 +13,6 @@ use Rattle.model.specs.Limits.{most_macs}
 use Rattle.model.specs.Held.{filled}
 use Rattle.fit_slots.specs.Fit.{Fit, refused_by, no_fit, placed}
 use Rattle.fit.specs.declared.Fitted.{Fitted}
-use Rattle.fit.specs.declared.FitOutcome.{FitOutcome}
-use Rattle.fit.specs.declared.FitOutcome.TheVariants as outcome
 use Rattle.fit.specs.Answer.{outcome_of, positions_of}
 
 -- at most 8 positions, and 0,0 up to 8
@@ -24,25 +23,25 @@ pub take_filled : (n : ℕ) (ps : List Spot) → length ps ≡ n → take n (fil
 take_filled n ps e = take_at ps (replicate (8 - length ps) blank_spot) n e
 
 -- the fit of an answer
-abbrev pub fit_for : FitOutcome → List Spot → Fit
-fit_for (outcome.Placed f) ps = placed f.length f.slots ps
-fit_for outcome.NoFit ps = no_fit
-fit_for (outcome.Refused f) ps = refused_by f.no f.line
+abbrev pub fit_for : Result (Option Fitted) Refusal → List Spot → Fit
+fit_for (Ok (Some f)) ps = placed f.length f.slots ps
+fit_for (Ok None) ps = no_fit
+fit_for (Err f) ps = refused_by f.no f.line
 
 fit_of_law : (f : Fit) → fit_for (outcome_of f) (positions_of f) ≡ f
 fit_of_law (refused_by number line) = refl
 fit_of_law no_fit = refl
 fit_of_law (placed l count ps) = refl
 
-module _ (o : FitOutcome) (f : Fit) (e : o ≡ outcome_of f) where
+module _ (o : Result (Option Fitted) Refusal) (f : Fit) (e : o ≡ outcome_of f) where
   is : f ≡ fit_for o (positions_of f)
-  is = sym (fit_of_law f) ∙ ap (λ (t : FitOutcome). fit_for t (positions_of f)) (sym e)
+  is = sym (fit_of_law f) ∙ ap (λ (t : Result (Option Fitted) Refusal). fit_for t (positions_of f)) (sym e)
 
-  pub is_placed : (g : Fitted) → o ≡ outcome.Placed g → f ≡ placed g.length g.slots (positions_of f)
-  is_placed g q = is ∙ ap (λ (t : FitOutcome). fit_for t (positions_of f)) q
+  pub is_placed : (g : Fitted) → o ≡ Ok (Some g) → f ≡ placed g.length g.slots (positions_of f)
+  is_placed g q = is ∙ ap (λ (t : Result (Option Fitted) Refusal). fit_for t (positions_of f)) q
 
-  pub is_none : o ≡ outcome.NoFit → f ≡ no_fit
-  is_none q = is ∙ ap (λ (t : FitOutcome). fit_for t (positions_of f)) q
+  pub is_none : o ≡ Ok None → f ≡ no_fit
+  is_none q = is ∙ ap (λ (t : Result (Option Fitted) Refusal). fit_for t (positions_of f)) q
 
-  pub is_refused : (g : Refusal) → o ≡ outcome.Refused g → f ≡ refused_by g.no g.line
-  is_refused g q = is ∙ ap (λ (t : FitOutcome). fit_for t (positions_of f)) q
+  pub is_refused : (g : Refusal) → o ≡ Err g → f ≡ refused_by g.no g.line
+  is_refused g q = is ∙ ap (λ (t : Result (Option Fitted) Refusal). fit_for t (positions_of f)) q

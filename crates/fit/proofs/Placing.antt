@@ -1,4 +1,5 @@
 -- Both directions solved: their coordinates are the fit, and its measured length is the answer's.
+use Rattle.std.specs.Prelude.{Result, Ok, Err, Option, Some, None}
 use Prim.Native.Nat.{ℕ, ◌+◌, ◌-◌, ◌≤◌, ◌<◌}
 use mathlib.Core.Path.{◌≡◌, sym, ap, subst, ◌∙◌}
 use mathlib.Core.Bool.{true}
@@ -39,7 +40,6 @@ use Rattle.fit_axes.specs.Axes.{SolvedBy}
 use Rattle.model.specs.Corners.{spots_of}
 use Rattle.model.proofs.Corners.{spots_length, take_spots, spots_x, spots_y}
 use Rattle.fit_tests.specs.Entry.{Asking, fitting}
-use Rattle.fit.specs.declared.FitOutcome.TheVariants as outcome
 use Rattle.fit.specs.Answer.{answer_for}
 use Rattle.fit.proofs.Asked.{el}
 use Rattle.fit.proofs.Corners.{past, spots_in_range, spots_padded}
@@ -133,7 +133,7 @@ module _ (c : HeldChip) (s : List ℕ) (m : ℕ) (ask : Asking c s m) (ax ay fx 
       ∙ ap (λ (k : ℕ). ps ++ replicate k blank_spot) (let e = long_ps in let l = wx in let f = ask.passed.macs in let q : length ax - c.n ≡ 8 - length ps = omega arith in q)
 
   -- from the measured length
-  pub placed_answer : (those : List Spot) → those ≡ spots → (l : ℕ) → l ≡ length_in (measure_positions C (first_of blank_spot c.n those)) → record { outcome = outcome.Placed (record { length = l; slots = m + m }); spots = those } ≡ answer_for (fitting c s)
+  pub placed_answer : (those : List Spot) → those ≡ spots → (l : ℕ) → l ≡ length_in (measure_positions C (first_of blank_spot c.n those)) → record { outcome = Ok (Some (record { length = l; slots = m + m })); spots = those } ≡ answer_for (fitting c s)
   placed_answer those es l e =
       let w : l ≡ wirelength C ps = e ∙ ap (λ (t : List Spot). length_in (measure_positions C (first_of blank_spot c.n t))) es ∙ ap length_in is_measured in
       rw (w, ask.slots.both, es, filled_spots, the_fitting)

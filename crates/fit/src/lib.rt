@@ -16,7 +16,6 @@ use fit_axes::solve_on;
 use fit_lists::{is_solved, put_slots, spots_at};
 use fit_pairs::{all_dots, letter_count};
 use fit_slots::Direction;
-use fit_tests::Entry;
 use model::{Chip, Mac, Refusal, Spot};
 
 // The wirelength of the placement, and the number of slots that its flow takes.
@@ -26,23 +25,16 @@ pub struct Fitted {
     pub slots: usize,
 }
 
-// A placement with its length, no fit, or the refusal.
-#[derive(Clone, Copy)]
-pub enum FitOutcome {
-    Placed(Fitted),
-    NoFit,
-    Refused(Refusal),
-}
-
-// What a fit answers; the positions beside it are 0,0 past the macros, and 0,0 everywhere without a placement.
+// What a fit answers: a placement with its length, no fit, or the refusal; the positions beside it are 0,0 past the macros, and 0,0 everywhere without a
+// placement.
 #[derive(Clone, Copy)]
 pub struct FitAnswer {
-    pub outcome: FitOutcome,
+    pub outcome: Result<Option<Fitted>, Refusal>,
     pub spots: [Spot; Mac::COUNT],
 }
 
 // An answer without positions.
-fn bare(outcome: FitOutcome) -> FitAnswer
+fn bare(outcome: Result<Option<Fitted>, Refusal>) -> FitAnswer
     ensures { result ≡ record { outcome = outcome; spots = filled most_macs blank_spot [] } }
 {
     FitAnswer {
@@ -63,10 +55,10 @@ fn placed(c: Chip, letters: &[u8], a: Solution, b: Solution, m: usize) -> FitAns
     let spots = spots_at(xs, ys);
     let length = measure::length_at(c, spots);
     FitAnswer {
-        outcome: FitOutcome::Placed(Fitted {
+        outcome: Ok(Some(Fitted {
             length,
             slots: m + m,
-        }),
+        })),
         spots,
     }
 }
@@ -78,13 +70,11 @@ fn answer_of(c: Chip, letters: &[u8], a: Solution, b: Solution, m: usize) -> Fit
     requires second { Second c letters.now a.verdict b.verdict b.at b.amounts }
     ensures { result ≡ answer_for (fitting c letters.now) }
 {
-    let v = a.verdict;
-    if !is_solved(v) {
-        return bare(FitOutcome::NoFit);
+    if !is_solved(a.verdict) {
+        return bare(Ok(None));
     }
-    let w = b.verdict;
-    if !is_solved(w) {
-        return bare(FitOutcome::NoFit);
+    if !is_solved(b.verdict) {
+        return bare(Ok(None));
     }
     placed(c, letters, a, b, m)
 }
@@ -93,8 +83,7 @@ fn answer_of(c: Chip, letters: &[u8], a: Solution, b: Solution, m: usize) -> Fit
 fn second(c: Chip, letters: &[u8], a: Solution) -> Solution
     ensures { Second c letters.now a.verdict result.verdict result.at result.amounts }
 {
-    let v = a.verdict;
-    if !is_solved(v) {
+    if !is_solved(a.verdict) {
         return a;
     }
     solve_on(c, letters, Direction::Vertical)
@@ -130,9 +119,8 @@ pub fn fit_letters(c: Chip, letters: &[u8], flow: &mut [u16]) -> FitAnswer
     ensures value { result ≡ answer_for (fit_letters (chip_of c) letters.now (length flow.old)) }
     ensures filled { Filled (chip_of c) (string_for (chip_of c) letters.now) (fit_letters (chip_of c) letters.now (length flow.old)) flow.old flow.new }
 {
-    let entry = fit_tests::test_letters(c, letters, flow.len());
-    match entry {
-        Entry::Refused(f) => bare(FitOutcome::Refused(f)),
-        Entry::Slots(m) => fit_ready(c, letters, m, flow),
+    match fit_tests::test_letters(c, letters, flow.len()) {
+        Ok(m) => fit_ready(c, letters, m, flow),
+        Err(f) => bare(Err(f)),
     }
 }

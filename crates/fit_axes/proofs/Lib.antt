@@ -3,3 +3,4 @@ pub mod Taken
 pub mod Pairing
 pub mod MadeAxes
 pub mod Directions
+pub mod Mapped

@@ -1,5 +1,5 @@
 -- The slots of the pairs, written one letter after the other: those written, then those of the letters and the pairs that are left, are the slots of all letters and all pairs.
-use Prim.Native.Nat.{ℕ, suc, ◌+◌, ◌≤◌, ◌<◌}
+use Prim.Native.Nat.{ℕ, suc, ◌+◌, ◌≤◌, ◌<◌, min}
 use mathlib.Core.Path.{◌≡◌, sym, ap, ◌∙◌}
 use mathlib.Core.List.{List, [], ◌∷◌, ◌++◌, append_assoc, append-nil}
 use native.Mathlib.Numerals.{add-one}
@@ -93,7 +93,6 @@ module _ (c : HeldChip) (s : List ℕ) (d : Direction) where
       pub slot_written : (a : Asked) (x : Slot) (r : Cursor) (b : Blocks) → b ≡ blocks_of c → a ≡ asked d (letter_of (get_or s i 0)) → x ≡ slot_read d a b at.fix at.i at.j → r ≡ next_of at c.n c.k → Writing (set pairs i x) r (i + 1)
       slot_written a x r b eb ea ex er = record { long = length-set pairs i x ∙ w.long; written = λ t. one_written t a x r ea (ex ∙ rw eb) er }
 
-    -- the letters are over
     done : Taken c s → i ≤ length s → length s ≤ i → take (length s) pairs ≡ held_slots d (letters_of s) (couples_of ms fs)
     unfolding held_slots
     done t a b =
@@ -102,9 +101,6 @@ module _ (c : HeldChip) (s : List ℕ) (d : Direction) where
         ∙ ap (λ (u : List ℕ). take (length s) pairs ++ held_slots d (letters_of u) (rest_from ms fs at)) (sym (drop-length s))
         ∙ (rw e at (w.written t).slots)
 
-    pub all_written : i ≤ length s → length s ≤ i → PairsMade c s d pairs
-    all_written a b = record { made = λ t. done t a b ∙ ap (held_slots d (letters_of s)) (couples_same c s t) }
-
-    -- or the room is, which is enough for the letters
-    pub room_written : i ≤ length s → 120 ≤ i → PairsMade c s d pairs
-    room_written a b = record { made = λ t. let l = few_letters c s t in done t a (omega arith) ∙ ap (held_slots d (letters_of s)) (couples_same c s t) }
+    -- the letters are over: there is room for them all
+    pub all_written : i ≤ length s → min (length s) 120 ≤ i → PairsMade c s d pairs
+    all_written a b = record { made = λ t. let l = few_letters c s t in done t a (omega arith) ∙ ap (held_slots d (letters_of s)) (couples_same c s t) }

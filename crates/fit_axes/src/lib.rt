@@ -5,88 +5,81 @@ mod pairlist;
 
 ghost use Rattle.std.specs.Prelude.{◌≡◌, map};
 ghost use Rattle.fit_slots.specs.Slots.{mac_side};
-ghost use Rattle.fit_axes.specs.Axes.{held_up, held_pin, held_net, AxisMade, Solves};
+ghost use Rattle.fit_axes.specs.Axes.{held_pin, held_net, AxisMade, Solves};
 
 use crate::pairlist::pair_slots;
 use axis_bounds::{Axis, AxisNet, AxisPin};
 use axis_graph::Solution;
-use fit_pair_slots::{die_side, mac_side};
+use fit_pair_slots::die_side;
 use fit_slots::Direction;
 use model::{Chip, Mac, Net, Pin};
 
-// A pin's place, 4,096 higher.
-fn pin_up(p: Pin, d: Direction) -> u64
-    ensures { result ≡ held_up d p }
+// A pin with its x, and one with its y, 4,096 higher.
+fn pin_across(p: Pin) -> AxisPin
+    ensures { result ≡ held_pin Direction.Horizontal p }
 {
-    match d {
-        Direction::Horizontal => p.xup,
-        Direction::Vertical => p.yup,
+    AxisPin {
+        node: p.m,
+        up: p.xup,
+    }
+}
+
+fn pin_up(p: Pin) -> AxisPin
+    ensures { result ≡ held_pin Direction.Vertical p }
+{
+    AxisPin {
+        node: p.m,
+        up: p.yup,
     }
 }
 
 fn mac_sides(macs: [Mac; Mac::COUNT], d: Direction) -> [u64; Mac::COUNT]
     ensures { result ≡ map (mac_side d) macs }
 {
-    let mut sizes = [0u64; Mac::COUNT];
-    let mut i: usize = 0;
-    while i < Mac::COUNT {
-        let m = macs[i];
-        sizes[i] = mac_side(m, d);
-        i += 1;
+    match d {
+        Direction::Horizontal => macs.map(|m| m.w),
+        Direction::Vertical => macs.map(|m| m.h),
     }
-    sizes
 }
 
 fn axis_pins(pins: [Pin; Pin::COUNT], d: Direction) -> [AxisPin; Axis::PINS]
     ensures { result ≡ map (held_pin d) pins }
 {
-    let mut on = [AxisPin { node: 0, up: 0 }; Axis::PINS];
-    let mut i: usize = 0;
-    while i < Pin::COUNT {
-        let p = pins[i];
-        on[i] = AxisPin {
-            node: p.m,
-            up: pin_up(p, d),
-        };
-        i += 1;
+    match d {
+        Direction::Horizontal => pins.map(pin_across),
+        Direction::Vertical => pins.map(pin_up),
     }
-    on
+}
+
+fn net_on(net: Net) -> AxisNet
+    ensures { result ≡ held_net net }
+{
+    AxisNet {
+        weight: net.weight,
+        pins: net.pins,
+    }
 }
 
 fn axis_nets(nets: [Net; Net::COUNT]) -> [AxisNet; Axis::NETS]
     ensures { result ≡ map held_net nets }
 {
-    let mut on = [AxisNet { weight: 0, pins: 0 }; Axis::NETS];
-    let mut j: usize = 0;
-    while j < Net::COUNT {
-        let net = nets[j];
-        on[j] = AxisNet {
-            weight: net.weight,
-            pins: net.pins,
-        };
-        j += 1;
-    }
-    on
+    nets.map(net_on)
 }
 
 // The axis of a direction; letters past its room are none of its pairs.
 fn axis_of(c: Chip, letters: &[u8], d: Direction) -> Axis
     ensures { AxisMade c letters.now d result }
 {
-    let die = c.die;
-    let macs = c.macs;
-    let nets = c.nets;
-    let pins = c.pins;
     Axis {
-        side: die_side(die, d),
+        side: die_side(c.die, d),
         n: c.n,
-        sizes: mac_sides(macs, d),
+        sizes: mac_sides(c.macs, d),
         p: letters.len(),
         pairs: pair_slots(c, letters, d),
         base: Pin::UP,
         t: c.t,
-        nets: axis_nets(nets),
-        pins: axis_pins(pins, d),
+        nets: axis_nets(c.nets),
+        pins: axis_pins(c.pins, d),
     }
 }
 

@@ -28,12 +28,10 @@ fn is_letter(b: u8) -> bool
 fn are_letters(letters: &[u8]) -> bool
     ensures { result ≡ are_letters letters.now }
 {
-    let mut i: usize = 0;
-    while i < letters.len() {
+    for i in 0..letters.len() {
         if !is_letter(letters[i]) {
             return false;
         }
-        i += 1;
     }
     true
 }

@@ -13,31 +13,21 @@ use model::{Mac, Spot};
 pub fn is_solved(v: Verdict) -> bool
     ensures { result ≡ is_solved v }
 {
-    match v {
-        Verdict::Solved => true,
-        Verdict::Unsolvable => false,
-        Verdict::Malformed => false,
-    }
+    matches!(v, Verdict::Solved)
 }
 
 // Whether the horizontal amounts are put, v and w being the verdicts of the directions: not beside a chain of the vertical one.
 fn shows_across(v: Verdict, w: Verdict) -> bool
     ensures { result ≡ shows_across v w }
 {
-    if !is_solved(v) {
-        return true;
-    }
-    is_solved(w)
+    !is_solved(v) || is_solved(w)
 }
 
 // The amounts, or amounts of 0.
 fn amounts_if(yes: bool, amounts: [u64; SLOT_ROOM]) -> [u64; SLOT_ROOM]
     ensures { result ≡ shown yes amounts }
 {
-    if yes {
-        return amounts;
-    }
-    [0u64; SLOT_ROOM]
+    if yes { amounts } else { [0; SLOT_ROOM] }
 }
 
 // The first m amounts into the list from place `at` on.
@@ -46,10 +36,8 @@ fn put_amounts(flow: &mut [u16], at: usize, amounts: [u64; SLOT_ROOM], m: usize)
     requires m_in_bounds { at + m ≤ length flow.old }
     ensures { flow.new ≡ sets flow.old at (take m (map low16 amounts)) }
 {
-    let mut i: usize = 0;
-    while i < m {
+    for i in 0..m {
         flow[at + i] = (amounts[i] % 65536) as u16;
-        i += 1;
     }
 }
 
@@ -68,19 +56,11 @@ fn put_both(flow: &mut [u16], across: [u64; SLOT_ROOM], up: [u64; SLOT_ROOM], m:
 pub fn put_slots(flow: &mut [u16], a: Solution, b: Solution, m: usize)
     ensures { flow.new ≡ slots_put m a.verdict a.amounts b.verdict b.amounts flow.old }
 {
-    if SLOT_ROOM < m {
-        return;
+    if m <= SLOT_ROOM && m + m <= flow.len() {
+        let across = amounts_if(shows_across(a.verdict, b.verdict), a.amounts);
+        let up = amounts_if(is_solved(a.verdict), b.amounts);
+        put_both(flow, across, up, m);
     }
-    if flow.len() < m + m {
-        return;
-    }
-    let v = a.verdict;
-    let w = b.verdict;
-    let f = a.amounts;
-    let g = b.amounts;
-    let across = amounts_if(shows_across(v, w), f);
-    let up = amounts_if(is_solved(v), g);
-    put_both(flow, across, up, m);
 }
 
 // The corners from their coordinates.
@@ -88,10 +68,8 @@ pub fn spots_at(xs: [u64; Mac::COUNT], ys: [u64; Mac::COUNT]) -> [Spot; Mac::COU
     ensures { result ≡ spots_of xs ys }
 {
     let mut spots = [Spot { x: 0, y: 0 }; Mac::COUNT];
-    let mut i: usize = 0;
-    while i < Mac::COUNT {
+    for i in 0..Mac::COUNT {
         spots[i] = Spot { x: xs[i], y: ys[i] };
-        i += 1;
     }
     spots
 }

@@ -1,31 +1,21 @@
 -- The slot of a pair that is on the arrays is read as it stands.
-use Prim.Native.Nat.{ℕ, ◌+◌, ◌%◌}
-use mathlib.Core.Path.{◌≡◌, refl, ◌∙◌}
+use Prim.Native.Nat.{◌%◌}
+use mathlib.Core.Path.{◌≡◌, refl}
 use mathlib.Core.Bool.{Bool, true, false}
 use native.Mathlib.Omega.{arith}
 use lib.ListN.{get_or}
 use Rattle.model.specs.declared.Fix.{Fix}
 use Rattle.model.specs.declared.Blocks.{Blocks}
-use Rattle.model.specs.Meaning.{blank_fix, blank_mac}
+use Rattle.model.specs.Meaning.{blank_fix}
 use Rattle.chip_text.specs.Valid.{ValidFix}
-use Rattle.axis_bounds.specs.declared.Slot.{Slot}
 use Rattle.fit_slots.specs.declared.Direction.{Direction}
 use Rattle.fit_slots.specs.declared.Direction.TheVariants.{Horizontal as horizontal, Vertical as vertical}
 use Rattle.fit_slots.specs.declared.Asked.{Asked}
-use Rattle.fit_slots.specs.Slots.{mac_side, fix_side, fix_corner}
-use Rattle.fit_slots.specs.Axes.{mac_pair, fix_pair, held_slot}
+use Rattle.fit_slots.specs.Slots.{fix_side, fix_corner}
+use Rattle.fit_slots.specs.Axes.{held_slot}
 use Rattle.fit_pairs.specs.declared.Cursor.{Cursor}
 use Rattle.fit_pairs.specs.Order.{couple_at, pair_at}
 use Rattle.fit_pair_slots.specs.Letters.{slot_read, Reached}
-
--- the code's way of reading
-
-module _ (d : Direction) (k : Asked) (b : Blocks) (f : Bool) (i j : ℕ) (r : Slot) (w : ℕ) (ew : w ≡ mac_side d (get_or b.macs (i % 8) blank_mac)) where
-  pub fix_read : (x v : ℕ) → x ≡ fix_corner d (get_or b.fixes (j % 8) blank_fix) → v ≡ fix_side d (get_or b.fixes (j % 8) blank_fix) → f ≡ true → r ≡ fix_pair k (i % 8 + 1) w (x % 65536) (v % 65536) → r ≡ slot_read d k b f i j
-  fix_read x v ex ev q e = e ∙ rw (ew, ex, ev, q)
-
-  pub mac_read : (v : ℕ) → v ≡ mac_side d (get_or b.macs (j % 8) blank_mac) → f ≡ false → r ≡ mac_pair k (i % 8 + 1) w (j % 8 + 1) v → r ≡ slot_read d k b f i j
-  mac_read v ev q e = e ∙ rw (ew, ev, q)
 
 corner_small : (d : Direction) (f : Fix) → ValidFix f → fix_corner d f % 65536 ≡ fix_corner d f
 corner_small horizontal f v = let a = v.x in omega arith

@@ -1,4 +1,4 @@
--- The letters of a direction, and the slot of a pair as it is read from arrays.
+-- The slot of a pair as it is read from arrays.
 use Rattle.std.specs.Prelude.{ℕ, ◌+◌, ◌%◌, ◌<◌, ◌≡◌, Bool, true, false, List, get_or}
 use Rattle.model.specs.declared.Fix.{Fix}
 use Rattle.model.specs.declared.Blocks.{Blocks}
@@ -6,20 +6,10 @@ use Rattle.model.specs.Meaning.{blank_fix, blank_mac}
 use Rattle.chip_text.specs.Valid.{ValidFix}
 use Rattle.axis_bounds.specs.declared.Slot.{Slot}
 use Rattle.fit_slots.specs.declared.Direction.{Direction}
-use Rattle.fit_slots.specs.declared.Direction.TheVariants.{Horizontal as horizontal, Vertical as vertical}
 use Rattle.fit_slots.specs.declared.Asked.{Asked}
 use Rattle.fit_slots.specs.Slots.{mac_side, fix_side, fix_corner}
 use Rattle.fit_pairs.specs.declared.Cursor.{Cursor}
 use Rattle.fit_slots.specs.Axes.{mac_pair, fix_pair}
-
--- the letter that asks the first of a pair before the second: L, vertically B; and after it: R, vertically A
-abbrev pub letter_before : Direction → ℕ
-letter_before horizontal = 76
-letter_before vertical = 66
-
-abbrev pub letter_after : Direction → ℕ
-letter_after horizontal = 82
-letter_after vertical = 65
 
 -- the slot of macros i and j, or of macro i and fix j, counted from 0: places are read modulo 8, a fix's numbers modulo 65,536
 abbrev pub slot_read : Direction → Asked → Blocks → Bool → ℕ → ℕ → Slot

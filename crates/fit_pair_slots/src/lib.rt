@@ -2,10 +2,11 @@
 #![tactic(auto)]
 
 ghost use Rattle.std.specs.Prelude.{◌≡◌, ◌<◌};
+ghost use Rattle.axis_bounds.specs.Axis.{no_slot};
 ghost use Rattle.fit_slots.specs.Slots.{die_side, mac_side, fix_side, fix_corner, asked};
 ghost use Rattle.fit_slots.specs.Fit.{letter_of};
 ghost use Rattle.fit_slots.specs.Axes.{mac_pair, fix_pair};
-ghost use Rattle.fit_pair_slots.specs.Letters.{letter_before, letter_after, slot_read};
+ghost use Rattle.fit_pair_slots.specs.Letters.{slot_read};
 
 use axis_bounds::Slot;
 use fit_pairs::Cursor;
@@ -49,37 +50,27 @@ pub fn fix_corner(f: Fix, d: Direction) -> u64
     }
 }
 
-// The letter of the first of a pair before the second: L, or B.
-fn letter_before(d: Direction) -> u8
-    ensures { result ≡ letter_before d }
-{
-    match d {
-        Direction::Horizontal => 76,
-        Direction::Vertical => 66,
-    }
-}
-
-// The letter of the first of a pair after the second: R, or A.
-fn letter_after(d: Direction) -> u8
-    ensures { result ≡ letter_after d }
-{
-    match d {
-        Direction::Horizontal => 82,
-        Direction::Vertical => 65,
-    }
-}
-
-// What a letter asks in a direction.
+// What a letter asks in a direction: L and B the first of a pair before the second, R and A after it.
 pub fn asked_by(letter: u8, d: Direction) -> Asked
     ensures { result ≡ asked d (letter_of letter) }
 {
-    if letter == letter_before(d) {
-        return Asked::Before;
+    match (d, letter) {
+        (Direction::Horizontal, b'L') | (Direction::Vertical, b'B') => Asked::Before,
+        (Direction::Horizontal, b'R') | (Direction::Vertical, b'A') => Asked::After,
+        _ => Asked::Nothing,
     }
-    if letter == letter_after(d) {
-        return Asked::After;
+}
+
+// The slot of a pair of which nothing is asked.
+pub fn no_slot() -> Slot
+    ensures { result ≡ no_slot }
+{
+    Slot {
+        tail: 0,
+        head: 0,
+        plus: 0,
+        minus: 0,
     }
-    Asked::Nothing
 }
 
 // Macros i and j with sizes w and v.
@@ -99,12 +90,7 @@ fn mac_pair(k: Asked, i: usize, w: u64, j: usize, v: u64) -> Slot
             plus: v,
             minus: 0,
         },
-        Asked::Nothing => Slot {
-            tail: 0,
-            head: 0,
-            plus: 0,
-            minus: 0,
-        },
+        Asked::Nothing => no_slot(),
     }
 }
 
@@ -126,12 +112,7 @@ fn fix_pair(k: Asked, i: usize, w: u64, x: u64, v: u64) -> Slot
             plus: x + v,
             minus: 0,
         },
-        Asked::Nothing => Slot {
-            tail: 0,
-            head: 0,
-            plus: 0,
-            minus: 0,
-        },
+        Asked::Nothing => no_slot(),
     }
 }
 
@@ -139,23 +120,19 @@ fn fix_pair(k: Asked, i: usize, w: u64, x: u64, v: u64) -> Slot
 pub fn slot_at(blocks: Blocks, at: Cursor, k: Asked, d: Direction) -> Slot
     ensures { result ≡ slot_read d k blocks at.fix at.i at.j }
 {
-    let macs = blocks.macs;
-    let fix = at.fix;
-    let i = at.i % 8;
-    let j = at.j % 8;
-    let a = macs[i];
-    let w = mac_side(a, d);
-    if fix {
-        let fixes = blocks.fixes;
-        let f = fixes[j];
-        return fix_pair(
+    let i = at.i % Mac::COUNT;
+    let w = mac_side(blocks.macs[i], d);
+    if at.fix {
+        let f = blocks.fixes[at.j % Fix::COUNT];
+        fix_pair(
             k,
             i + 1,
             w,
             fix_corner(f, d) % 65536,
             fix_side(f, d) % 65536,
-        );
+        )
+    } else {
+        let j = at.j % Mac::COUNT;
+        mac_pair(k, i + 1, w, j + 1, mac_side(blocks.macs[j], d))
     }
-    let b = macs[j];
-    mac_pair(k, i + 1, w, j + 1, mac_side(b, d))
 }

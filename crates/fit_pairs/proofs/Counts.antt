@@ -14,38 +14,8 @@ use Rattle.fit_slots.specs.Fit.{letters_for, letter_count}
 use Rattle.fit_slots.proofs.Counting.{mac_product, fix_product, few_letters}
 use Rattle.fit_pairs.specs.Count.{letter_total}
 
-cond_zero : (a : Bool) (m : ℕ) → m ≡ 0 → 0 ≡ cond a m 0
-cond_zero true m e = sym e
-cond_zero false m e = refl
-
-cond_false : (a : Bool) (m : ℕ) → 0 ≡ cond (a && false) m 0
-cond_false true m = refl
-cond_false false m = refl
-
-module _ (n k : ℕ) where
-  pub no_macs : n ≡ 0 → 0 ≡ letter_total n k
-  unfolding letter_total
-  no_macs e = cond_zero (leb n 8 && leb k 8) (letters_for n k) (rw e (omega arith))
-
-  pub many_macs : 8 < n → 0 ≡ letter_total n k
-  unfolding letter_total
-  many_macs h = rw (lt-leb n 8 h)
-
-  pub many_fixes : 8 < k → 0 ≡ letter_total n k
-  unfolding letter_total
-  many_fixes h = rw (lt-leb k 8 h) (cond_false (leb n 8) (letters_for n k))
-
 module _ (n : ℕ) (h : n ≤ 8) where
-  pub pairs_fit : Fits w64 (n * (n - 1))
-  pairs_fit = let p = mac_product n h in omega arith
-
   module _ (k : ℕ) (l : k ≤ 8) where
-    pub fixed_fit : Fits w64 (n * k)
-    fixed_fit = let p = fix_product n h k l in omega arith
-
-    pub letters_fit : Fits w64 (letters_for n k)
-    letters_fit = let p = few_letters n h k l in omega arith
-
     pub all_letters : letters_for n k ≡ letter_total n k
     unfolding letter_total
     all_letters = rw (le-leb n 8 h, le-leb k 8 l)

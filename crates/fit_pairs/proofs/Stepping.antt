@@ -25,19 +25,6 @@ fixes_first_law n h = rw (le-ltb 1 n (let e : n ≤ 1 = omega arith in e))
 
 -- ---- the test of a pair
 
-module _ (n k : ℕ) (f : Bool) (i j : ℕ) where
-  pub fix_inside : f ≡ true → i < n → ltb j k ≡ is_on n k f i j
-  fix_inside e h = rw (e, lt-ltb i n h)
-
-  pub fix_outside : f ≡ true → n ≤ i → false ≡ is_on n k f i j
-  fix_outside e h = rw (e, le-ltb i n h)
-
-  pub mac_inside : f ≡ false → i < j → ltb j n ≡ is_on n k f i j
-  mac_inside e h = rw (e, lt-ltb i j h)
-
-  pub mac_outside : f ≡ false → j ≤ i → false ≡ is_on n k f i j
-  mac_outside e h = rw (e, le-ltb i j h)
-
 both_less : (a b c d : ℕ) → (ltb a b && ltb c d) ≡ true → (a < b) × (c < d)
 both_less a b c d e = (ltb-true a b (and_left (ltb a b) (ltb c d) e), ltb-true c d (and_right (ltb a b) (ltb c d) e))
 
@@ -78,15 +65,6 @@ module _ (at : Cursor) (n k : ℕ) where
       -- no sum is too large
       pub fix_column_fits : at.fix ≡ true → k < 2 ^ 64 → Fits w64 (at.j + 1)
       fix_column_fits f g = let p = on.fixes f in omega arith
-
-      pub mac_column_fits : at.fix ≡ false → n < 2 ^ 64 → Fits w64 (at.j + 1)
-      mac_column_fits f g = let p = on.macs f in omega arith
-
-      pub fix_row_fits : at.fix ≡ true → n < 2 ^ 64 → Fits w64 (at.i + 1)
-      fix_row_fits f g = let p = on.fixes f in omega arith
-
-      pub mac_row_fits : at.fix ≡ false → n < 2 ^ 64 → Fits w64 (at.i + 2)
-      mac_row_fits f g = let p = on.macs f in omega arith
 
       -- where the step ends
       pub to_fix : at.fix ≡ true → at.j + 1 < k → cursor at.fix at.i (at.j + 1) ≡ next_of at n k

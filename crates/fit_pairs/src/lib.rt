@@ -25,16 +25,17 @@ pub fn first_pair(n: usize) -> Cursor
     ensures first { First n result }
 {
     if 2 <= n {
-        return Cursor {
+        Cursor {
             fix: false,
             i: 0,
             j: 1,
-        };
-    }
-    Cursor {
-        fix: true,
-        i: 0,
-        j: 0,
+        }
+    } else {
+        Cursor {
+            fix: true,
+            i: 0,
+            j: 0,
+        }
     }
 }
 
@@ -42,77 +43,59 @@ pub fn first_pair(n: usize) -> Cursor
 fn on_pair(at: Cursor, n: usize, k: usize) -> bool
     ensures { result ≡ is_on n k at.fix at.i at.j }
 {
-    let fix = at.fix;
-    let i = at.i;
-    let j = at.j;
-    if fix {
-        if i < n {
-            return j < k;
-        }
-        return false;
-    }
-    if i < j {
-        return j < n;
-    }
-    false
+    let Cursor { fix, i, j } = at;
+    if fix { i < n && j < k } else { i < j && j < n }
 }
 
 // The pair after the one at hand, with n macros and k fixes. A cursor that is on no pair stays as it is.
 pub fn next_pair(at: Cursor, n: usize, k: usize) -> Cursor
     ensures { result ≡ next_of at n k }
 {
+    let Cursor { fix, i, j } = at;
     if !on_pair(at, n, k) {
-        return at;
-    }
-    let fix = at.fix;
-    let i = at.i;
-    let j = at.j;
-    if fix {
+        at
+    } else if fix {
         if j + 1 < k {
-            return Cursor { fix, i, j: j + 1 };
+            Cursor { fix, i, j: j + 1 }
+        } else {
+            Cursor {
+                fix: true,
+                i: i + 1,
+                j: 0,
+            }
         }
-        return Cursor {
-            fix: true,
-            i: i + 1,
-            j: 0,
-        };
-    }
-    if j + 1 < n {
-        return Cursor { fix, i, j: j + 1 };
-    }
-    if i + 2 < n {
-        return Cursor {
+    } else if j + 1 < n {
+        Cursor { fix, i, j: j + 1 }
+    } else if i + 2 < n {
+        Cursor {
             fix: false,
             i: i + 1,
             j: i + 2,
-        };
-    }
-    Cursor {
-        fix: true,
-        i: 0,
-        j: 0,
+        }
+    } else {
+        Cursor {
+            fix: true,
+            i: 0,
+            j: 0,
+        }
     }
 }
 
 // With n macros, k fixes there are n(n-1)/2 + n·k letters; 0 past 8 macros or 8 fixes, which no chip has.
+#[tactic(auto, unfolding(crate::specs::Count::letter_total))]
 pub fn letter_count(n: usize, k: usize) -> usize
     ensures { result ≡ letter_total n k }
 {
-    if n == 0 {
-        return 0;
+    if n <= Mac::COUNT && k <= Fix::COUNT {
+        n * n.saturating_sub(1) / 2 + n * k
+    } else {
+        0
     }
-    if Mac::COUNT < n {
-        return 0;
-    }
-    if Fix::COUNT < k {
-        return 0;
-    }
-    n * (n - 1) / 2 + n * k
 }
 
 // A dot for each pair.
 pub fn all_dots() -> [u8; LETTERS]
     ensures { result ≡ dots 120 }
 {
-    [46; LETTERS]
+    [b'.'; LETTERS]
 }

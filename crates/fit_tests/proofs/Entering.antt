@@ -1,4 +1,5 @@
 -- From the test of a chip and the first test that fails to the fit, in the form of the needs.
+use Rattle.std.specs.Prelude.{Ok, Err, Result}
 use Prim.Native.Nat.{ℕ, ◌+◌, ◌*◌, min}
 use mathlib.Core.Path.{◌≡◌, sym, ap, ◌∙◌}
 use mathlib.Core.List.{List}
@@ -8,8 +9,6 @@ use mir.Val.{Fits}
 use borrow.Author.Tests.{eqb-true, leb-true}
 use Rattle.model.specs.declared.Chip.{Chip as HeldChip}
 use Rattle.model.specs.declared.Refusal.{Refusal}
-use Rattle.model.specs.declared.Tested.{Tested}
-use Rattle.model.specs.declared.Tested.TheVariants as tested
 use Rattle.model.specs.Meaning.{Chip, chip_of}
 use Rattle.refusals.specs.Tests.{first_failed, unless_failed}
 use Rattle.refusals.proofs.FirstFailed.{first_passes, rest_passes, number_refused, number_none}
@@ -77,6 +76,6 @@ module _ (c : HeldChip) (pass : Passed c) (s : List ℕ) (m : ℕ) (e : SlotsEac
 
 -- ---- the test of the chip
 
-pub test_refused : (c : HeldChip) (s : List ℕ) (room : ℕ) (t : Tested) → tested_as (chip_of c) t ≡ read_chip (chip_text (chip_of c)) → (f : Refusal) → t ≡ tested.Refused f → fit_letters (chip_of c) s room ≡ refused_by f.no f.line
+pub test_refused : (c : HeldChip) (s : List ℕ) (room : ℕ) (t : Result (Unit {0}) Refusal) → tested_as (chip_of c) t ≡ read_chip (chip_text (chip_of c)) → (f : Refusal) → t ≡ Err f → fit_letters (chip_of c) s room ≡ refused_by f.no f.line
 unfolding fit_letters
 test_refused c s room t e f q = ap (λ (r : Reading Chip). fit_chip r (string_for (chip_of c) s) room) (sym (ap (tested_as (chip_of c)) (sym q) ∙ e))

@@ -1,12 +1,11 @@
 -- What the tests before a fit tell: the fit is a refusal, or the chip and the letters pass every test and the fit is the least placement that keeps them.
-use Rattle.std.specs.Prelude.{ℕ, ◌+◌, ◌≤◌, ◌≡◌, List, length}
+use Rattle.std.specs.Prelude.{ℕ, ◌+◌, ◌≤◌, ◌≡◌, List, length, Result, Ok, Err}
 use Rattle.model.specs.declared.Chip.{Chip as HeldChip}
 use Rattle.model.specs.Meaning.{chip_of}
 use Rattle.chip_text.specs.Passed.{Passed}
 use Rattle.chip_text.proofs.Passing.{Whole}
 use Rattle.fit_slots.specs.Fit.{Fit, refused_by, letter_count, slot_count, fit_each, string_for, fit_letters}
-use Rattle.fit_tests.specs.declared.Entry.{Entry}
-use Rattle.fit_tests.specs.declared.Entry.TheVariants as entry
+use Rattle.model.specs.declared.Refusal.{Refusal}
 
 -- m slots for each direction
 pub record SlotsEach (c : HeldChip) (m : ℕ) : Type 0 where
@@ -30,6 +29,6 @@ pub record Ready (c : HeldChip) (s : List ℕ) (room m : ℕ) : Type 0 where
   pub enough : m + m ≤ room
   pub fits : fit_letters (chip_of c) s room ≡ fitting c (string_for (chip_of c) s)
 
-abbrev pub Entered : HeldChip → List ℕ → ℕ → Entry → Type 0
-Entered c s room (entry.Refused f) = fit_letters (chip_of c) s room ≡ refused_by f.no f.line
-Entered c s room (entry.Slots m) = Ready c s room m
+abbrev pub Entered : HeldChip → List ℕ → ℕ → Result ℕ Refusal → Type 0
+Entered c s room (Ok m) = Ready c s room m
+Entered c s room (Err f) = fit_letters (chip_of c) s room ≡ refused_by f.no f.line

@@ -18,11 +18,3 @@ module _ (ts bs : List Box) (i : ℕ) where
 
   pub all_stored : length ts ≡ 8 → length bs ≡ 8 → i ≤ 8 → 8 ≤ i → take i bs ≡ take i ts → bs ≡ ts
   all_stored l n h g e = sym (take_all i bs (omega arith)) ∙ (e ∙ take_all i ts (omega arith))
-
--- the boxes of fixes
-module _ (fs : List Fix) (bs : List Box) (i : ℕ) (l : length fs ≡ 8) (n : length bs ≡ 8) (e : take i bs ≡ take i (map box_of fs)) where
-  pub fix_stored : (b : Box) → b ≡ box_of (get_or fs i blank_fix) → i < 8 → take (i + 1) (set bs i b) ≡ take (i + 1) (map box_of fs)
-  fix_stored b q h = one_stored (map box_of fs) bs i (length-map fs box_of ∙ l) n h b (q ∙ sym (get_or-map box_of fs i blank_fix)) e
-
-  pub fixes_stored : i ≤ 8 → 8 ≤ i → bs ≡ map box_of fs
-  fixes_stored h g = all_stored (map box_of fs) bs i (length-map fs box_of ∙ l) n h g e

@@ -1,6 +1,7 @@
 -- Boxes. Document 01, "Legal, and how long": a box lies in the die, and of two boxes one is left of, right of, below or above the other.
 -- g is the gap that is asked between them; where it is 0, touching edges are allowed.
 use Rattle.std.specs.Prelude.{ℕ, ◌+◌, List, [], ◌∷◌, Bool, true, ◌&&◌, ◌||◌, leb}
+use Rattle.std.specs.List.{list_all}
 use Rattle.model.specs.declared.Die.{Die}
 use Rattle.model.specs.declared.Fix.{Fix}
 use Rattle.model.specs.declared.Mac.{Mac}
@@ -36,5 +37,4 @@ apart g a b = left_of g a b || (left_of g b a || (below g a b || below g b a))
 
 -- a is apart from each box of a list
 unfoldable pub clear_of : ℕ → Box → List Box → Bool
-clear_of g a [] = true
-clear_of g a (b ∷ s) = apart g a b && clear_of g a s
+clear_of g a s = list_all (apart g a) s

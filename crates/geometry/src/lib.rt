@@ -48,48 +48,28 @@ pub fn box_of(f: Fix) -> Box
 pub fn boxes_of(fixes: [Fix; Fix::COUNT]) -> [Box; Box::COUNT]
     ensures { result ≡ map box_of fixes }
 {
-    let mut bs = [Box {
-        x: 0,
-        y: 0,
-        w: 0,
-        h: 0,
-    }; Box::COUNT];
-    let mut i: usize = 0;
-    while i < Box::COUNT {
-        bs[i] = box_of(fixes[i]);
-        i += 1;
-    }
-    bs
+    fixes.map(box_of)
 }
 
 // Whether a + size is at most end, also where that sum is too large to be held.
 fn ends_by(a: u64, size: u64, end: u64) -> bool
     ensures { result ≡ leb (a + size) end }
 {
-    if end < a {
-        return false;
-    }
-    size <= end - a
+    a <= end && size <= end - a
 }
 
 // Whether a + size + gap is at most end.
 fn ends_before(a: u64, size: u64, gap: u64, end: u64) -> bool
     ensures { result ≡ leb (a + size + gap) end }
 {
-    if end < gap {
-        return false;
-    }
-    ends_by(a, size, end - gap)
+    gap <= end && ends_by(a, size, end - gap)
 }
 
 // Whether a box lies in the die.
 pub fn in_die(d: Die, a: Box) -> bool
     ensures { result ≡ in_die d a }
 {
-    if !ends_by(a.x, a.w, d.w) {
-        return false;
-    }
-    ends_by(a.y, a.h, d.h)
+    ends_by(a.x, a.w, d.w) && ends_by(a.y, a.h, d.h)
 }
 
 // Whether a is left of b, with a gap between them.
@@ -110,32 +90,13 @@ pub fn below(a: Box, b: Box, gap: u64) -> bool
 pub fn apart(a: Box, b: Box, gap: u64) -> bool
     ensures { result ≡ areApart gap a b }
 {
-    if left_of(a, b, gap) {
-        return true;
-    }
-    if left_of(b, a, gap) {
-        return true;
-    }
-    if below(a, b, gap) {
-        return true;
-    }
-    below(b, a, gap)
+    left_of(a, b, gap) || left_of(b, a, gap) || below(a, b, gap) || below(b, a, gap)
 }
 
 // Whether a is apart from each of the first k boxes.
+#[tactic(auto, unfolding(crate::specs::Box::clear_of))]
 pub fn clear_of(a: Box, bs: [Box; Box::COUNT], k: usize, gap: u64) -> bool
     ensures { result ≡ clear_of gap a (take k bs) }
 {
-    let mut i: usize = 0;
-    while i < Box::COUNT {
-        if k <= i {
-            return true;
-        }
-        let b = bs[i];
-        if !apart(a, b, gap) {
-            return false;
-        }
-        i += 1;
-    }
-    true
+    bs.iter().take(k).all(|b| apart(a, *b, gap))
 }

@@ -1,10 +1,8 @@
 -- How large the numbers are that the arrays hold.
-use Prim.Native.Nat.{ℕ, ◌*◌, ◌≤◌, ◌<◌}
+use Prim.Native.Nat.{ℕ, ◌≤◌, ◌<◌}
 use mathlib.Core.Path.{◌≡◌}
 use mathlib.Core.List.{List}
 use native.Mathlib.Omega.{arith}
-use mir.Syntax.{w64}
-use mir.Val.{Fits}
 use Rattle.half_arrays.specs.Arrays.{bound_at, entry_count, node_at, most_at, least_at, net_at}
 use Rattle.half_arrays.specs.State.{amount_at}
 
@@ -37,9 +35,3 @@ module _ (tab : List ℕ) where
   pub net_below : (i j : ℕ) → j ≡ net_at tab i → j < 32
   unfolding net_at
   net_below i j d = omega arith
-
-  pub node_fits : (i k : ℕ) → k ≡ node_at tab i → Fits w64 (k * 8)
-  node_fits i k d = let l = node_below i k d in omega arith
-
-  pub net_fits : (i j : ℕ) → j ≡ net_at tab i → Fits w64 (j * 8)
-  net_fits i j d = let l = net_below i j d in omega arith

@@ -1,5 +1,5 @@
 -- What a lent pool means, whatever it holds: four states of 608 numbers. A part of a state is named by where it begins, in units of 32 numbers.
-use Rattle.std.specs.Prelude.{ℕ, ◌+◌, ◌*◌, ◌%◌, List, [], ◌∷◌, get_or}
+use Rattle.std.specs.Prelude.{ℕ, ◌+◌, ◌*◌, ◌%◌, List, [], ◌∷◌, get_or, map}
 
 -- ---- coordinates
 
@@ -14,8 +14,7 @@ coordinates st o =
 
 -- each number modulo the die's side
 unfoldable pub limited : List ℕ → List ℕ
-limited [] = []
-limited (a ∷ s) = a % 8192 ∷ limited s
+limited s = map (λ a. a % 8192) s
 
 -- ---- amounts
 

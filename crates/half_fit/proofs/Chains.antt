@@ -1,6 +1,7 @@
 -- A closed chain of bounds whose sum is above 0: no coordinates keep the bounds.
-use Rattle.std.proofs.Common.{◌≡◌, ℕ, ◌+◌, ◌*◌, ◌/◌, ◌%◌, ◌<◌, ◌≤◌, Bool, true, false, List, ap, arith, w64, Fits}
-use mathlib.Core.Bool.{false≢true}
+use Rattle.std.proofs.Common.{◌≡◌, ℕ, ◌+◌, ◌*◌, ◌/◌, ◌%◌, ◌<◌, ◌≤◌, Bool, true, List, ap, arith, w64, Fits}
+use lib.Dec.{ltb}
+use borrow.Author.Tests.{ltb-true}
 use Rattle.axis_bounds.specs.Axis.{value_at}
 use Rattle.half_arrays.specs.Arrays.{raised, bound_at, KeepsTo}
 use Rattle.half_arrays.specs.Says.{Says}
@@ -33,17 +34,14 @@ chain_more arcs w p a sum turn b lw lp eb h = record { far = more }
         let vw = ap (value_at z) ew in
         omega arith
 
-pub chain_closes : (arcs : List ℕ) (w p a sum turn b : ℕ) → w < 9 → p < 9 → b ≡ bound_at arcs (p * 9 + w) → Chained arcs w a sum turn → p ≡ a → (turn + 1) * 16777216 < sum + b → Says true (Empty arcs)
-chain_closes arcs w p a sum turn b lw lp eb h e lt = record { then = λ t. record { none = never } }
+pub chain_closes : (arcs : List ℕ) (w p a sum turn b : ℕ) → w < 9 → p < 9 → b ≡ bound_at arcs (p * 9 + w) → Chained arcs w a sum turn → p ≡ a → Says (ltb ((turn + 1) * 16777216) (sum + b)) (Empty arcs)
+chain_closes arcs w p a sum turn b lw lp eb h e = record { then = λ t. record { none = never (ltb-true ((turn + 1) * 16777216) (sum + b) t) } }
   where
-    never : (z : List ℕ) → KeepsTo arcs z 81 → ⊥
-    never z k =
+    never : (turn + 1) * 16777216 < sum + b → (z : List ℕ) → KeepsTo arcs z 81 → ⊥
+    never lt z k =
         let f = (chain_more arcs w p a sum turn b lw lp eb h).far z k in
         let v = ap (value_at z) e in
         omega arith
-
-pub says_nothing : (P : Type 0) → Says false P
-says_nothing P = record { then = λ t. absurd (false≢true t) }
 
 pub says_empty : (arcs : List ℕ) (b : Bool) → Says b (Empty arcs) → b ≡ true → Says true (Empty arcs)
 says_empty arcs b s e = record { then = λ t. s.then e }

@@ -1,5 +1,5 @@
 -- A proposal that passes every test is the half fit.
-use Rattle.std.proofs.Common.{◌≡◌, ℕ, suc, ◌-◌, ◌<◌, ◌≤◌, Bool, false, not, List, get_or, refl, ap, ◌∙◌, subst, arith}
+use Rattle.std.proofs.Common.{◌≡◌, ℕ, suc, ◌-◌, ◌<◌, ◌≤◌, Bool, true, List, get_or, refl, ap, ◌∙◌, subst, arith}
 use native.Mathlib.Decide.{dec_lt}
 use lib.ListN.{get_or-eq_default}
 use Rattle.axis_bounds.specs.Axis.{Keeps, length_on, nets_length}
@@ -10,7 +10,6 @@ use Rattle.half_arrays.specs.State.{flow_at, hi_at, lo_at, rank_at, coordinates,
 use Rattle.half_worth.specs.Amounts.{Passes, WorthLength}
 use Rattle.half_reason.specs.Reasons.{Reasons}
 use Rattle.half_worth.specs.Tests.{WorthSums}
-use Rattle.half_arrays.proofs.Answers.{said}
 use Rattle.half_worth.proofs.Duality.{worth_most}
 use Rattle.half_fit.proofs.Smallest.{none_smaller}
 use Rattle.half_arrays.proofs.Arcs.{on_keeps}
@@ -28,11 +27,11 @@ module _ (tab arcs st : List ℕ) (o : ℕ) (z : List ℕ) (e : z ≡ coordinate
   coordinates_of : limited z ≡ coordinates st o
   coordinates_of = ap limited e ∙ limited_coordinates st o
 
-  pub shows_fit : (a b c : Bool) (l more less : ℕ) → Says a (KeepsTo arcs (limited z) 81) → not a ≡ false → Says b (Reasons tab arcs (flow_at st o) (hi_at st o) (lo_at st o) (coordinates st o) (rank_at st o) 9) → not b ≡ false → l ≡ nets_length (limited z) (nets_from tab 0 32) → WorthSums tab arcs st o more less → less ≤ more → l ≤ more - less → Says c (Passes tab (flow_at st o) (hi_at st o) (lo_at st o)) → not c ≡ false → HalfOn (axis_on tab arcs) l (coordinates st o)
-  shows_fit a b c l more less sa ea sb eb el w p q sc ec =
+  pub shows_fit : (a b c : Bool) (l more less : ℕ) → Says a (KeepsTo arcs (limited z) 81) → a ≡ true → Says b (Reasons tab arcs (flow_at st o) (hi_at st o) (lo_at st o) (coordinates st o) (rank_at st o) 9) → b ≡ true → l ≡ nets_length (limited z) (nets_from tab 0 32) → WorthSums tab arcs st o more less → Says c (Passes tab (flow_at st o) (hi_at st o) (lo_at st o)) → c ≡ true → less ≤ more → l ≤ more - less → HalfOn (axis_on tab arcs) l (coordinates st o)
+  shows_fit a b c l more less sa ea sb eb el w sc ec p q =
       let y = coordinates st o in
-      let k = on_keeps tab arcs y (coordinates_long st o) (λ i. let r = coordinates_small st o i in omega arith) (subst (λ (t : List ℕ). KeepsTo arcs t 81) coordinates_of (said a sa ea)) in
+      let k = on_keeps tab arcs y (coordinates_long st o) (λ i. let r = coordinates_small st o i in omega arith) (subst (λ (t : List ℕ). KeepsTo arcs t 81) coordinates_of (sa.then ea)) in
       let n : l ≡ nets_length y (nets_from tab 0 32) = el ∙ ap (λ (t : List ℕ). nets_length t (nets_from tab 0 32)) coordinates_of in
       let g = w.more in let d = w.less in
-      let h = passes_half tab arcs (flow_at st o) (hi_at st o) (lo_at st o) y (rank_at st o) (said c sc ec) k (omega arith) (said b sb eb) in
+      let h = passes_half tab arcs (flow_at st o) (hi_at st o) (lo_at st o) y (rank_at st o) (sc.then ec) k (omega arith) (sb.then eb) in
       rw n h

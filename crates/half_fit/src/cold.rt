@@ -1,54 +1,47 @@
 // A fit from nothing: the smallest values that keep the bounds, then net by net its weight from its lo to its hi, by cheapest augmenting paths.
 use crate::paths::{NO_PARENT, NOBODY, lift, reach, settle};
+use crate::proposal::Proposal;
 use crate::push::{carry, narrowest};
 use crate::residual::set_carried;
 use crate::state::{
-    BOTTOM, FAR, FWD, K, LEN, STATE, TOP, V, X, at, carried, lack_of, lesser, low_half, narrow,
-    put, set, set_tie, set_value, times, value, wide,
+    End, FAR, K, LEN, PerNode, V, X, at, carried, lack_of, low_half, narrow, put, set, set_tie,
+    set_value, times, value,
 };
-use crate::tables::{EL, EO, arc, net_begin, net_count, net_end, node_of, nodes, part, weight_of};
-use crate::{ARCS, HELP, POOL, TAB};
-use std::num::{wrapping_add_u32, wrapping_sub_u32};
+use crate::tables::{Given, arc, net_begin, net_count, net_end, node_of, nodes, weight_of};
+use crate::{ARCS, POOL, TAB, tables};
+use half_arrays::{BOUND, NODES, PAIRS, STATE};
 
 // No amounts, all values 0.
 fn clear(s: &mut [u32; POOL], o: usize) {
     let from = o % 4 * STATE;
-    let mut i: usize = 0;
-    while i < STATE {
-        s[from + i] = 0;
-        i += 1;
-    }
+    s[from..from + STATE].fill(0);
 }
 
 // The bounds as residual bounds.
 fn begin_bounds(arcs: &[u32; ARCS], s: &mut [u32; POOL], o: usize) {
-    let mut c: usize = 0;
-    while c < 81 {
+    for c in 0..PAIRS {
         put(s, o, K, c, arc(arcs, c));
-        put(s, o, V, c, FWD);
-        c += 1;
+        put(s, o, V, c, BOUND);
     }
 }
 
 // Node 0 is the parent of all others; of the nodes of no macro it stays so.
 fn tie_all(s: &mut [u32; POOL], o: usize) {
-    let mut w: usize = 1;
-    while w < 9 {
+    for w in 1..NODES {
         set_tie(s, o, w, 0, 1);
-        w += 1;
     }
 }
 
 // The node that the bound at place c leads to is raised by what the values lack of it; whether they lack something.
 fn raise_one(arcs: &[u32; ARCS], s: &mut [u32; POOL], o: usize, c: usize) -> bool {
-    let u = c / 9;
-    let v = c % 9;
+    let u = c / NODES;
+    let v = c % NODES;
     let lack = lack_of(s, o, u, v, arc(arcs, c));
     if lack == 0 {
         return false;
     }
     let x = value(s, o, v);
-    set_value(s, o, v, wrapping_add_u32(x, lack));
+    set_value(s, o, v, x.wrapping_add(lack));
     set_tie(s, o, v, narrow(u), 0);
     true
 }
@@ -56,254 +49,168 @@ fn raise_one(arcs: &[u32; ARCS], s: &mut [u32; POOL], o: usize, c: usize) -> boo
 // All bounds once; whether a value was raised.
 fn raise_all(arcs: &[u32; ARCS], s: &mut [u32; POOL], o: usize) -> bool {
     let mut raised = false;
-    let mut c: usize = 0;
-    while c < 81 {
-        if raise_one(arcs, s, o, c) {
-            raised = true;
-        }
-        c += 1;
+    for c in 0..PAIRS {
+        raised |= raise_one(arcs, s, o, c);
     }
     raised
 }
 
 // The smallest values that keep the bounds; whether there are such. Where there are none, parents of the nodes have a closed chain.
 fn keep_bounds(arcs: &[u32; ARCS], s: &mut [u32; POOL], o: usize) -> bool {
-    let mut turn: usize = 0;
-    while turn < 10 {
+    for _ in 0..10 {
         if !raise_all(arcs, s, o) {
             return value(s, o, 0) == 0;
         }
-        turn += 1;
     }
     false
 }
 
-// Place p of entry e.
-fn place(tab: &[u32; TAB], s: &[u32; POOL], o: usize, p: usize, e: usize) -> u32 {
-    wrapping_add_u32(value(s, o, node_of(tab, e)), part(tab, p, e))
+// Where entry i is at an end of its net.
+fn place(tab: &[u32; TAB], s: &[u32; POOL], o: usize, e: End, i: usize) -> u32 {
+    value(s, o, node_of(tab, i)).wrapping_add(tables::place(tab, e, i))
 }
 
 // The greatest place on net j.
 fn high(tab: &[u32; TAB], s: &[u32; POOL], o: usize, j: usize) -> u32 {
-    let mut high: u32 = 0;
-    let to = net_end(tab, j);
-    let mut e = net_begin(tab, j);
-    while e < to {
-        let a = place(tab, s, o, EO, e);
-        if high < a {
-            high = a;
-        }
-        e += 1;
-    }
-    high
+    let entries = net_begin(tab, j)..net_end(tab, j);
+    entries.fold(0, |high: u32, e| high.max(place(tab, s, o, End::Top, e)))
 }
 
 // The least place on net j.
 fn low(tab: &[u32; TAB], s: &[u32; POOL], o: usize, j: usize) -> u32 {
-    let mut low: u32 = FAR;
-    let to = net_end(tab, j);
-    let mut e = net_begin(tab, j);
-    while e < to {
-        let a = place(tab, s, o, EL, e);
-        if a < low {
-            low = a;
-        }
-        e += 1;
-    }
-    low
+    let entries = net_begin(tab, j)..net_end(tab, j);
+    entries.fold(FAR, |low, e| low.min(place(tab, s, o, End::Bottom, e)))
 }
 
-// The paths from lo over entry e: its node by how far its least place is above lo.
-fn begin_at(
-    tab: &[u32; TAB],
-    s: &[u32; POOL],
-    o: usize,
-    e: usize,
-    lo: u32,
-    d: &mut [u32; 16],
-    from: &mut [u32; 16],
-) {
-    let w = node_of(tab, e);
-    let y = wrapping_sub_u32(place(tab, s, o, EL, e), lo);
-    if y < at(d, w) {
-        set(d, w, y);
-        set(from, w, narrow(e));
-    }
-}
-
-// The paths from the lo of net j: of each node its distance, and the entry over which it is reached; no parents.
+// The paths from the lo of net j: of each node how far its least place is above lo, and the entry over which it is reached; no parents.
 fn begin(
     tab: &[u32; TAB],
     s: &[u32; POOL],
     o: usize,
     j: usize,
-    d: &mut [u32; 16],
-    par: &mut [u32; 16],
-    from: &mut [u32; 16],
+    d: &mut PerNode,
+    par: &mut PerNode,
+    from: &mut PerNode,
 ) {
     *d = [FAR; 16];
     *par = [NO_PARENT; 16];
     let lo = low(tab, s, o, j);
-    let to = net_end(tab, j);
-    let mut e = net_begin(tab, j);
-    while e < to {
-        begin_at(tab, s, o, e, lo, d, from);
-        e += 1;
+    for e in net_begin(tab, j)..net_end(tab, j) {
+        let w = node_of(tab, e);
+        let y = place(tab, s, o, End::Bottom, e).wrapping_sub(lo);
+        if y < at(d, w) {
+            set(d, w, y);
+            set(from, w, narrow(e));
+        }
     }
 }
 
 // How far hi is over entry e.
-fn over(tab: &[u32; TAB], s: &[u32; POOL], o: usize, e: usize, hi: u32, d: &[u32; 16]) -> u32 {
-    wrapping_add_u32(
-        at(d, node_of(tab, e)),
-        wrapping_sub_u32(hi, place(tab, s, o, EO, e)),
-    )
+fn over(tab: &[u32; TAB], s: &[u32; POOL], o: usize, e: usize, hi: u32, d: &PerNode) -> u32 {
+    at(d, node_of(tab, e)).wrapping_add(hi.wrapping_sub(place(tab, s, o, End::Top, e)))
 }
 
 // The entry over which hi is nearest.
-fn last(tab: &[u32; TAB], s: &[u32; POOL], o: usize, j: usize, hi: u32, d: &[u32; 16]) -> usize {
-    let to = net_end(tab, j);
-    let mut e = net_begin(tab, j);
-    let mut b = e;
+fn last(tab: &[u32; TAB], s: &[u32; POOL], o: usize, j: usize, hi: u32, d: &PerNode) -> usize {
+    let mut last = net_begin(tab, j);
     let mut by = FAR;
-    while e < to {
+    for e in net_begin(tab, j)..net_end(tab, j) {
         let y = over(tab, s, o, e, hi, d);
         if y < by {
             by = y;
-            b = e;
+            last = e;
         }
-        e += 1;
     }
-    b
+    last
 }
 
 // The first node of the path to node u.
-fn first(par: &[u32; 16], u: usize) -> usize {
+fn first(par: &PerNode, u: usize) -> usize {
     let mut w = u;
-    let mut turn: usize = 0;
-    while turn < 9 {
-        let p = wide(at(par, w));
-        if p == NOBODY {
+    for _ in 0..NODES {
+        let p = at(par, w);
+        if p == NO_PARENT {
             return w;
         }
-        w = p;
-        turn += 1;
+        w = p as usize;
     }
     w
 }
 
 // At most `left` from lo along the path to entry e and over it to hi; how much.
 fn push_way(
-    tab: &[u32; TAB],
-    help: &[u32; HELP],
-    arcs: &[u32; ARCS],
+    g: Given,
     s: &mut [u32; POOL],
     o: usize,
-    par: &[u32; 16],
-    from: &[u32; 16],
+    par: &PerNode,
+    from: &PerNode,
     e: usize,
     left: u32,
 ) -> u32 {
-    let u = node_of(tab, e);
+    let u = node_of(g.tab, e);
     let v = first(par, u);
-    let q = lesser(left, narrowest(s, o, par, u, v));
-    carry(tab, help, arcs, s, o, par, u, v, q);
-    let b = wide(at(from, v));
-    let low = carried(s, o, BOTTOM, b);
-    set_carried(tab, help, arcs, s, o, BOTTOM, b, wrapping_add_u32(low, q));
-    let high = carried(s, o, TOP, e);
-    set_carried(tab, help, arcs, s, o, TOP, e, wrapping_add_u32(high, q));
+    let q = left.min(narrowest(s, o, par, u, v));
+    carry(g, s, o, par, u, v, q);
+    let b = at(from, v) as usize;
+    let low = carried(s, o, End::Bottom, b);
+    set_carried(g, s, o, End::Bottom, b, low.wrapping_add(q));
+    let high = carried(s, o, End::Top, e);
+    set_carried(g, s, o, End::Top, e, high.wrapping_add(q));
     q
 }
 
 // One push of net j: a cheapest path from its lo to its hi, a rise, at most `left` along the path; how much.
-fn one_push(
-    tab: &[u32; TAB],
-    help: &[u32; HELP],
-    arcs: &[u32; ARCS],
-    s: &mut [u32; POOL],
-    o: usize,
-    j: usize,
-    left: u32,
-) -> u32 {
-    let mut d = [0u32; 16];
-    let mut par = [0u32; 16];
-    let mut rank = [0u32; 16];
-    let mut from = [0u32; 16];
-    let m = nodes(tab);
-    let hi = high(tab, s, o, j);
-    begin(tab, s, o, j, &mut d, &mut par, &mut from);
+fn one_push(g: Given, s: &mut [u32; POOL], o: usize, j: usize, left: u32) -> u32 {
+    let mut d = [0; 16];
+    let mut par = [0; 16];
+    let mut rank = [0; 16];
+    let mut from = [0; 16];
+    let m = nodes(g.tab);
+    let hi = high(g.tab, s, o, j);
+    begin(g.tab, s, o, j, &mut d, &mut par, &mut from);
     reach(m, s, o, NOBODY, FAR, &mut d, &mut par, &mut rank);
-    let e = last(tab, s, o, j, hi, &d);
-    let by = over(tab, s, o, e, hi, &d);
+    let e = last(g.tab, s, o, j, hi, &d);
+    let by = over(g.tab, s, o, e, hi, &d);
     lift(m, s, o, &d, by);
-    push_way(tab, help, arcs, s, o, &par, &from, e, left)
+    push_way(g, s, o, &par, &from, e, left)
 }
 
 // The weight of net j from its lo to its hi.
-fn push_net(
-    tab: &[u32; TAB],
-    help: &[u32; HELP],
-    arcs: &[u32; ARCS],
-    s: &mut [u32; POOL],
-    o: usize,
-    j: usize,
-) {
-    let mut left = weight_of(tab, j);
-    let mut turn: usize = 0;
-    while turn < 4000 {
+fn push_net(g: Given, s: &mut [u32; POOL], o: usize, j: usize) {
+    let mut left = weight_of(g.tab, j);
+    for _ in 0..4000 {
         if left == 0 {
             return;
         }
-        let q = one_push(tab, help, arcs, s, o, j, left);
-        left = wrapping_sub_u32(left, q);
-        turn += 1;
+        left = left.wrapping_sub(one_push(g, s, o, j, left));
     }
 }
 
-fn push_nets(
-    tab: &[u32; TAB],
-    help: &[u32; HELP],
-    arcs: &[u32; ARCS],
-    s: &mut [u32; POOL],
-    o: usize,
-) {
-    let t = net_count(tab);
-    let mut j: usize = 0;
-    while j < t {
-        push_net(tab, help, arcs, s, o, j);
-        j += 1;
+fn push_nets(g: Given, s: &mut [u32; POOL], o: usize) {
+    for j in 0..net_count(g.tab) {
+        push_net(g, s, o, j);
     }
 }
 
 fn length(tab: &[u32; TAB], s: &[u32; POOL], o: usize) -> u32 {
     let mut sum: u32 = 0;
-    let t = net_count(tab);
-    let mut j: usize = 0;
-    while j < t {
-        let span = wrapping_sub_u32(high(tab, s, o, j), low(tab, s, o, j));
-        sum = wrapping_add_u32(sum, low_half(times(weight_of(tab, j), span)));
-        j += 1;
+    for j in 0..net_count(tab) {
+        let span = high(tab, s, o, j).wrapping_sub(low(tab, s, o, j));
+        sum = sum.wrapping_add(low_half(times(weight_of(tab, j), span)));
     }
     sum
 }
 
-// State o anew. 0: the fit. 1: there is none.
-pub(crate) fn cold(
-    tab: &[u32; TAB],
-    help: &[u32; HELP],
-    arcs: &[u32; ARCS],
-    s: &mut [u32; POOL],
-    o: usize,
-) -> u32 {
+// State o anew: the fit, or nothing keeps the bounds.
+pub(crate) fn cold(g: Given, s: &mut [u32; POOL], o: usize) -> Proposal {
     clear(s, o);
-    begin_bounds(arcs, s, o);
+    begin_bounds(g.arcs, s, o);
     tie_all(s, o);
-    if !keep_bounds(arcs, s, o) {
-        return 1;
+    if !keep_bounds(g.arcs, s, o) {
+        return Proposal::Nothing;
     }
-    push_nets(tab, help, arcs, s, o);
-    put(s, o, X, LEN, length(tab, s, o));
-    settle(nodes(tab), s, o);
-    0
+    push_nets(g, s, o);
+    put(s, o, X, LEN, length(g.tab, s, o));
+    settle(nodes(g.tab), s, o);
+    Proposal::Fit
 }

@@ -4,7 +4,7 @@ ghost use Rattle.half_arrays.specs.Says.{Says};
 ghost use Rattle.half_fit.specs.Chain.{Empty};
 
 use crate::{ARCS, POOL};
-use half_arrays::{bound, parent};
+use half_arrays::{NODES, RAISED, bound, parent};
 
 // A node on a closed chain of parents: the ninth parent of node a.
 fn on_chain(s: &[u32; POOL], o: usize, a: usize) -> usize
@@ -12,10 +12,8 @@ fn on_chain(s: &[u32; POOL], o: usize, a: usize) -> usize
     ensures { result < 9 }
 {
     let mut w = a;
-    let mut turn: usize = 0;
-    while turn < 9 {
+    for _ in 0..NODES {
         w = parent(s, o, w);
-        turn += 1;
     }
     w
 }
@@ -27,17 +25,11 @@ fn closes(arcs: &[u32; ARCS], s: &[u32; POOL], o: usize, a: usize) -> bool
 {
     let mut w = a;
     let mut sum: u64 = 0;
-    let mut turn: u64 = 0;
-    while turn < 9 {
+    for turn in 0..9u64 {
         let p = parent(s, o, w);
-        let b = bound(arcs, p * 9 + w);
-        sum += b;
-        turn += 1;
+        sum += bound(arcs, p * NODES + w);
         if p == a {
-            if turn * 16777216 < sum {
-                return true;
-            }
-            return false;
+            return (turn + 1) * RAISED < sum;
         }
         w = p;
     }
@@ -48,13 +40,10 @@ fn closes(arcs: &[u32; ARCS], s: &[u32; POOL], o: usize, a: usize) -> bool
 pub(crate) fn shows_none(arcs: &[u32; ARCS], s: &[u32; POOL], o: usize) -> bool
     ensures { Says result (Empty arcs.now) }
 {
-    let mut a: usize = 0;
-    while a < 9 {
-        let b = on_chain(s, o, a);
-        if closes(arcs, s, o, b) {
+    for a in 0..NODES {
+        if closes(arcs, s, o, on_chain(s, o, a)) {
             return true;
         }
-        a += 1;
     }
     false
 }

@@ -1,6 +1,8 @@
 // The test of a proposed half fit: coordinates, amounts worth their length, and a reason for each macro's coordinate.
+ghost use Rattle.std.specs.Prelude.{IfSome};
+ghost use Rattle.axis_bounds.specs.Half.{HalfOn};
+ghost use Rattle.half_arrays.specs.Arrays.{axis_on};
 ghost use Rattle.half_arrays.specs.State.{coordinates};
-ghost use Rattle.half_fit.specs.Shown.{ShownOk};
 
 use half_arrays::{ARCS, POOL, TAB};
 use half_reason::reasons;
@@ -9,34 +11,36 @@ use half_values::length::half_length;
 use half_values::values::coordinates_of;
 use half_worth::worth_of;
 
-// The coordinates of the state are the half fit, of this length; or nothing is shown.
+// What a proposal says that it is.
 #[derive(Clone, Copy)]
-pub(crate) enum Shown {
-    Fit(u64),
-    Not,
+pub(crate) enum Proposal {
+    // The fit.
+    Fit,
+    // Nothing keeps the bounds.
+    Nothing,
+    // The fit is longer than the room.
+    Longer,
 }
 
-// Whether what state o proposes is the half fit of the arrays.
-pub(crate) fn test_fit(tab: &[u32; TAB], arcs: &[u32; ARCS], st: &[u32; POOL], o: usize) -> Shown
-    ensures { ShownOk tab.now arcs.now (coordinates st.now o) result }
+// The length of the half fit of the arrays, if the coordinates of state o are shown to be it.
+pub(crate) fn test_fit(
+    tab: &[u32; TAB],
+    arcs: &[u32; ARCS],
+    st: &[u32; POOL],
+    o: usize,
+) -> Option<u64>
+    ensures { IfSome result (λ l. HalfOn (axis_on tab.now arcs.now) l (coordinates st.now o)) }
 {
     let z = coordinates_of(st, o);
-    if !keeps_bounds(arcs, z) {
-        return Shown::Not;
+    if keeps_bounds(arcs, z) && reasons(tab, arcs, st, o) {
+        let l = half_length(tab, z);
+        let w = worth_of(tab, arcs, st, o);
+        if w.passes && w.less <= w.more && l <= w.more - w.less {
+            Some(l)
+        } else {
+            None
+        }
+    } else {
+        None
     }
-    if !reasons(tab, arcs, st, o) {
-        return Shown::Not;
-    }
-    let l = half_length(tab, z);
-    let w = worth_of(tab, arcs, st, o);
-    if w.more < w.less {
-        return Shown::Not;
-    }
-    if w.more - w.less < l {
-        return Shown::Not;
-    }
-    if !w.passes {
-        return Shown::Not;
-    }
-    Shown::Fit(l)
 }

@@ -1,15 +1,14 @@
 // The fit of one direction, and what it promises.
-ghost use Rattle.axis_bounds.specs.Half.{AboveOn};
-ghost use Rattle.half_arrays.specs.Arrays.{axis_on};
-ghost use Rattle.half_arrays.specs.Says.{Says};
+ghost use Rattle.std.specs.Prelude.{◌≡◌};
 ghost use Rattle.half_fit.specs.Answer.{Answers};
 
 use crate::cold::cold;
 use crate::insert::insert;
 use crate::lists::put_lists;
 use crate::none::shows_none;
-use crate::proposal::{Shown, test_fit};
+use crate::proposal::{Proposal, test_fit};
 use crate::state::copy;
+use crate::tables::Given;
 use crate::{ARCS, HELP, POOL, TAB};
 use axis_bounds::Axis;
 use half_values::values::coordinates_of;
@@ -30,72 +29,47 @@ pub struct HalfFit {
     pub at: [u64; Axis::MACROS],
 }
 
+// An outcome without a fit.
+fn no_fit(outcome: HalfOutcome) -> HalfFit
+    ensures { result.outcome ≡ outcome }
+{
+    HalfFit {
+        outcome,
+        at: [0; Axis::MACROS],
+    }
+}
+
 // The proposal of a fit in state o, tested.
 fn judge_fit(tab: &[u32; TAB], arcs: &[u32; ARCS], st: &[u32; POOL], o: usize, room: u64) -> HalfFit
     ensures { Answers tab.now arcs.now room result.outcome result.at }
 {
-    let Shown::Fit(l) = test_fit(tab, arcs, st, o) else {
-        return HalfFit {
-            outcome: HalfOutcome::Unshown,
-            at: [0u64; Axis::MACROS],
-        };
-    };
-    if room < l {
-        return HalfFit {
-            outcome: HalfOutcome::Beyond,
-            at: [0u64; Axis::MACROS],
-        };
-    }
-    let at = coordinates_of(st, o);
-    HalfFit {
-        outcome: HalfOutcome::Fit(l),
-        at,
+    match test_fit(tab, arcs, st, o) {
+        None => no_fit(HalfOutcome::Unshown),
+        Some(l) if room < l => no_fit(HalfOutcome::Beyond),
+        Some(l) => HalfFit {
+            outcome: HalfOutcome::Fit(l),
+            at: coordinates_of(st, o),
+        },
     }
 }
 
-// Whether everything is shown to be longer than the room, or nothing to keep the bounds.
-fn beyond(
-    tab: &[u32; TAB],
-    arcs: &[u32; ARCS],
-    st: &[u32; POOL],
-    o: usize,
-    room: u64,
-    proposal: u32,
-) -> bool
-    ensures { Says result (AboveOn (axis_on tab.now arcs.now) room) }
-{
-    if proposal == 1 {
-        if shows_none(arcs, st, o) {
-            return true;
-        }
-        return false;
-    }
-    shows_beyond(tab, arcs, st, o, room)
-}
-
-// What is shown of a proposal in state o: 0 a fit, 1 none, 2 longer than the room.
+// What is shown of a proposal in state o.
+#[tactic(auto, using(crate::proofs::Answering::none_beyond))]
 fn judge(
     tab: &[u32; TAB],
     arcs: &[u32; ARCS],
     st: &[u32; POOL],
     o: usize,
     room: u64,
-    proposal: u32,
+    proposal: Proposal,
 ) -> HalfFit
     ensures { Answers tab.now arcs.now room result.outcome result.at }
 {
-    if proposal == 0 {
-        return judge_fit(tab, arcs, st, o, room);
-    }
-    if beyond(tab, arcs, st, o, room, proposal) {
-        return HalfFit {
-            outcome: HalfOutcome::Beyond,
-            at: [0u64; Axis::MACROS],
-        };
-    }
-    HalfFit {
-        outcome: HalfOutcome::Unshown,
-        at: [0u64; Axis::MACROS],
+    match proposal {
+        Proposal::Fit => judge_fit(tab, arcs, st, o, room),
+        Proposal::Nothing if shows_none(arcs, st, o) => no_fit(HalfOutcome::Beyond),
+        Proposal::Longer if shows_beyond(tab, arcs, st, o, room) => no_fit(HalfOutcome::Beyond),
+        _ => no_fit(HalfOutcome::Unshown),
     }
 }
 
@@ -111,7 +85,7 @@ pub fn first_half(
     ensures { Answers tab.now arcs.now room result.outcome result.at }
 {
     put_lists(tab, help);
-    let proposal = cold(tab, help, arcs, st, o);
+    let proposal = cold(Given { tab, help, arcs }, st, o);
     judge(tab, arcs, st, o, room, proposal)
 }
 
@@ -131,6 +105,6 @@ pub fn half_fit(
     ensures { Answers tab.now arcs.now room result.outcome result.at }
 {
     copy(from, j, st, o);
-    let proposal = insert(tab, help, arcs, st, o, u, v, room);
+    let proposal = insert(Given { tab, help, arcs }, st, o, u, v, room);
     judge(tab, arcs, st, o, room, proposal)
 }

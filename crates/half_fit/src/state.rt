@@ -1,24 +1,15 @@
 // The arrays that proposals are made on. Every index is taken modulo its range and sums modulo 2^32, so nothing is asked of a caller.
 //
 // A pool is four states of 608 numbers, lent whole with the number o of a state. A part of a state is named by where it begins, in units of
-// 32 numbers: K residual bounds between two nodes, V how they arise, F what the bounds carry (96 numbers each, of which the 81 pairs of
-// nodes use the first), H and L what the entries carry to hi and from lo (128 each), X values of the nodes, and behind them the length, the
-// parents and the ranks of the smallest values (64).
+// 32 numbers: K residual bounds between two nodes, V how they arise, FLOWS what the bounds carry (96 numbers each, of which the 81 pairs of
+// nodes use the first), HIGHS and LOWS what the entries carry to hi and from lo (128 each), X values of the nodes, and behind them the length,
+// the parents and the ranks of the smallest values (64).
 use crate::POOL;
-use std::num::{wrapping_add_u32, wrapping_sub_u32};
-
-// The numbers of a state, and of a pool.
-pub(crate) const STATE: usize = 608;
+use half_arrays::{HIGHS, LOWS, RAISED, STATE};
 
 pub(crate) const K: usize = 0;
 
 pub(crate) const V: usize = 3;
-
-pub(crate) const F: usize = 6;
-
-pub(crate) const H: usize = 9;
-
-pub(crate) const L: usize = 13;
 
 pub(crate) const X: usize = 17;
 
@@ -28,33 +19,25 @@ pub(crate) const LEN: usize = 16;
 pub(crate) const FLOW: usize = 17;
 
 // Bounds and differences are held higher by this.
-pub(crate) const BIAS: u32 = 16777216;
+pub(crate) const BIAS: u32 = RAISED as u32;
 
-pub(crate) const TWICE: u32 = 33554432;
+pub(crate) const TWICE: u32 = 2 * BIAS;
 
 // No bound.
-pub(crate) const LOW: u32 = 15777216;
+pub(crate) const NO_BOUND: u32 = 15777216;
 
 // A distance, and an amount, above all others.
 pub(crate) const FAR: u32 = 1000000;
 
-// How a residual bound arises: the bound, the bound of the other way that carries, two entries with hi or lo.
-pub(crate) const FWD: u32 = 0;
-
-pub(crate) const REV: u32 = 65536;
-
-pub(crate) const HI: u32 = 131072;
-
-pub(crate) const LO: u32 = 196608;
-
 // The ends of a net, hi and lo.
-pub(crate) const TOP: usize = 0;
-
-pub(crate) const BOTTOM: usize = 1;
-
-pub(crate) fn wide(x: u32) -> usize {
-    x as usize
+#[derive(Clone, Copy)]
+pub(crate) enum End {
+    Top,
+    Bottom,
 }
+
+// One number for each node.
+pub(crate) type PerNode = [u32; 16];
 
 pub(crate) fn narrow(x: usize) -> u32 {
     (x % 65536) as u32
@@ -64,15 +47,9 @@ pub(crate) fn low_half(x: u64) -> u32 {
     (x % 4294967296) as u32
 }
 
+#[tactic(auto, using(crate::proofs::Products::product_fits))]
 pub(crate) fn times(a: u32, b: u32) -> u64 {
     a as u64 * b as u64
-}
-
-pub(crate) fn lesser(a: u32, b: u32) -> u32 {
-    if a < b {
-        return a;
-    }
-    b
 }
 
 pub(crate) fn cell(u: usize, v: usize) -> usize {
@@ -88,13 +65,21 @@ pub(crate) fn put(s: &mut [u32; POOL], o: usize, p: usize, k: usize, v: u32) {
     s[o % 4 * STATE + p % 20 * 32 + k % 128] = v;
 }
 
-// What entry i carries at end e of its net.
-pub(crate) fn carried(s: &[u32; POOL], o: usize, e: usize, i: usize) -> u32 {
-    get(s, o, H + e % 2 * 4, i)
+// The part of what entries carry at an end of their nets.
+fn carrying(e: End) -> usize {
+    match e {
+        End::Top => HIGHS,
+        End::Bottom => LOWS,
+    }
 }
 
-pub(crate) fn put_carried(s: &mut [u32; POOL], o: usize, e: usize, i: usize, v: u32) {
-    put(s, o, H + e % 2 * 4, i, v);
+// What entry i carries at end e of its net.
+pub(crate) fn carried(s: &[u32; POOL], o: usize, e: End, i: usize) -> u32 {
+    get(s, o, carrying(e), i)
+}
+
+pub(crate) fn put_carried(s: &mut [u32; POOL], o: usize, e: End, i: usize, v: u32) {
+    put(s, o, carrying(e), i, v);
 }
 
 // The residual bound from u to v.
@@ -102,12 +87,11 @@ pub(crate) fn residual(s: &[u32; POOL], o: usize, u: usize, v: usize) -> u32 {
     s[o % 4 * STATE + u % 16 * 9 + v % 16]
 }
 
-// One number for each node.
-pub(crate) fn at(d: &[u32; 16], k: usize) -> u32 {
+pub(crate) fn at(d: &PerNode, k: usize) -> u32 {
     d[k % 16]
 }
 
-pub(crate) fn set(d: &mut [u32; 16], k: usize, v: u32) {
+pub(crate) fn set(d: &mut PerNode, k: usize, v: u32) {
     d[k % 16] = v;
 }
 
@@ -127,21 +111,14 @@ pub(crate) fn set_tie(s: &mut [u32; POOL], o: usize, w: usize, p: u32, r: u32) {
 
 // How much the values lack of the bound b from u to v; 0 where they keep it.
 pub(crate) fn lack_of(s: &[u32; POOL], o: usize, u: usize, v: usize, b: u32) -> u32 {
-    let need = wrapping_add_u32(b, value(s, o, u));
-    let have = wrapping_add_u32(BIAS, value(s, o, v));
-    if need <= have {
-        return 0;
-    }
-    wrapping_sub_u32(need, have)
+    let need = b.wrapping_add(value(s, o, u));
+    let have = BIAS.wrapping_add(value(s, o, v));
+    need.saturating_sub(have)
 }
 
 // State a of another pool into state o of this one.
 pub(crate) fn copy(from: &[u32; POOL], a: usize, to: &mut [u32; POOL], o: usize) {
     let left = a % 4 * STATE;
     let right = o % 4 * STATE;
-    let mut i: usize = 0;
-    while i < STATE {
-        to[right + i] = from[left + i];
-        i += 1;
-    }
+    to[right..right + STATE].copy_from_slice(&from[left..left + STATE]);
 }

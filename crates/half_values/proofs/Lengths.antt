@@ -13,7 +13,7 @@ use mir.Syntax.{w64}
 use mir.Val.{Fits}
 use Rattle.num_laws.specs.Sum.{sum}
 use Rattle.num_laws.proofs.Sums.{sum_eq}
-use Rattle.num_laws.proofs.Spreads.{most_le, spread_le, top_bottom, top_found, bottom_found}
+use Rattle.num_laws.proofs.Spreads.{spread_le, top_bottom, top_found, bottom_found}
 use Rattle.num_laws.specs.Spread.{most, fewest, spread}
 use Rattle.axis_bounds.specs.Axis.{nets_length, value_at, no_pin}
 use Rattle.axis_bounds.proofs.Places.{place_at_law}
@@ -139,9 +139,6 @@ module _ (tab x : List ℕ) (v : Values x) where
       let s = v.small n in
       omega arith
 
-  top_most : (k j : ℕ) → most 0 (places_on tab (macros x) k j) ≤ 73726
-  top_most k j = most_le 73726 0 (places_on tab (macros x) k j) (omega arith) (record { at = λ i l. place_most k j i })
-
   term_most : (j : ℕ) → net_term tab (macros x) j ≤ 4831633410
   unfolding weight_at
   term_most j =
@@ -155,22 +152,22 @@ module _ (tab x : List ℕ) (v : Values x) where
   terms_most zero = omega arith
   terms_most (suc j) = let p = terms_most j in let q = term_most j in omega arith
 
-  module _ (ts bs : List ℕ) (h : NetEnds tab (macros x) (entry_count tab) ts bs) (j w : ℕ) (l : j < 32) (ew : w ≡ weight_at tab j) (c : ℕ) (ec : c ≡ min (get_or ts j 0) (get_or bs j 0)) where
-    term_is : w * (get_or ts j 0 - c) ≡ net_term tab (macros x) j
+  module _ (ts bs : List ℕ) (h : NetEnds tab (macros x) (entry_count tab) ts bs) (j w : ℕ) (l : j < 32) (ew : w ≡ weight_at tab j) (c : ℕ) (ec : c ≡ get_or ts j 0 - get_or bs j 0) where
+    term_is : w * c ≡ net_term tab (macros x) j
     term_is =
         let s = spread_is (places_on tab (macros x) (entry_count tab) j) (λ i k. let p = place_most (entry_count tab) j i in omega arith) in
         let a = h.top j l in let b = h.bottom j l in
-        let d : get_or ts j 0 - c ≡ spread (places_on tab (macros x) (entry_count tab) j) = omega arith in
+        let d : c ≡ spread (places_on tab (macros x) (entry_count tab) j) = omega arith in
         rw (ew, d) refl
 
-    pub term_fits : Fits w64 (w * (get_or ts j 0 - c))
+    pub term_fits : Fits w64 (w * c)
     term_fits = let e = term_is in let m = term_most j in omega arith
 
     module _ (a : ℕ) (ea : a ≡ sum (net_term tab (macros x)) j) where
-      pub terms_fits : Fits w64 (a + w * (get_or ts j 0 - c))
+      pub terms_fits : Fits w64 (a + w * c)
       terms_fits = let e = term_is in let m = term_most j in let n = terms_most j in omega arith
 
-      pub terms_more : a + w * (get_or ts j 0 - c) ≡ sum (net_term tab (macros x)) (j + 1)
+      pub terms_more : a + w * c ≡ sum (net_term tab (macros x)) (j + 1)
       unfolding sum
       terms_more = rw (add-one j) (let e = term_is in omega arith)
 

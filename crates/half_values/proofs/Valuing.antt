@@ -1,11 +1,11 @@
 -- Coordinates and the values of the nodes.
 use Prim.Native.Nat.{ℕ, zero, suc, ◌%◌, ◌≤◌, ◌<◌}
-use mathlib.Core.Path.{◌≡◌, refl, ap, sym, ◌∙◌}
+use mathlib.Core.Path.{◌≡◌, refl, ap, sym, subst, ◌∙◌}
 use mathlib.Core.List.{List, [], ◌∷◌}
 use native.Mathlib.Omega.{arith}
 use lib.ListN.{length, get_or}
 use Rattle.axis_bounds.specs.Axis.{value_at}
-use Rattle.half_arrays.specs.State.{coordinate_at, coordinates, limited}
+use Rattle.half_arrays.specs.State.{coordinates, limited}
 use Rattle.half_values.specs.Values.{Values, ValuesOf, macros}
 
 -- ---- eight numbers
@@ -13,23 +13,18 @@ use Rattle.half_values.specs.Values.{Values, ValuesOf, macros}
 abbrev eight : ℕ → ℕ → ℕ → ℕ → ℕ → ℕ → ℕ → ℕ → List ℕ
 eight a b c d e f g h = a ∷ b ∷ c ∷ d ∷ e ∷ f ∷ g ∷ h ∷ []
 
-pub coordinates_are : (st : List ℕ) (o a b c d e f g h : ℕ) → a ≡ coordinate_at st o 1 → b ≡ coordinate_at st o 2 → c ≡ coordinate_at st o 3 → d ≡ coordinate_at st o 4 → e ≡ coordinate_at st o 5 → f ≡ coordinate_at st o 6 → g ≡ coordinate_at st o 7 → h ≡ coordinate_at st o 8 → eight a b c d e f g h ≡ coordinates st o
-unfolding coordinates
-coordinates_are st o a b c d e f g h ea eb ec ed ee ef eg eh = rw (ea, eb, ec, ed, ee, ef, eg, eh) refl
-
 -- a list of eight numbers by its numbers
-limited_eight : (z : List ℕ) → length z ≡ 8 → limited z ≡ eight (get_or z 0 0 % 8192) (get_or z 1 0 % 8192) (get_or z 2 0 % 8192) (get_or z 3 0 % 8192) (get_or z 4 0 % 8192) (get_or z 5 0 % 8192) (get_or z 6 0 % 8192) (get_or z 7 0 % 8192)
-unfolding limited
-limited_eight [] l = absurd (omega arith)
-limited_eight (a ∷ []) l = absurd (omega arith)
-limited_eight (a ∷ b ∷ []) l = absurd (omega arith)
-limited_eight (a ∷ b ∷ c ∷ []) l = absurd (omega arith)
-limited_eight (a ∷ b ∷ c ∷ d ∷ []) l = absurd (omega arith)
-limited_eight (a ∷ b ∷ c ∷ d ∷ e ∷ []) l = absurd (omega arith)
-limited_eight (a ∷ b ∷ c ∷ d ∷ e ∷ f ∷ []) l = absurd (omega arith)
-limited_eight (a ∷ b ∷ c ∷ d ∷ e ∷ f ∷ g ∷ []) l = absurd (omega arith)
-limited_eight (a ∷ b ∷ c ∷ d ∷ e ∷ f ∷ g ∷ h ∷ []) l = refl
-limited_eight (a ∷ b ∷ c ∷ d ∷ e ∷ f ∷ g ∷ h ∷ i ∷ s) l = absurd (omega arith)
+by_eight : (z : List ℕ) → length z ≡ 8 → eight (get_or z 0 0) (get_or z 1 0) (get_or z 2 0) (get_or z 3 0) (get_or z 4 0) (get_or z 5 0) (get_or z 6 0) (get_or z 7 0) ≡ z
+by_eight [] l = absurd (omega arith)
+by_eight (a ∷ []) l = absurd (omega arith)
+by_eight (a ∷ b ∷ []) l = absurd (omega arith)
+by_eight (a ∷ b ∷ c ∷ []) l = absurd (omega arith)
+by_eight (a ∷ b ∷ c ∷ d ∷ []) l = absurd (omega arith)
+by_eight (a ∷ b ∷ c ∷ d ∷ e ∷ []) l = absurd (omega arith)
+by_eight (a ∷ b ∷ c ∷ d ∷ e ∷ f ∷ []) l = absurd (omega arith)
+by_eight (a ∷ b ∷ c ∷ d ∷ e ∷ f ∷ g ∷ []) l = absurd (omega arith)
+by_eight (a ∷ b ∷ c ∷ d ∷ e ∷ f ∷ g ∷ h ∷ []) l = refl
+by_eight (a ∷ b ∷ c ∷ d ∷ e ∷ f ∷ g ∷ h ∷ i ∷ s) l = absurd (omega arith)
 
 -- each at most 8191
 eight_small : (a b c d e f g h : ℕ) → a ≤ 8191 → b ≤ 8191 → c ≤ 8191 → d ≤ 8191 → e ≤ 8191 → f ≤ 8191 → g ≤ 8191 → h ≤ 8191 → (k : ℕ) → get_or (eight a b c d e f g h) k 0 ≤ 8191
@@ -65,12 +60,26 @@ limited_coordinates st o = limited_same (coordinates st o) (λ i l. let q = coor
 
 -- ---- values
 
-pub values_are : (z : List ℕ) → length z ≡ 8 → ValuesOf (limited z) (0 ∷ eight (get_or z 0 0 % 8192) (get_or z 1 0 % 8192) (get_or z 2 0 % 8192) (get_or z 3 0 % 8192) (get_or z 4 0 % 8192) (get_or z 5 0 % 8192) (get_or z 6 0 % 8192) (get_or z 7 0 % 8192))
-values_are z l = record { values = record { long = refl; corner = refl; small = small }; is = sym (limited_eight z l) }
+limited_most : (z : List ℕ) (k : ℕ) → get_or (limited z) k 0 ≤ 8191
+unfolding limited
+limited_most [] k = omega arith
+limited_most (a ∷ z) zero = omega arith
+limited_most (a ∷ z) (suc k) = limited_most z k
+
+limited_long : (z : List ℕ) → length (limited z) ≡ length z
+unfolding limited
+limited_long [] = refl
+limited_long (a ∷ z) = let q = limited_long z in omega arith
+
+pub values_are : (z r : List ℕ) → length z ≡ 8 → r ≡ limited z → ValuesOf (limited z) (0 ∷ eight (get_or r 0 0) (get_or r 1 0) (get_or r 2 0) (get_or r 3 0) (get_or r 4 0) (get_or r 5 0) (get_or r 6 0) (get_or r 7 0))
+values_are z r l e = record { values = record { long = refl; corner = refl; small = small }; is = is }
   where
-    small : (k : ℕ) → get_or (0 ∷ eight (get_or z 0 0 % 8192) (get_or z 1 0 % 8192) (get_or z 2 0 % 8192) (get_or z 3 0 % 8192) (get_or z 4 0 % 8192) (get_or z 5 0 % 8192) (get_or z 6 0 % 8192) (get_or z 7 0 % 8192)) k 0 ≤ 8191
+    is : eight (get_or r 0 0) (get_or r 1 0) (get_or r 2 0) (get_or r 3 0) (get_or r 4 0) (get_or r 5 0) (get_or r 6 0) (get_or r 7 0) ≡ limited z
+    is = by_eight r (ap length e ∙ limited_long z ∙ l) ∙ e
+
+    small : (k : ℕ) → get_or (0 ∷ eight (get_or r 0 0) (get_or r 1 0) (get_or r 2 0) (get_or r 3 0) (get_or r 4 0) (get_or r 5 0) (get_or r 6 0) (get_or r 7 0)) k 0 ≤ 8191
     small zero = omega arith
-    small (suc k) = eight_small _ _ _ _ _ _ _ _ (omega arith) (omega arith) (omega arith) (omega arith) (omega arith) (omega arith) (omega arith) (omega arith) k
+    small (suc k) = subst (λ (t : List ℕ). get_or t k 0 ≤ 8191) (sym is) (limited_most z k)
 
 -- coordinates of a state are below the die's side already
 pub state_values : (st : List ℕ) (o : ℕ) (z x : List ℕ) → z ≡ coordinates st o → ValuesOf (limited z) x → ValuesOf (coordinates st o) x

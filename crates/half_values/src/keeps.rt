@@ -5,19 +5,16 @@ ghost use Rattle.half_arrays.specs.State.{limited};
 
 use crate::values::values_of;
 use axis_bounds::Axis;
-use half_arrays::{ARCS, bound};
+use half_arrays::{ARCS, NODES, PAIRS, RAISED, bound};
 
 pub fn keeps_bounds(arcs: &[u32; ARCS], at: [u64; Axis::MACROS]) -> bool
     ensures { Says result (KeepsTo arcs.now (limited at) 81) }
 {
     let x = values_of(at);
-    let mut c: usize = 0;
-    while c < 81 {
-        let b = bound(arcs, c);
-        if x[c % 9] + 16777216 < x[c / 9] + b {
+    for c in 0..PAIRS {
+        if x[c % NODES] + RAISED < x[c / NODES] + bound(arcs, c) {
             return false;
         }
-        c += 1;
     }
     true
 }

@@ -1,7 +1,7 @@
 -- The tests of amounts node by node and net by net.
 use Prim.Native.Nat.{ℕ, ◌+◌, ◌≤◌, ◌<◌}
 use mathlib.Core.Path.{◌≡◌, sym, ◌∙◌}
-use mathlib.Core.Bool.{Bool, true, false, not}
+use mathlib.Core.Bool.{Bool, true}
 use mathlib.Core.List.{List}
 use native.Mathlib.Decide.{ℕ_discrete}
 use native.Mathlib.Omega.{arith}
@@ -14,7 +14,6 @@ use Rattle.half_arrays.specs.Says.{Says}
 use Rattle.half_sums.specs.Sums.{EntrySums, FlowSums, SumsWithin}
 use Rattle.half_worth.specs.Amounts.{Balances, GivesWeights, Passes}
 use Rattle.half_worth.specs.Tests.{Level, Given}
-use Rattle.half_arrays.proofs.Answers.{said}
 
 -- ---- nodes
 
@@ -63,5 +62,5 @@ module _ (tab arcs st : List ℕ) (o : ℕ) (nh nl th tl : List ℕ) (u d : ℕ)
   given : Given tab th tl 32 → GivesWeights tab (hi_at st o) (lo_at st o)
   given h = record { high = λ j l. sym (e.net_high.at j l) ∙ h.high j l; low = λ j l. sym (e.net_low.at j l) ∙ h.low j l }
 
-  pub both_pass : (b g : Bool) → Says b (Level is nl os nh 9) → not b ≡ false → Says g (Given tab th tl 32) → Says g (Passes tab (flow_at st o) (hi_at st o) (lo_at st o))
-  both_pass b g sb eb sg = record { then = λ t. record { balance = balanced (said b sb eb); weights = given (sg.then t) } }
+  pub both_pass : (b g : Bool) → Says b (Level is nl os nh 9) → b ≡ true → Says g (Given tab th tl 32) → Says g (Passes tab (flow_at st o) (hi_at st o) (lo_at st o))
+  both_pass b g sb eb sg = record { then = λ t. record { balance = balanced (sb.then eb); weights = given (sg.then t) } }

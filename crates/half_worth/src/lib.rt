@@ -11,7 +11,7 @@ ghost use Rattle.half_arrays.specs.Arrays.{axis_on};
 ghost use Rattle.half_sums.specs.Sums.{SumsWithin};
 
 use axis_bounds::Axis;
-use half_arrays::{ARCS, POOL, TAB, weight};
+use half_arrays::{ARCS, NODES, POOL, RAISED, TAB, weight};
 use half_sums::{OfBounds, OfEntries, of_bounds, of_entries};
 
 // Amounts that pass both tests, or may not; their worth is `more` less `less`.
@@ -22,33 +22,26 @@ pub struct Worth {
     pub less: u64,
 }
 
-fn balances(e: OfEntries, b: OfBounds) -> bool
-    requires { SumsWithin b.into × SumsWithin b.out × SumsWithin e.low × SumsWithin e.high }
-    ensures { Says result (Level b.into e.low b.out e.high 9) }
+fn balances(e: &OfEntries, b: &OfBounds) -> bool
+    requires { SumsWithin b.now.into × SumsWithin b.now.out × SumsWithin e.now.low × SumsWithin e.now.high }
+    ensures { Says result (Level b.now.into e.now.low b.now.out e.now.high 9) }
 {
-    let mut k: usize = 0;
-    while k < 9 {
+    for k in 0..NODES {
         if b.into[k] + e.low[k] != b.out[k] + e.high[k] {
             return false;
         }
-        k += 1;
     }
     true
 }
 
-fn gives_weights(tab: &[u32; TAB], e: OfEntries) -> bool
-    ensures { Says result (Given tab.now e.hi e.lo 32) }
+fn gives_weights(tab: &[u32; TAB], e: &OfEntries) -> bool
+    ensures { Says result (Given tab.now e.now.hi e.now.lo 32) }
 {
-    let mut j: usize = 0;
-    while j < Axis::NETS {
+    for j in 0..Axis::NETS {
         let w = weight(tab, j);
-        if e.hi[j] != w {
+        if e.hi[j] != w || e.lo[j] != w {
             return false;
         }
-        if e.lo[j] != w {
-            return false;
-        }
-        j += 1;
     }
     true
 }
@@ -60,20 +53,16 @@ pub fn worth_of(tab: &[u32; TAB], arcs: &[u32; ARCS], st: &[u32; POOL], o: usize
 {
     let e = of_entries(tab, st, o);
     let b = of_bounds(arcs, st, o);
-    let more = e.up + b.by;
-    let less = e.down + 16777216 * b.all;
-    if !balances(e, b) {
-        return Worth {
-            passes: false,
-            more,
-            less,
-        };
+    let passes = balances(&e, &b) && gives_weights(tab, &e);
+    Worth {
+        passes,
+        more: e.up + b.by,
+        less: e.down + RAISED * b.all,
     }
-    let passes = gives_weights(tab, e);
-    Worth { passes, more, less }
 }
 
 // Whether the amounts of state o show that the half fit is above the room or does not exist.
+#[tactic(auto, using(crate::proofs::Above::shows_above))]
 pub fn shows_beyond(
     tab: &[u32; TAB],
     arcs: &[u32; ARCS],
@@ -84,11 +73,5 @@ pub fn shows_beyond(
     ensures { Says result (AboveOn (axis_on tab.now arcs.now) room) }
 {
     let w = worth_of(tab, arcs, st, o);
-    if w.more <= w.less {
-        return false;
-    }
-    if w.more - w.less <= room {
-        return false;
-    }
-    w.passes
+    w.passes && room < w.more.saturating_sub(w.less)
 }

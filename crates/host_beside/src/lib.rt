@@ -5,7 +5,7 @@ ghost use Rattle.std.specs.Prelude.{◌≡◌};
 ghost use Rattle.beside_check.specs.Beside.{beside_as};
 ghost use Rattle.host_beside.specs.CodeBeside.{text_number, beside_code};
 
-use beside_check::{AtFault, BesideAnswer};
+use beside_check::{AtFault, BesideRefusal};
 use host_codes::{Code, YES, refusal_code};
 
 // What jizdovel_check_beside answers.
@@ -32,23 +32,20 @@ fn text_number(fault: AtFault) -> u64
     }
 }
 
-pub fn beside_code(answer: BesideAnswer) -> BesideCode
+pub fn beside_code(answer: Result<(), BesideRefusal>) -> BesideCode
     ensures { result ≡ beside_code (beside_as answer) }
 {
     match answer {
-        BesideAnswer::Passed => BesideCode {
+        Ok(()) => BesideCode {
             code: Code {
                 number: YES,
                 value: 0,
             },
             text: NEITHER,
         },
-        BesideAnswer::Refused(f, fault) => {
-            let text = text_number(fault);
-            BesideCode {
-                code: refusal_code(f),
-                text,
-            }
-        }
+        Err(f) => BesideCode {
+            code: refusal_code(f.refusal),
+            text: text_number(f.text),
+        },
     }
 }

@@ -8,10 +8,8 @@ ghost use Rattle.record_read.specs.Answer.{meant_record};
 ghost use Rattle.measure_held.specs.Answer.{measured, measured_as};
 ghost use Rattle.host_codes.specs.Code.{code, refused, of_reading, of_answer, of_measure};
 
-use chip_read::{ChipAnswer, ChipRead};
-use measure_held::MeasureAnswer;
-use model::{Refusal, WriteAnswer};
-use record_read::{RecordAnswer, RecordRead};
+use measure_held::Measurement;
+use model::{Chip, Record, Refusal};
 
 // What an exported function answers.
 #[derive(Clone, Copy)]
@@ -35,41 +33,39 @@ pub fn refusal_code(f: Refusal) -> Code
     }
 }
 
-pub fn chip_code(read: ChipRead) -> Code
+pub fn chip_code(read: Result<Chip, Refusal>) -> Code
     ensures { result ≡ code (of_reading (meant_chip read)) }
 {
-    let answer = read.answer;
-    match answer {
-        ChipAnswer::Accepted => Code {
+    match read {
+        Ok(_) => Code {
             number: YES,
             value: 0,
         },
-        ChipAnswer::Refused(f) => refusal_code(f),
+        Err(f) => refusal_code(f),
     }
 }
 
-pub fn record_code(read: RecordRead) -> Code
+pub fn record_code(read: Result<Record, Refusal>) -> Code
     ensures { result ≡ code (of_reading (meant_record read)) }
 {
-    let answer = read.answer;
-    match answer {
-        RecordAnswer::Accepted => Code {
+    match read {
+        Ok(_) => Code {
             number: YES,
             value: 0,
         },
-        RecordAnswer::Refused(f) => refusal_code(f),
+        Err(f) => refusal_code(f),
     }
 }
 
-pub fn answer_code(answer: WriteAnswer) -> Code
+pub fn answer_code(answer: Result<usize, Refusal>) -> Code
     ensures { result ≡ code (of_answer (answer_of answer)) }
 {
     match answer {
-        WriteAnswer::Text(n) => Code {
+        Ok(n) => Code {
             number: YES,
             value: n as u64,
         },
-        WriteAnswer::Refused(f) => refusal_code(f),
+        Err(f) => refusal_code(f),
     }
 }
 
@@ -77,23 +73,17 @@ pub fn answer_code(answer: WriteAnswer) -> Code
 fn legal_code(legal: bool, wl: u64) -> Code
     ensures { result ≡ code (of_measure (measured legal wl)) }
 {
-    if legal {
-        return Code {
-            number: YES,
-            value: wl,
-        };
-    }
     Code {
-        number: NO,
+        number: if legal { YES } else { NO },
         value: wl,
     }
 }
 
-pub fn measure_code(answer: MeasureAnswer) -> Code
+pub fn measure_code(answer: Result<Measurement, Refusal>) -> Code
     ensures { result ≡ code (of_measure (measured_as answer)) }
 {
     match answer {
-        MeasureAnswer::Measured(legal, wl) => legal_code(legal, wl),
-        MeasureAnswer::Refused(f) => refusal_code(f),
+        Ok(m) => legal_code(m.legal, m.length),
+        Err(f) => refusal_code(f),
     }
 }

@@ -1,4 +1,5 @@
 -- The fit of a chip text: what is refused before it, and what the two lent lists hold, in the form of the needs.
+use Rattle.std.specs.Prelude.{Result, Ok, Err, Option, Some, None}
 use Prim.Native.Nat.{ℕ, zero, suc, ◌+◌, ◌*◌, ◌≤◌, ◌<◌}
 use mathlib.Core.Path.{◌≡◌, refl, sym, ap, subst, ◌∙◌}
 use mathlib.Core.Bool.{Bool, true, false}
@@ -25,8 +26,6 @@ use Rattle.fit_slots.specs.Fit.{Fit, refused_by, no_fit, placed, are_letters, le
 use Rattle.search_branches.proofs.Betters.{Sized}
 use Rattle.search_branches.proofs.Closing.{fit_sized}
 use Rattle.fit.specs.declared.Fitted.{Fitted}
-use Rattle.fit.specs.declared.FitOutcome.{FitOutcome}
-use Rattle.fit.specs.declared.FitOutcome.TheVariants as outcome
 use Rattle.fit.specs.declared.FitAnswer.{FitAnswer}
 use Rattle.fit.specs.Answer.{outcome_of, positions_of, answer_for}
 use Rattle.fit.proofs.Outcomes.{take_filled, is_placed, is_none, is_refused}
@@ -132,7 +131,7 @@ module _ (c : HeldChip) (ok : Passed c) (s : List ℕ) where
         by slots places l =
             let same : fit_read (accepted C) s (length slots) (length places) ≡ unless first = ap (fit_read (accepted C) s (length slots)) l ∙ too_short (length slots) in
             record {
-              answer = e ∙ (ap (λ (t : FitOutcome). code (of_outcome t)) told ∙ (ap code (outcome_fit (fit_letters C s 1)) ∙ ap (λ (f : Fit). code (of_fit f)) (one_slot ∙ sym same)));
+              answer = e ∙ (ap (λ (t : Result (Option Fitted) Refusal). code (of_outcome t)) told ∙ (ap code (outcome_fit (fit_letters C s 1)) ∙ ap (λ (f : Fit). code (of_fit f)) (one_slot ∙ sym same)));
               filled = subst (λ (f : Fit). Filled C t f slots slots) (sym same) (slots_stay (eqb (length t) (letter_count C)) (are_letters t) slots);
               corners = places_stay (eqb (length t) (letter_count C)) (are_letters t) places ∙ ap (λ (f : Fit). places_after f places) (sym same);
             }
@@ -161,11 +160,11 @@ module _ (c : HeldChip) (ok : Passed c) (s : List ℕ) where
       corners = p ∙ ap (λ (f : Fit). places_after f places) (sym same_fit);
     }
 
-    coded : (o : FitOutcome) → a.outcome ≡ o → r ≡ code (of_outcome o) → r ≡ code (of_fit F)
-    coded o k e = e ∙ (ap (λ (t : FitOutcome). code (of_outcome t)) (sym k ∙ outcome_is) ∙ ap code (outcome_fit F))
+    coded : (o : Result (Option Fitted) Refusal) → a.outcome ≡ o → r ≡ code (of_outcome o) → r ≡ code (of_fit F)
+    coded o k e = e ∙ (ap (λ (t : Result (Option Fitted) Refusal). code (of_outcome t)) (sym k ∙ outcome_is) ∙ ap code (outcome_fit F))
 
-    pub long_placed : (f : Fitted) → a.outcome ≡ outcome.Placed f → r ≡ code (of_outcome (outcome.Placed f)) → (placesThen : List ℕ) → placesThen ≡ sets places 0 (keys (take c.n a.spots)) → FitDone (accepted C) s r slots slotsAfter places placesThen
-    long_placed f k e placesThen p = done_by placesThen (coded (outcome.Placed f) k e) (p ∙ (ap (λ (t : List Spot). sets places 0 (keys t)) spots ∙ (front ∙ ap (λ (g : Fit). places_after g places) (sym is))))
+    pub long_placed : (f : Fitted) → a.outcome ≡ Ok (Some f) → r ≡ code (of_outcome (Ok (Some f))) → (placesThen : List ℕ) → placesThen ≡ sets places 0 (keys (take c.n a.spots)) → FitDone (accepted C) s r slots slotsAfter places placesThen
+    long_placed f k e placesThen p = done_by placesThen (coded (Ok (Some f)) k e) (p ∙ (ap (λ (t : List Spot). sets places 0 (keys t)) spots ∙ (front ∙ ap (λ (g : Fit). places_after g places) (sym is))))
       where
         is : F ≡ placed f.length f.slots (positions_of F)
         is = is_placed a.outcome F outcome_is f k
@@ -185,11 +184,11 @@ module _ (c : HeldChip) (ok : Passed c) (s : List ℕ) where
             let z : 0 + length N ≡ length N = omega arith in
             sets-eq N places 0 (omega arith) ∙ ap (λ (i : ℕ). N ++ drop i places) z
 
-    pub long_none : a.outcome ≡ outcome.NoFit → r ≡ code (of_outcome outcome.NoFit) → FitDone (accepted C) s r slots slotsAfter places places
-    long_none k e = done_by places (coded outcome.NoFit k e) (ap (λ (f : Fit). places_after f places) (sym (is_none a.outcome F outcome_is k)))
+    pub long_none : a.outcome ≡ Ok None → r ≡ code (of_outcome (Ok None)) → FitDone (accepted C) s r slots slotsAfter places places
+    long_none k e = done_by places (coded (Ok None) k e) (ap (λ (f : Fit). places_after f places) (sym (is_none a.outcome F outcome_is k)))
 
-    pub long_refused : (f : Refusal) → a.outcome ≡ outcome.Refused f → r ≡ code (refused_code f.no f.line) → FitDone (accepted C) s r slots slotsAfter places places
-    long_refused f k e = done_by places (coded (outcome.Refused f) k e) (ap (λ (g : Fit). places_after g places) (sym (is_refused a.outcome F outcome_is f k)))
+    pub long_refused : (f : Refusal) → a.outcome ≡ Err f → r ≡ code (refused_code f.no f.line) → FitDone (accepted C) s r slots slotsAfter places places
+    long_refused f k e = done_by places (coded (Err f) k e) (ap (λ (g : Fit). places_after g places) (sym (is_refused a.outcome F outcome_is f k)))
 
 module _ (room n : ℕ) (b : Bool) (q : b ≡ ltb room (2 * n)) where
   -- the test of the list's length
@@ -207,6 +206,3 @@ refused_done c s room r d l slots places e = d.done l slots places (sym e)
 module _ (text s slots slotsAfter places placesThen : List ℕ) (r : Code) where
   pub fit_read_law : (c : HeldChip) → read_chip text ≡ accepted (chip_of c) → FitDone (accepted (chip_of c)) s r slots slotsAfter places placesThen → FitDone (read_chip text) s r slots slotsAfter places placesThen
   fit_read_law c e d = subst (λ (t : Reading Chip). FitDone t s r slots slotsAfter places placesThen) (sym e) d
-
-pub fit_refused : (text s slots places : List ℕ) (f : Refusal) (r : Code) → read_chip text ≡ refused f.no f.line → r ≡ code (refused_code f.no f.line) → FitDone (read_chip text) s r slots slots places places
-fit_refused text s slots places f r e q = subst (λ (t : Reading Chip). FitDone t s r slots slots places places) (sym e) (record { answer = q; filled = refl; corners = refl })

@@ -1,5 +1,7 @@
 -- What a fit answers and leaves in the two lent lists, over the bytes and numbers that a host hands over.
-use Rattle.std.specs.Prelude.{ℕ, ◌*◌, ◌≡◌, List, [], ◌∷◌, ◌++◌, leb, length, drop}
+use Rattle.model.specs.declared.Refusal.{Refusal}
+use Rattle.fit.specs.declared.Fitted.{Fitted}
+use Rattle.std.specs.Prelude.{ℕ, ◌*◌, ◌≡◌, List, [], ◌∷◌, ◌++◌, leb, length, drop, Result, Ok, Err, Option, Some, None}
 use Rattle.model.specs.Meaning.{Chip}
 use Rattle.refusals.specs.Tests.{Test, test, first_failed, unless_failed}
 use Rattle.text_grammar.specs.Reading.{Reading, accepted, refused}
@@ -7,8 +9,6 @@ use Rattle.chip_text.specs.Text.{read_chip}
 use Rattle.placement.specs.Order.{keys}
 use Rattle.fit_slots.specs.Fit.{Fit, refused_by, no_fit, placed, fit_each, string_for, fit_tests, Filled}
 use Rattle.host_codes.specs.declared.Code.{Code}
-use Rattle.fit.specs.declared.FitOutcome.{FitOutcome}
-use Rattle.fit.specs.declared.FitOutcome.TheVariants as outcome
 use Rattle.host_codes.specs.Code.{Outcome, granted, denied, code, of_fit}
 use Rattle.host_codes.specs.Code as coded
 
@@ -29,10 +29,10 @@ abbrev pub fit_text : List ℕ → List ℕ → ℕ → ℕ → Fit
 fit_text text s slots places = fit_read (read_chip text) s slots places
 
 -- document 01's number and values for each case of the program's answer of a fit
-abbrev pub of_outcome : FitOutcome → Outcome
-of_outcome (outcome.Placed f) = granted f.length
-of_outcome outcome.NoFit = denied 0
-of_outcome (outcome.Refused f) = coded.refused f.no f.line
+abbrev pub of_outcome : Result (Option Fitted) Refusal → Outcome
+of_outcome (Ok (Some f)) = granted f.length
+of_outcome (Ok None) = denied 0
+of_outcome (Err f) = coded.refused f.no f.line
 
 -- the list of slots: before was in it at entry, after at exit
 abbrev pub SlotsFilled : Reading Chip → List ℕ → Fit → List ℕ → List ℕ → Type 0

@@ -10,26 +10,25 @@ ghost use Rattle.host_codes.specs.Code.{code};
 ghost use Rattle.host_fit.specs.FitText.{of_outcome, FitDone};
 ghost use Rattle.host_fit.specs.Refusing.{Refusing};
 
-use chip_read::ChipAnswer;
-use fit::FitOutcome;
+use fit::Fitted;
 use host_codes::{Code, NO, YES, refusal_code};
 use host_lists::{is_short, put_corners};
-use model::Chip;
+use model::{Chip, Refusal};
 
 // Yes with the wirelength, no, or the refusal.
-fn fit_code(outcome: FitOutcome) -> Code
+fn fit_code(outcome: Result<Option<Fitted>, Refusal>) -> Code
     ensures { result ≡ code (of_outcome outcome) }
 {
     match outcome {
-        FitOutcome::Placed(f) => Code {
+        Ok(Some(f)) => Code {
             number: YES,
             value: f.length,
         },
-        FitOutcome::NoFit => Code {
+        Ok(None) => Code {
             number: NO,
             value: 0,
         },
-        FitOutcome::Refused(f) => refusal_code(f),
+        Err(f) => refusal_code(f),
     }
 }
 
@@ -40,8 +39,7 @@ fn short_code(c: Chip, letters: &[u8], room: usize) -> Code
 {
     let mut one = [0u16; 1];
     let a = fit::fit_letters(c, letters, &mut one);
-    let outcome = a.outcome;
-    fit_code(outcome)
+    fit_code(a.outcome)
 }
 
 // A chip that was read, and room for its positions.
@@ -50,17 +48,14 @@ fn long_code(c: Chip, letters: &[u8], slots: &mut [u16], positions: &mut [u64]) 
     requires n_in_bounds { c.n + c.n ≤ length positions.old }
     ensures { FitDone (accepted (chip_of c)) letters.now result slots.old slots.new positions.old positions.new }
 {
-    let n = c.n;
     let a = fit::fit_letters(c, letters, slots);
-    let spots = a.spots;
-    let outcome = a.outcome;
-    match outcome {
-        FitOutcome::Placed(f) => {
-            put_corners(positions, spots, n);
-            fit_code(FitOutcome::Placed(f))
+    match a.outcome {
+        Ok(Some(f)) => {
+            put_corners(positions, a.spots, c.n);
+            fit_code(Ok(Some(f)))
         }
-        FitOutcome::NoFit => fit_code(FitOutcome::NoFit),
-        FitOutcome::Refused(f) => refusal_code(f),
+        Ok(None) => fit_code(Ok(None)),
+        Err(f) => refusal_code(f),
     }
 }
 
@@ -80,11 +75,8 @@ fn fit_chip(c: Chip, letters: &[u8], slots: &mut [u16], positions: &mut [u64]) -
 pub fn fit_text(text: &[u8], letters: &[u8], slots: &mut [u16], positions: &mut [u64]) -> Code
     ensures { FitDone (read_chip text.now) letters.now result slots.old slots.new positions.old positions.new }
 {
-    let read = chip_read::read_chip(text);
-    let answer = read.answer;
-    let c = read.chip;
-    match answer {
-        ChipAnswer::Accepted => fit_chip(c, letters, slots, positions),
-        ChipAnswer::Refused(f) => refusal_code(f),
+    match chip_read::read_chip(text) {
+        Ok(c) => fit_chip(c, letters, slots, positions),
+        Err(f) => refusal_code(f),
     }
 }

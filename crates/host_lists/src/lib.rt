@@ -40,14 +40,12 @@ fn put(list: &mut [u64], at: usize, v: u64)
 pub fn put_corners(list: &mut [u64], spots: [Spot; Mac::COUNT], n: usize)
     ensures { list.new ≡ sets list.old 0 (keys (take n spots)) }
 {
-    let mut i: usize = 0;
-    while i < Mac::COUNT {
+    for i in 0..Mac::COUNT {
         if n <= i {
             return;
         }
         let p = spots[i];
         put(list, i + i, p.x);
         put(list, i + i + 1, p.y);
-        i += 1;
     }
 }

@@ -44,6 +44,3 @@ module _ (c : HeldChip) (ok : Passed c) (list : List ℕ) (no : ℕ) (q : no ≡
 module _ (text list : List ℕ) where
   pub measure_read_law : (c : HeldChip) (m : Measure) (r : Code) → read_chip text ≡ accepted (chip_of c) → m ≡ measure_read (accepted (chip_of c)) list → r ≡ code (of_measure m) → r ≡ code (of_measure (measure_text text list))
   measure_read_law c m r e h q = q ∙ (ap (λ (t : Measure). code (of_measure t)) h ∙ ap (λ (t : Reading Chip). code (of_measure (measure_read t list))) (sym e))
-
-  pub measure_refused : (f : Refusal) (r : Code) → read_chip text ≡ refused f.no f.line → r ≡ code (refused_code f.no f.line) → r ≡ code (of_measure (measure_text text list))
-  measure_refused f r e q = q ∙ ap (λ (t : Reading Chip). code (of_measure (measure_read t list))) (sym e)

@@ -9,10 +9,9 @@ ghost use Rattle.measure_held.specs.Answer.{measured_as};
 ghost use Rattle.host_codes.specs.Code.{code, of_measure};
 ghost use Rattle.host_measure.specs.MeasureText.{corners_of, measure_read, measure_text};
 
-use chip_read::ChipAnswer;
 use host_codes::{Code, measure_code, refusal_code};
 use host_lists::count_fault;
-use measure_held::MeasureAnswer;
+use measure_held::Measurement;
 use model::{Chip, Mac, Refusal, Spot};
 
 // The n corners of the numbers x1, y1, x2, y2 ..
@@ -22,26 +21,24 @@ fn corners(list: &[u64], n: usize) -> [Spot; Mac::COUNT]
     ensures { take n result ≡ corners_of list.now }
 {
     let mut spots = [Spot { x: 0, y: 0 }; Mac::COUNT];
-    let mut i: usize = 0;
-    while i < n {
+    for i in 0..n {
         spots[i] = Spot {
             x: list[i + i],
             y: list[i + i + 1],
         };
-        i += 1;
     }
     spots
 }
 
 // A chip that was read: 13 where there are not two numbers for each macro, else as measuring answers.
-fn measure_chip(c: Chip, list: &[u64]) -> MeasureAnswer
+fn measure_chip(c: Chip, list: &[u64]) -> Result<Measurement, Refusal>
     requires { Passed c }
     ensures { measured_as result ≡ measure_read (accepted (chip_of c)) list.now }
 {
     let n = c.n;
     let no = count_fault(list.len(), n);
     if no != 0 {
-        return MeasureAnswer::Refused(Refusal { no, line: 0 });
+        return Err(Refusal { no, line: 0 });
     }
     measure_list::measure_spots(c, n, corners(list, n))
 }
@@ -49,11 +46,8 @@ fn measure_chip(c: Chip, list: &[u64]) -> MeasureAnswer
 pub fn measure_text(text: &[u8], list: &[u64]) -> Code
     ensures { result ≡ code (of_measure (measure_text text.now list.now)) }
 {
-    let read = chip_read::read_chip(text);
-    let answer = read.answer;
-    let c = read.chip;
-    match answer {
-        ChipAnswer::Accepted => measure_code(measure_chip(c, list)),
-        ChipAnswer::Refused(f) => refusal_code(f),
+    match chip_read::read_chip(text) {
+        Ok(c) => measure_code(measure_chip(c, list)),
+        Err(f) => refusal_code(f),
     }
 }

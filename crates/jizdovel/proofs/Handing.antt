@@ -1,9 +1,10 @@
 -- A code handed out as a number and a value, in the form of the needs.
+use Rattle.std.specs.Prelude.{Result}
+use Rattle.model.specs.declared.Refusal.{Refusal}
 use Prim.Native.Nat.{ℕ}
 use mathlib.Core.Path.{◌≡◌, ap, ◌∙◌}
 use mathlib.Core.List.{List}
 use lib.ListN.{length}
-use Rattle.model.specs.declared.WriteAnswer.{WriteAnswer}
 use Rattle.model.specs.Meaning.{Chip}
 use Rattle.text_grammar.specs.Reading.{Reading}
 use Rattle.text_grammar.specs.Writing.{answer_of, Written}
@@ -21,7 +22,7 @@ handed r = record { number = r.number; value = r.value }
 pub read_handed : {A : Type 0} (a b : Reading A) (r : Code) → a ≡ b → r ≡ code (of_reading a) → handed r ≡ code (of_reading b)
 read_handed a b r e q = q ∙ ap (λ (t : Reading _). code (of_reading t)) e
 
-module _ (w : Written) (a : WriteAnswer) (out : List ℕ) (e : record { answer = answer_of a; buffer = out } ≡ w) where
+module _ (w : Written) (a : Result ℕ Refusal) (out : List ℕ) (e : record { answer = answer_of a; buffer = out } ≡ w) where
   pub text_handed : (r : Code) → r ≡ code (of_answer (answer_of a)) → handed r ≡ code (of_answer w.answer)
   text_handed r q = q ∙ ap (λ (t : Written). code (of_answer t.answer)) e
 

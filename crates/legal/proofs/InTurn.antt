@@ -18,17 +18,6 @@ use Rattle.geometry.proofs.Clear.{take_boxes_of}
 use Rattle.placement.specs.Legal.{boxes}
 use Rattle.legal.specs.Turn.{legal_box, legal_after, legal_held}
 
--- one box
-module _ (p : Bool) (r : Bool) (e : r ≡ p) where
-  pub test_fails : (q : Bool) → not r ≡ true → false ≡ (p && q)
-  test_fails q a = rw (← e, not-true r a)
-
-  pub second_fails : (q s t : Bool) → not r ≡ false → s ≡ q → not s ≡ true → false ≡ (p && (q && t))
-  second_fails q s t a f b = rw (← e, not-false r a, ← f, not-true s b)
-
-  pub third_left : (q s t u : Bool) → not r ≡ false → s ≡ q → not s ≡ false → u ≡ t → u ≡ (p && (q && t))
-  third_left q s t u a f b g = rw (← e, not-false r a, ← f, not-false s b, g)
-
 -- what the loop over the n boxes bs has left to test
 module _ (g : ℕ) (d : Die) (fs bs : List Box) (n : ℕ) where
   abbrev pub Left : ℕ → Type 0

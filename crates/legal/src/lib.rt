@@ -22,10 +22,8 @@ fn boxes_at(macs: [Mac; Mac::COUNT], spots: [Spot; Mac::COUNT]) -> [Box; Box::CO
         w: 0,
         h: 0,
     }; Box::COUNT];
-    let mut i: usize = 0;
-    while i < Mac::COUNT {
+    for i in 0..Mac::COUNT {
         bs[i] = geometry::box_at(macs[i], spots[i]);
-        i += 1;
     }
     bs
 }
@@ -36,13 +34,9 @@ fn legal_box(die: Die, fs: [Box; Box::COUNT], k: usize, bs: [Box; Box::COUNT], i
     ensures { result ≡ legal_box 0 die (take k fs) (take i bs) (get_or bs i blank_box) }
 {
     let b = bs[i];
-    if !geometry::in_die(die, b) {
-        return false;
-    }
-    if !geometry::clear_of(b, fs, k, GAP) {
-        return false;
-    }
-    geometry::clear_of(b, bs, i, GAP)
+    geometry::in_die(die, b)
+        && geometry::clear_of(b, fs, k, GAP)
+        && geometry::clear_of(b, bs, i, GAP)
 }
 
 // Whether each of the first n boxes is legal.
@@ -50,12 +44,10 @@ fn legal_first(die: Die, fs: [Box; Box::COUNT], k: usize, bs: [Box; Box::COUNT],
     requires { n ≤ 8 }
     ensures { result ≡ legal_after 0 die (take k fs) [] (take n bs) }
 {
-    let mut i: usize = 0;
-    while i < n {
+    for i in 0..n {
         if !legal_box(die, fs, k, bs, i) {
             return false;
         }
-        i += 1;
     }
     true
 }
@@ -81,9 +73,5 @@ fn legal_boxes(
 pub fn is_legal(c: Chip, spots: [Spot; Mac::COUNT]) -> bool
     ensures { result ≡ legal_held c spots }
 {
-    let die = c.die;
-    let fixes = c.fixes;
-    let macs = c.macs;
-    let bs = boxes_at(macs, spots);
-    legal_boxes(die, fixes, c.k, bs, c.n)
+    legal_boxes(c.die, c.fixes, c.k, boxes_at(c.macs, spots), c.n)
 }

@@ -1,4 +1,5 @@
 -- What measuring answers, in the form of the needs: by what the tests tell, and of positions that they accept.
+use Rattle.std.specs.Prelude.{Ok, Err, Result}
 use mathlib.Core.Path.{◌≡◌, refl, sym, ap, ◌∙◌}
 use mathlib.Core.List.{List}
 use Prim.Native.Nat.{ℕ, zero, suc}
@@ -6,8 +7,6 @@ use lib.ListN.{length, take}
 use Rattle.model.specs.declared.Chip.{Chip as HeldChip}
 use Rattle.model.specs.declared.Refusal.{Refusal}
 use Rattle.model.specs.declared.Spot.{Spot}
-use Rattle.model.specs.declared.Tested.{Tested}
-use Rattle.model.specs.declared.Tested.TheVariants as tested
 use Rattle.model.specs.Meaning.{Chip, chip_of, first_of, blank_spot}
 use Rattle.refusals.specs.Tests.{first_failed, unless_failed}
 use Rattle.text_grammar.specs.Reading.{Reading, accepted, refused as not_read}
@@ -23,7 +22,7 @@ use Rattle.placement.proofs.LengthBound.{wirelength_bound}
 use Rattle.measure_tests.specs.Positions.{measure_tests}
 use Rattle.measure_tests.specs.Tested.{tested_by}
 use Rattle.measure_tests.proofs.Testing.{chip_is_passed, the_spots, are_near}
-use Rattle.measure_held.specs.declared.MeasureAnswer.{MeasureAnswer}
+use Rattle.measure_held.specs.declared.Measurement.{Measurement}
 use Rattle.measure_held.specs.Answer.{Measure, refused, measured, measured_as}
 use Rattle.legal.specs.Turn.{legal_held}
 use Rattle.measure_held.specs.Held.{length_held, length_in}
@@ -46,37 +45,37 @@ pub measured_same : (c : Chip) (ps : List Spot) → measured (legal c ps) (wirel
 measured_same c ps = rw (legal_same c ps, length_same c ps)
 
 -- by what the tests tell
-abbrev said : Tested → Measure → Measure
-said (tested.Refused f) more = refused f.no f.line
-said tested.Passed more = more
+abbrev said : Result (Unit {0}) Refusal → Measure → Measure
+said (Err f) more = refused f.no f.line
+said (Ok _) more = more
 
 said_answer : (r : Reading Chip) (k : ℕ) (more : Measure) → said (tested_by r k) more ≡ after_reading r (unless_failed refused k more)
 said_answer (accepted c) zero more = refl
 said_answer (accepted c) (suc k) more = refl
 said_answer (not_read n l) k more = refl
 
-module _ (c : HeldChip) (s : List Spot) (count : ℕ) (t : Tested) (q : t ≡ tested_by (read_chip (chip_text (chip_of c))) (first_failed (measure_tests (chip_of c) (first_of blank_spot count s)))) where
+module _ (c : HeldChip) (s : List Spot) (count : ℕ) (t : Result (Unit {0}) Refusal) (q : t ≡ tested_by (read_chip (chip_text (chip_of c))) (first_failed (measure_tests (chip_of c) (first_of blank_spot count s)))) where
   abbrev first : ℕ
   first = first_failed (measure_tests (chip_of c) (first_of blank_spot count s))
 
   abbrev its : Measure
   its = measured (legal_z (chip_of c) (integers (first_of blank_spot count s))) (wirelength_z (chip_of c) (integers (first_of blank_spot count s)))
 
-  answered : (u : Tested) → t ≡ u → said u its ≡ measure_positions (chip_of c) (first_of blank_spot count s)
+  answered : (u : Result (Unit {0}) Refusal) → t ≡ u → said u its ≡ measure_positions (chip_of c) (first_of blank_spot count s)
   unfolding measure_passed
-  answered u z = ap (λ (v : Tested). said v its) (sym z ∙ q) ∙ said_answer (read_chip (chip_text (chip_of c))) first its
+  answered u z = ap (λ (v : Result (Unit {0}) Refusal). said v its) (sym z ∙ q) ∙ said_answer (read_chip (chip_text (chip_of c))) first its
 
-  pub is_refused : (f : Refusal) → t ≡ tested.Refused f → refused f.no f.line ≡ measure_positions (chip_of c) (first_of blank_spot count s)
-  is_refused f z = answered (tested.Refused f) z
+  pub is_refused : (f : Refusal) → t ≡ Err f → refused f.no f.line ≡ measure_positions (chip_of c) (first_of blank_spot count s)
+  is_refused f z = answered (Err f) z
 
-  pub is_measured : Whole c → length s ≡ 8 → t ≡ tested.Passed → (m : Measure) → m ≡ measured (legal_held c s) (length_held c s) → m ≡ measure_positions (chip_of c) (first_of blank_spot count s)
+  pub is_measured : Whole c → length s ≡ 8 → t ≡ Ok tt → (m : Measure) → m ≡ measured (legal_held c s) (length_held c s) → m ≡ measure_positions (chip_of c) (first_of blank_spot count s)
   is_measured w l z m e =
       e ∙ its_measure c s (chip_is_passed c w s l count t q z) w (are_near c w s l count t q z) l
       ∙ ap (λ (ps : List Spot). measured (legal (chip_of c) ps) (wirelength (chip_of c) ps)) (sym (the_spots c w s l count t q z))
       ∙ measured_same (chip_of c) (first_of blank_spot count s)
-      ∙ answered tested.Passed z
+      ∙ answered (Ok tt) z
 
 -- ---- the length in an answer
 
-pub length_told : (m : Measure) (a : MeasureAnswer) → measured_as a ≡ m → (l : ℕ) → l ≡ length_in (measured_as a) → l ≡ length_in m
+pub length_told : (m : Measure) (a : Result Measurement Refusal) → measured_as a ≡ m → (l : ℕ) → l ≡ length_in (measured_as a) → l ≡ length_in m
 length_told m a e l q = rw (q, e)

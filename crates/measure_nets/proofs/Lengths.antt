@@ -15,16 +15,6 @@ use Rattle.model.specs.declared.Pin.{Pin}
 use Rattle.measure_nets.specs.declared.NetBox.{NetBox}
 use Rattle.measure_nets.specs.Held.{limited, box_held, net_box_held, box_length_held}
 
-pub product_fits : (w p q m x y : ℕ) → m ≡ limited w → x ≡ limited p → y ≡ limited q → Fits w64 (m * (x + y))
-product_fits w p q m x y em ex ey =
-    let a : m ≤ 2147483648 = omega arith in
-    let b : x + y ≤ 4294967296 = omega arith in
-    let k : m * (x + y) ≤ 2147483648 * 4294967296 = mul-le-mul a b in
-    omega arith
-
-pub length_told : (w : ℕ) (b : NetBox) (m x y : ℕ) → m ≡ limited w → x ≡ limited (b.right - b.left) → y ≡ limited (b.top - b.bottom) → m * (x + y) ≡ box_length_held w b
-length_told w b m x y em ex ey = rw (em, ex, ey)
-
 -- a net whose pins would stand past the array has none
 pub net_past : (ps : List Spot) (hs : List Pin) (t : Net) (from : ℕ) → length hs ≡ 128 → net_box_held ps hs t (min from 128) ≡ net_box_held ps hs t from
 net_past ps hs t from l = ap (box_held ps) (by (dec_le from 128))

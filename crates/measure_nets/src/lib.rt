@@ -8,7 +8,6 @@ ghost use Rattle.placement.specs.Length.{origin};
 ghost use Rattle.measure_nets.specs.Held.{limited, held_x, held_y, with_pin, box_held, box_length_held};
 
 use model::{Mac, Pin, Spot};
-use num_limits::{greater, lesser};
 
 // Coordinates and weights count up to this, and the sides of a box.
 const MOST: u64 = 2147483648;
@@ -20,10 +19,7 @@ const FARTHEST: u64 = 4294967296;
 fn origin_of(spots: [Spot; Mac::COUNT], m: usize) -> Spot
     ensures { result ≡ origin spots m }
 {
-    if m == 0 {
-        return Spot { x: 0, y: 0 };
-    }
-    if Mac::COUNT < m {
+    if m == 0 || Mac::COUNT < m {
         return Spot { x: 0, y: 0 };
     }
     spots[m - 1]
@@ -34,8 +30,8 @@ fn place_of(spots: [Spot; Mac::COUNT], p: Pin) -> Spot
     ensures { result ≡ record { x = held_x spots p; y = held_y spots p } }
 {
     let o = origin_of(spots, p.m);
-    let x = lesser(o.x, MOST) + lesser(p.xup, MOST);
-    let y = lesser(o.y, MOST) + lesser(p.yup, MOST);
+    let x = o.x.min(MOST) + p.xup.min(MOST);
+    let y = o.y.min(MOST) + p.yup.min(MOST);
     Spot { x, y }
 }
 
@@ -52,10 +48,10 @@ pub struct NetBox {
 fn with_pin(b: NetBox, p: Spot) -> NetBox
     ensures { result ≡ with_pin b p }
 {
-    let left = lesser(b.left, p.x);
-    let right = greater(b.right, p.x);
-    let bottom = lesser(b.bottom, p.y);
-    let top = greater(b.top, p.y);
+    let left = b.left.min(p.x);
+    let right = b.right.max(p.x);
+    let bottom = b.bottom.min(p.y);
+    let top = b.top.max(p.y);
     NetBox {
         left,
         right,
@@ -68,13 +64,7 @@ fn with_pin(b: NetBox, p: Spot) -> NetBox
 pub fn end_of(from: usize, count: usize) -> usize
     ensures { result ≡ min (from + count) 128 }
 {
-    if Pin::COUNT < from {
-        return Pin::COUNT;
-    }
-    if Pin::COUNT - from < count {
-        return Pin::COUNT;
-    }
-    from + count
+    from.saturating_add(count).min(Pin::COUNT)
 }
 
 // The box of a net with as many pins from `from` on; of none, all ends are held as 0.
@@ -102,11 +92,9 @@ pub fn net_box(
         bottom: FARTHEST,
         top: 0,
     };
-    let mut i = from;
-    while i < to {
+    for i in from..to {
         let p = place_of(spots, pins[i]);
         b = with_pin(b, p);
-        i += 1;
     }
     b
 }
@@ -115,10 +103,7 @@ pub fn net_box(
 fn side(least: u64, greatest: u64) -> u64
     ensures { result ≡ limited (greatest - least) }
 {
-    if greatest < least {
-        return 0;
-    }
-    lesser(greatest - least, MOST)
+    greatest.saturating_sub(least).min(MOST)
 }
 
 // The length of a net of that weight with that box: the weight times its width plus its height.
@@ -127,5 +112,5 @@ pub fn net_length(weight: u64, b: NetBox) -> u64
 {
     let width = side(b.left, b.right);
     let height = side(b.bottom, b.top);
-    lesser(weight, MOST) * (width + height)
+    weight.min(MOST) * (width + height)
 }

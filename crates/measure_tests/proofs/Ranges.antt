@@ -22,24 +22,6 @@ module _ (s : List Spot) (n : ℕ) where
   abbrev pub Left : ℕ → Type 0
   Left i = in_range (take n s) ≡ in_range (slice i n s)
 
-  module _ (long : length s ≡ 8) (few : n ≤ 8) (i : ℕ) (h : i < n) (left : Left i) where
-    next_tested : in_range (take n s) ≡ ((leb (get_or s i blank_spot).x 1024 && leb (get_or s i blank_spot).y 1024) && in_range (slice (i + 1) n s))
-    unfolding all_of
-    next_tested = left ∙ rw (slice-cons i n s blank_spot h (omega arith), le-leb 0 (get_or s i blank_spot).x (omega arith), le-leb 0 (get_or s i blank_spot).y (omega arith), add-one)
-
-    pub x_above : 1024 < (get_or s i blank_spot).x → false ≡ in_range (take n s)
-    x_above a = rw (next_tested, lt-leb (get_or s i blank_spot).x 1024 a)
-
-    pub y_above : 1024 < (get_or s i blank_spot).y → false ≡ in_range (take n s)
-    y_above a = rw (next_tested, lt-leb (get_or s i blank_spot).y 1024 a, and-false)
-
-    pub one_within : (get_or s i blank_spot).x ≤ 1024 → (get_or s i blank_spot).y ≤ 1024 → Left (i + 1)
-    one_within a b = rw (next_tested, le-leb (get_or s i blank_spot).x 1024 a, le-leb (get_or s i blank_spot).y 1024 b)
-
-  pub all_tested : (i : ℕ) → i ≤ n → n ≤ i → Left i → true ≡ in_range (take n s)
-  unfolding all_of
-  all_tested i h g left = let e : i ≡ n = omega arith in rw (left, e, slice_empty n s)
-
 -- positions that pass are near
 pub in_range_near : (ps : List Spot) → true ≡ in_range ps → CornersWithin ps
 unfolding all_of

@@ -1,4 +1,5 @@
 -- What the tests of positions tell, and what is known where all are passed.
+use Rattle.std.specs.Prelude.{Ok, Err, Result}
 use Prim.Native.Nat.{ℕ, zero, suc}
 use mathlib.Core.Path.{◌≡◌, refl, sym, ap, ◌∙◌}
 use mathlib.Core.Bool.{Bool, true, false, false≢true}
@@ -8,8 +9,6 @@ use borrow.Author.Tests.{eqb-true}
 use Rattle.model.specs.declared.Chip.{Chip as HeldChip}
 use Rattle.model.specs.declared.Refusal.{Refusal}
 use Rattle.model.specs.declared.Spot.{Spot}
-use Rattle.model.specs.declared.Tested.{Tested}
-use Rattle.model.specs.declared.Tested.TheVariants as tested
 use Rattle.model.specs.Meaning.{Chip, chip_of, first_of, blank_spot}
 use Rattle.refusals.specs.Tests.{first_failed}
 use Rattle.refusals.proofs.FirstFailed.{first_passes, rest_passes, number_refused, number_none}
@@ -28,35 +27,35 @@ use Rattle.measure_tests.proofs.Ranges.{in_range_near}
 -- ---- in the form of the needs
 
 module _ (C : Chip) (no first : ℕ) (q : no ≡ first) where
-  pub tells_refused : (no ≡ 0 → ⊥) → tested.Refused (record { no = no; line = 0 }) ≡ tested_by (accepted C) first
-  tells_refused h = rw (← q) (number_refused refused_as tested.Passed no h)
+  pub tells_refused : (no ≡ 0 → ⊥) → Err (record { no = no; line = 0 }) ≡ tested_by (accepted C) first
+  tells_refused h = rw (← q) (number_refused refused_as (Ok tt) no h)
 
-  pub tells_passed : no ≡ 0 → tested.Passed ≡ tested_by (accepted C) first
-  tells_passed z = rw (← q) (number_none refused_as tested.Passed no z)
+  pub tells_passed : no ≡ 0 → Ok tt ≡ tested_by (accepted C) first
+  tells_passed z = rw (← q) (number_none refused_as (Ok tt) no z)
 
-module _ (C : Chip) (t : Tested) (e : tested_as C t ≡ read_chip (chip_text C)) (first : ℕ) where
-  pub chip_refused : (f : Refusal) → t ≡ tested.Refused f → tested.Refused f ≡ tested_by (read_chip (chip_text C)) first
+module _ (C : Chip) (t : Result (Unit {0}) Refusal) (e : tested_as C t ≡ read_chip (chip_text C)) (first : ℕ) where
+  pub chip_refused : (f : Refusal) → t ≡ Err f → Err f ≡ tested_by (read_chip (chip_text C)) first
   chip_refused f q = rw (← e, q)
 
-  pub chip_passed : t ≡ tested.Passed → (r : Tested) → r ≡ tested_by (accepted C) first → r ≡ tested_by (read_chip (chip_text C)) first
+  pub chip_passed : t ≡ Ok tt → (r : Result (Unit {0}) Refusal) → r ≡ tested_by (accepted C) first → r ≡ tested_by (read_chip (chip_text C)) first
   chip_passed q r h = rw (← e, q) h
 
 -- ---- where all are passed
 
-abbrev is_passed : Tested → Bool
-is_passed (tested.Refused f) = false
-is_passed tested.Passed = true
+abbrev is_passed : Result (Unit {0}) Refusal → Bool
+is_passed (Err f) = false
+is_passed (Ok _) = true
 
-passed_number : {A : Type 0} (r : Reading A) (k : ℕ) → tested_by r k ≡ tested.Passed → k ≡ 0
+passed_number : {A : Type 0} (r : Reading A) (k : ℕ) → tested_by r k ≡ Ok tt → k ≡ 0
 passed_number (accepted c) zero e = refl
 passed_number (accepted c) (suc k) e = absurd (false≢true (ap is_passed e))
 passed_number (refused n l) k e = absurd (false≢true (ap is_passed e))
 
-passed_read : (C : Chip) (r : Reading Chip) (k : ℕ) → read_chip (chip_text C) ≡ r → tested_by r k ≡ tested.Passed → accepted C ≡ r
+passed_read : (C : Chip) (r : Reading Chip) (k : ℕ) → read_chip (chip_text C) ≡ r → tested_by r k ≡ Ok tt → accepted C ≡ r
 passed_read C (accepted d) k q e = ap accepted (sym (text_read C d q))
 passed_read C (refused n l) k q e = absurd (false≢true (ap is_passed e))
 
-module _ (c : HeldChip) (w : Whole c) (s : List Spot) (l : length s ≡ 8) (count : ℕ) (t : Tested) (q : t ≡ tested_by (read_chip (chip_text (chip_of c))) (first_failed (measure_tests (chip_of c) (first_of blank_spot count s)))) (z : t ≡ tested.Passed) where
+module _ (c : HeldChip) (w : Whole c) (s : List Spot) (l : length s ≡ 8) (count : ℕ) (t : Result (Unit {0}) Refusal) (q : t ≡ tested_by (read_chip (chip_text (chip_of c))) (first_failed (measure_tests (chip_of c) (first_of blank_spot count s)))) (z : t ≡ Ok tt) where
   pub chip_is_passed : Passed c
   chip_is_passed = passed_by c w (passed_read (chip_of c) (read_chip (chip_text (chip_of c))) _ refl (sym q ∙ z))
 

@@ -4,7 +4,7 @@
 ghost use Rattle.std.specs.Prelude.{◌≡◌, ◌&&◌, leb};
 ghost use Rattle.model.specs.Blocks.{blocks_of};
 ghost use Rattle.model.specs.Counted.{item_count};
-ghost use Rattle.model.specs.Made.{meant_die, make_die, meant_fix, make_fix, meant_mac, make_mac, meant_net, make_net, meant_place, make_place, meant_pin, make_pin, remake_pin, meant_spot, make_spot};
+ghost use Rattle.model.specs.Made.{made, made_place, made_pin, make_die, make_fix, make_mac, make_net, make_place, make_pin, remake_pin, make_spot};
 
 // How many bytes a text has at most.
 pub const TEXT_MOST: usize = 16384;
@@ -16,28 +16,11 @@ pub struct Refusal {
     pub line: usize,
 }
 
-// What testing a value answers: it passes, or the first refusal.
-#[derive(Clone, Copy)]
-pub enum Tested {
-    Passed,
-    Refused(Refusal),
-}
-
-// What writing answers: the length of the text written, or the refusal.
-#[derive(Clone, Copy)]
-pub enum WriteAnswer {
-    Text(usize),
-    Refused(Refusal),
-}
-
 // Whether v is within least..most.
 pub fn within(v: u64, least: u64, most: u64) -> bool
     ensures { result ≡ (leb least v && leb v most) }
 {
-    if v < least {
-        return false;
-    }
-    v <= most
+    least <= v && v <= most
 }
 
 // The die: its width and its height; its lower left corner is at 0,0.
@@ -47,13 +30,6 @@ pub struct Die {
     pub h: u64,
 }
 
-// What making a die answers: the die, or that a number is outside its range.
-#[derive(Clone, Copy)]
-pub enum DieMade {
-    Made(Die),
-    Outside,
-}
-
 impl Die {
     // The least width and height.
     pub const SIDE_LEAST: u64 = 1;
@@ -61,17 +37,13 @@ impl Die {
     // The greatest width and height.
     pub const SIDE_MOST: u64 = 1024;
 
-    // A die, where its sides are in their range.
-    pub fn new(w: u64, h: u64) -> DieMade
-        ensures { meant_die result ≡ make_die w h }
+    // A die; none where a side is outside its range.
+    pub fn new(w: u64, h: u64) -> Option<Die>
+        ensures { made result ≡ make_die w h }
     {
-        if !within(w, Die::SIDE_LEAST, Die::SIDE_MOST) {
-            return DieMade::Outside;
-        }
-        if !within(h, Die::SIDE_LEAST, Die::SIDE_MOST) {
-            return DieMade::Outside;
-        }
-        DieMade::Made(Die { w, h })
+        let wide = within(w, Die::SIDE_LEAST, Die::SIDE_MOST);
+        let high = within(h, Die::SIDE_LEAST, Die::SIDE_MOST);
+        (wide && high).then_some(Die { w, h })
     }
 }
 
@@ -82,13 +54,6 @@ pub struct Fix {
     pub y: u64,
     pub w: u64,
     pub h: u64,
-}
-
-// What making a fix answers: the fix, or that a number is outside its range.
-#[derive(Clone, Copy)]
-pub enum FixMade {
-    Made(Fix),
-    Outside,
 }
 
 impl Fix {
@@ -104,23 +69,14 @@ impl Fix {
     // The greatest width and height.
     pub const SIDE_MOST: u64 = 1024;
 
-    // A fix, where its corner and its sides are in their ranges.
-    pub fn new(x: u64, y: u64, w: u64, h: u64) -> FixMade
-        ensures { meant_fix result ≡ make_fix x y w h }
+    // A fix; none where its corner or a side is outside its range.
+    pub fn new(x: u64, y: u64, w: u64, h: u64) -> Option<Fix>
+        ensures { made result ≡ make_fix x y w h }
     {
-        if Fix::CORNER_MOST < x {
-            return FixMade::Outside;
-        }
-        if Fix::CORNER_MOST < y {
-            return FixMade::Outside;
-        }
-        if !within(w, Fix::SIDE_LEAST, Fix::SIDE_MOST) {
-            return FixMade::Outside;
-        }
-        if !within(h, Fix::SIDE_LEAST, Fix::SIDE_MOST) {
-            return FixMade::Outside;
-        }
-        FixMade::Made(Fix { x, y, w, h })
+        let at = x <= Fix::CORNER_MOST && y <= Fix::CORNER_MOST;
+        let wide = within(w, Fix::SIDE_LEAST, Fix::SIDE_MOST);
+        let high = within(h, Fix::SIDE_LEAST, Fix::SIDE_MOST);
+        (at && wide && high).then_some(Fix { x, y, w, h })
     }
 }
 
@@ -129,13 +85,6 @@ impl Fix {
 pub struct Mac {
     pub w: u64,
     pub h: u64,
-}
-
-// What making a macro answers: the macro, or that a number is outside its range.
-#[derive(Clone, Copy)]
-pub enum MacMade {
-    Made(Mac),
-    Outside,
 }
 
 impl Mac {
@@ -148,17 +97,13 @@ impl Mac {
     // The greatest width and height.
     pub const SIDE_MOST: u64 = 1024;
 
-    // A macro, where its sides are in their range.
-    pub fn new(w: u64, h: u64) -> MacMade
-        ensures { meant_mac result ≡ make_mac w h }
+    // A macro; none where a side is outside its range.
+    pub fn new(w: u64, h: u64) -> Option<Mac>
+        ensures { made result ≡ make_mac w h }
     {
-        if !within(w, Mac::SIDE_LEAST, Mac::SIDE_MOST) {
-            return MacMade::Outside;
-        }
-        if !within(h, Mac::SIDE_LEAST, Mac::SIDE_MOST) {
-            return MacMade::Outside;
-        }
-        MacMade::Made(Mac { w, h })
+        let wide = within(w, Mac::SIDE_LEAST, Mac::SIDE_MOST);
+        let high = within(h, Mac::SIDE_LEAST, Mac::SIDE_MOST);
+        (wide && high).then_some(Mac { w, h })
     }
 }
 
@@ -167,13 +112,6 @@ impl Mac {
 pub struct Net {
     pub weight: u64,
     pub pins: usize,
-}
-
-// What making a net answers: the net, or that a number is outside its range.
-#[derive(Clone, Copy)]
-pub enum NetMade {
-    Made(Net),
-    Outside,
 }
 
 impl Net {
@@ -186,14 +124,11 @@ impl Net {
     // The greatest weight.
     pub const WEIGHT_MOST: u64 = 1000;
 
-    // A net, where its weight is in its range.
-    pub fn new(weight: u64, pins: usize) -> NetMade
-        ensures { meant_net result ≡ make_net weight pins }
+    // A net; none where its weight is outside its range.
+    pub fn new(weight: u64, pins: usize) -> Option<Net>
+        ensures { made result ≡ make_net weight pins }
     {
-        if !within(weight, Net::WEIGHT_LEAST, Net::WEIGHT_MOST) {
-            return NetMade::Outside;
-        }
-        NetMade::Made(Net { weight, pins })
+        within(weight, Net::WEIGHT_LEAST, Net::WEIGHT_MOST).then_some(Net { weight, pins })
     }
 }
 
@@ -205,33 +140,15 @@ pub struct Pin {
     pub yup: u64,
 }
 
-// What making a pin answers: the pin, or that a number is outside its range.
-#[derive(Clone, Copy)]
-pub enum PinMade {
-    Made(Pin),
-    Outside,
-}
-
-// What holding x or y of a pin answers: the value as held, or that it is outside its range.
-#[derive(Clone, Copy)]
-enum Place {
-    Up(u64),
-    Outside,
-}
-
-// x or y of a pin as held, where it is in its range.
-fn raised(x: i64) -> Place
-    ensures { meant_place result ≡ make_place x }
+// x or y of a pin as held; none where it is outside its range.
+fn raised(x: i64) -> Option<u64>
+    ensures { made_place result ≡ make_place x }
 {
     let most = Pin::PLACE_MOST as i64;
-    if x < -most {
-        return Place::Outside;
+    if x < -most || most < x {
+        return None;
     }
-    if most < x {
-        return Place::Outside;
-    }
-    let up = Pin::UP as i64;
-    Place::Up((x + up) as u64)
+    Some((x + Pin::UP as i64) as u64)
 }
 
 impl Pin {
@@ -249,33 +166,20 @@ impl Pin {
 
     pub const MOST_UP: u64 = Pin::UP + Pin::PLACE_MOST;
 
-    // A pin or a pad whose x and y are given as held, where m, x and y are in their ranges.
-    pub fn held(m: usize, xup: u64, yup: u64) -> PinMade
-        ensures { meant_pin result ≡ remake_pin (record { m = m; xup = xup; yup = yup }) }
+    // A pin or a pad whose x and y are given as held; none where m, x or y is outside its range.
+    pub fn held(m: usize, xup: u64, yup: u64) -> Option<Pin>
+        ensures { made_pin result ≡ remake_pin (record { m = m; xup = xup; yup = yup }) }
     {
-        if Mac::COUNT < m {
-            return PinMade::Outside;
-        }
-        if !within(xup, Pin::LEAST_UP, Pin::MOST_UP) {
-            return PinMade::Outside;
-        }
-        if !within(yup, Pin::LEAST_UP, Pin::MOST_UP) {
-            return PinMade::Outside;
-        }
-        PinMade::Made(Pin { m, xup, yup })
+        let across = within(xup, Pin::LEAST_UP, Pin::MOST_UP);
+        let up = within(yup, Pin::LEAST_UP, Pin::MOST_UP);
+        (m <= Mac::COUNT && across && up).then_some(Pin { m, xup, yup })
     }
 
-    // A pin or a pad, where m, x and y are in their ranges.
-    pub fn new(m: usize, x: i64, y: i64) -> PinMade
-        ensures { meant_pin result ≡ make_pin m x y }
+    // A pin or a pad; none where m, x or y is outside its range.
+    pub fn new(m: usize, x: i64, y: i64) -> Option<Pin>
+        ensures { made_pin result ≡ make_pin m x y }
     {
-        let Place::Up(xup) = raised(x) else {
-            return PinMade::Outside;
-        };
-        let Place::Up(yup) = raised(y) else {
-            return PinMade::Outside;
-        };
-        Pin::held(m, xup, yup)
+        Pin::held(m, raised(x)?, raised(y)?)
     }
 }
 
@@ -333,28 +237,15 @@ pub struct Spot {
     pub y: u64,
 }
 
-// What making a spot answers: the spot, or that a number is outside its range.
-#[derive(Clone, Copy)]
-pub enum SpotMade {
-    Made(Spot),
-    Outside,
-}
-
 impl Spot {
     // The greatest x and y.
     pub const MOST: u64 = 1024;
 
-    // A spot, where its x and y are in their range.
-    pub fn new(x: u64, y: u64) -> SpotMade
-        ensures { meant_spot result ≡ make_spot x y }
+    // A spot; none where x or y is outside its range.
+    pub fn new(x: u64, y: u64) -> Option<Spot>
+        ensures { made result ≡ make_spot x y }
     {
-        if Spot::MOST < x {
-            return SpotMade::Outside;
-        }
-        if Spot::MOST < y {
-            return SpotMade::Outside;
-        }
-        SpotMade::Made(Spot { x, y })
+        (x <= Spot::MOST && y <= Spot::MOST).then_some(Spot { x, y })
     }
 }
 

@@ -9,24 +9,18 @@ const LONGEST: u64 = 4294967296;
 pub fn lesser(a: u64, b: u64) -> u64
     ensures { result ≡ min a b }
 {
-    if a < b {
-        return a;
-    }
-    b
+    a.min(b)
 }
 
 pub fn greater(a: u64, b: u64) -> u64
     ensures { result ≡ max a b }
 {
-    if a < b {
-        return b;
-    }
-    a
+    a.max(b)
 }
 
 // The sum of two lengths.
 pub fn sum(a: u64, b: u64) -> u64
     ensures { result ≡ min a 4294967296 + min b 4294967296 }
 {
-    lesser(a, LONGEST) + lesser(b, LONGEST)
+    a.min(LONGEST) + b.min(LONGEST)
 }

@@ -1,19 +1,18 @@
 -- How the program holds a number that it has read, and what writing into a lent buffer leaves there.
-use Rattle.std.specs.Prelude.{ℕ, suc, ◌+◌, min, ◌≡◌, List, true, false, length, pos, negsuc}
+use Rattle.std.specs.Prelude.{ℕ, suc, ◌+◌, min, ◌≡◌, List, true, false, length, pos, negsuc, Option, Some, None}
 use Rattle.std.proofs.lemmas.List.Edits.{sets}
 use Rattle.num_text.specs.declared.Number.{Number}
-use Rattle.num_text.specs.declared.Number.TheVariants as held
 use Rattle.num_text.specs.Number.{Numeral, number, no_number}
 
 -- a number above every range of document 01: a magnitude above it is held as this one
 abbrev pub cap : ℕ
 cap = 1000000000
 
--- the answer of the number reader for each case: sign (true where negative) and magnitude, or no number
-abbrev pub held_number : Numeral → Number
-held_number (number (pos n)) = held.Value false (min cap n)
-held_number (number (negsuc n)) = held.Value true (min cap (suc n))
-held_number no_number = held.Bad
+-- the answer of the number reader for each case: sign (true where negative) and magnitude, or none
+abbrev pub held_number : Numeral → Option Number
+held_number (number (pos n)) = Some (record { negative = false; magnitude = min cap n })
+held_number (number (negsuc n)) = Some (record { negative = true; magnitude = min cap (suc n) })
+held_number no_number = None
 
 -- the greatest place that the program can count to; every buffer is shorter
 abbrev pub last_place : ℕ

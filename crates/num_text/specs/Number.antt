@@ -1,5 +1,6 @@
 -- Numbers as text. Document 01, "The chip file": a number is `0`, or digits not starting with 0, after a minus sign where negative; `-0` is no number.
 use Rattle.std.specs.Prelude.{ℕ, zero, suc, ◌+◌, ◌-◌, ◌*◌, ◌/◌, ◌%◌, List, [], ◌∷◌, ◌++◌, Bool, true, false, ◌&&◌, cond, leb, ltb, eqb, ℤ, pos, negsuc}
+use Rattle.std.specs.List.{list_all}
 
 -- the byte `-`
 abbrev pub minus_sign : ℕ
@@ -11,8 +12,7 @@ is_digit b = leb 48 b && leb b 57
 
 -- everything in the list s passes the test
 unfoldable pub all_of : {A : Type 0} → (A → Bool) → List A → Bool
-all_of p [] = true
-all_of p (a ∷ s) = p a && all_of p s
+all_of p s = list_all p s
 
 -- the value of digits: of s, after digits with the value a
 unfoldable pub value_from : ℕ → List ℕ → ℕ

@@ -1,7 +1,7 @@
 // Decimal numbers as text: reading a part of a text, and writing into a lent buffer.
 #![tactic(auto)]
 
-ghost use Rattle.std.specs.Prelude.{◌≡◌, [], ◌∷◌, ◌<◌, ◌≤◌};
+ghost use Rattle.std.specs.Prelude.{◌≡◌, [], ◌∷◌, ◌≤◌};
 ghost use Rattle.std.proofs.Math.IntN.{sub_ℕ};
 ghost use Rattle.num_text.specs.Number.{numeral_of, digits, number_text};
 ghost use Rattle.num_text.specs.Held.{cap, held_number, Wrote};
@@ -10,11 +10,11 @@ ghost use Rattle.num_text.specs.Steps.{push, held_natural};
 // The greatest magnitude that is told apart; a number above it is read as it.
 pub const MOST: u64 = 1000000000;
 
-// What a field holds: a sign (true: negative) and a magnitude, at most 1,000,000,000; or no number.
+// What a field holds: a sign (true: negative) and a magnitude, at most 1,000,000,000.
 #[derive(Clone, Copy)]
-pub enum Number {
-    Value(bool, u64),
-    Bad,
+pub struct Number {
+    pub negative: bool,
+    pub magnitude: u64,
 }
 
 // The value of digits with the value v and the digit b after them, at most 1,000,000,000.
@@ -22,57 +22,45 @@ fn with_digit(v: u64, b: u8) -> u64
     requires { (v ≤ cap) × (48 ≤ b) × (b ≤ 57) }
     ensures { (result ≡ push v b) × (result ≤ cap) }
 {
-    let d = (b - 48) as u64;
-    let w = v * 10 + d;
-    if w < MOST { w } else { MOST }
+    (v * 10 + u64::from(b - b'0')).min(MOST)
 }
 
-// The number in a text that has no sign.
-fn read_natural(s: &[u8]) -> Number
+// The magnitude in a text that has no sign; none where it is no number.
+fn read_natural(s: &[u8]) -> Option<u64>
     ensures { result ≡ held_natural s.now }
 {
-    if s.len() == 0 {
-        return Number::Bad;
+    if s.is_empty() || s[0] == b'0' && s.len() != 1 {
+        return None;
     }
-    if s[0] == 48 {
-        if s.len() == 1 {
-            return Number::Value(false, 0);
+    let mut v = 0;
+    for b in s {
+        if !b.is_ascii_digit() {
+            return None;
         }
-        return Number::Bad;
+        v = with_digit(v, *b);
     }
-    let mut v: u64 = 0;
-    let mut i: usize = 0;
-    while i < s.len() {
-        let b = s[i];
-        if b < 48 {
-            return Number::Bad;
-        }
-        if 57 < b {
-            return Number::Bad;
-        }
-        v = with_digit(v, b);
-        i += 1;
-    }
-    Number::Value(false, v)
+    Some(v)
 }
 
-// The number in a part of a text.
-pub fn read_number(s: &[u8]) -> Number
+// The number in a part of a text; none where it is no number.
+pub fn read_number(s: &[u8]) -> Option<Number>
     ensures { result ≡ held_number (numeral_of s.now) }
 {
-    if s.len() == 0 {
-        return Number::Bad;
-    }
-    if s[0] == 45 {
-        let Number::Value(_, m) = read_natural(&s[1..]) else {
-            return Number::Bad;
-        };
-        if m == 0 {
-            return Number::Bad;
+    if let [b'-', digits @ ..] = s {
+        let magnitude = read_natural(digits)?;
+        if magnitude == 0 {
+            return None;
         }
-        return Number::Value(true, m);
+        return Some(Number {
+            negative: true,
+            magnitude,
+        });
     }
-    read_natural(s)
+    let magnitude = read_natural(s)?;
+    Some(Number {
+        negative: false,
+        magnitude,
+    })
 }
 
 // Writes the byte b at `at`, where the buffer has that place, and answers the place after it.
@@ -81,12 +69,8 @@ fn put(out: &mut [u8], at: usize, b: u8) -> usize
 {
     if at < out.len() {
         out[at] = b;
-        return at + 1;
     }
-    if at < 18446744073709551615 {
-        return at + 1;
-    }
-    at
+    at.saturating_add(1)
 }
 
 // Writes the bytes s from `at` on, as far as the buffer goes, and answers the place after them.
@@ -94,10 +78,8 @@ pub fn put_bytes(out: &mut [u8], at: usize, s: &[u8]) -> usize
     ensures { Wrote out.old out.new s.now at result }
 {
     let mut k = at;
-    let mut i: usize = 0;
-    while i < s.len() {
-        k = put(out, k, s[i]);
-        i += 1;
+    for b in s {
+        k = put(out, k, *b);
     }
     k
 }
@@ -107,10 +89,10 @@ pub fn put_natural(out: &mut [u8], at: usize, n: u64) -> usize
     ensures { Wrote out.old out.new (digits n) at result }
 {
     if n < 10 {
-        return put(out, at, (48 + n) as u8);
+        return put(out, at, b'0' + n as u8);
     }
     let k = put_natural(out, at, n / 10);
-    put(out, k, (48 + n % 10) as u8)
+    put(out, k, b'0' + (n % 10) as u8)
 }
 
 // Writes the text of the number n - shift from `at` on, as far as the buffer goes, and answers the place after it.
@@ -118,7 +100,7 @@ pub fn put_number(out: &mut [u8], at: usize, n: u64, shift: u64) -> usize
     ensures { Wrote out.old out.new (number_text (sub_ℕ n shift)) at result }
 {
     if n < shift {
-        let k = put(out, at, 45);
+        let k = put(out, at, b'-');
         return put_natural(out, k, shift - n);
     }
     put_natural(out, at, n - shift)

@@ -5,23 +5,18 @@ ghost use Rattle.std.specs.Prelude.{◌≡◌};
 ghost use Rattle.text_grammar.specs.Writing.{answer_of};
 ghost use Rattle.place_boxes.specs.Boxes.{boxes_text, print_boxes};
 
-use chip_read::ChipAnswer;
-use model::WriteAnswer;
+use model::Refusal;
 
 // From chip text to the record's text and, after it, the line of each net's box at the record's placement.
-pub fn boxes_text(text: &[u8], out: &mut [u8]) -> WriteAnswer
+pub fn boxes_text(text: &[u8], out: &mut [u8]) -> Result<usize, Refusal>
     ensures { record { answer = answer_of result; buffer = out.new } ≡ boxes_text text.now out.old }
 {
-    let found = search::service::placed(text);
-    let answer = found.answer;
-    match answer {
-        ChipAnswer::Refused(f) => WriteAnswer::Refused(f),
-        ChipAnswer::Accepted => box_write::write_boxed(found.chip, found.record, out),
-    }
+    let found = search::service::placed(text)?;
+    box_write::write_boxed(found.chip, found.best, out)
 }
 
 // The bytes to print for a text, into the lent buffer. No text is refused by 15, so 15 is that of the buffer.
-pub fn print_boxes(text: &[u8], out: &mut [u8]) -> WriteAnswer
+pub fn print_boxes(text: &[u8], out: &mut [u8]) -> Result<usize, Refusal>
     ensures { record { answer = answer_of result; buffer = out.new } ≡ print_boxes text.now out.old }
 {
     let answer = boxes_text(text, out);

@@ -5,16 +5,12 @@ ghost use Rattle.std.specs.Prelude.{◌≡◌};
 ghost use Rattle.text_grammar.specs.Writing.{answer_of};
 ghost use Rattle.quote.specs.Quote.{quote_text};
 
-use chip_read::ChipAnswer;
-use model::WriteAnswer;
+use model::Refusal;
 
 // From chip text to record text. Within the limits it is the design desk's search, which reads the text again.
-pub fn quote_text(text: &[u8], out: &mut [u8]) -> WriteAnswer
+pub fn quote_text(text: &[u8], out: &mut [u8]) -> Result<usize, Refusal>
     ensures { record { answer = answer_of result; buffer = out.new } ≡ quote_text text.now out.old }
 {
-    let answer = quote_page::page_answer(chip_read::read_chip(text));
-    match answer {
-        ChipAnswer::Refused(f) => WriteAnswer::Refused(f),
-        ChipAnswer::Accepted => search::service::place_text(text, out),
-    }
+    quote_page::page_answer(chip_read::read_chip(text))?;
+    search::service::place_text(text, out)
 }

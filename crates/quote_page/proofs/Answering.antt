@@ -8,26 +8,22 @@ use Rattle.model.specs.declared.Refusal.{Refusal}
 use Rattle.model.specs.Meaning.{Chip, chip_of}
 use Rattle.text_grammar.specs.Reading.{Reading, accepted, refused}
 use Rattle.chip_text.specs.Kind.{counts_of}
-use Rattle.chip_read.specs.declared.ChipAnswer.{ChipAnswer}
-use Rattle.chip_read.specs.declared.ChipAnswer.TheVariants as answer
-use Rattle.chip_read.specs.Answer.{meant}
+use Rattle.std.specs.Prelude.{Result, Ok, Err}
+use Rattle.chip_read.specs.Answer.{meant_chip}
 use Rattle.quote_page.specs.Page.{within_page, page_read}
 
-module _ (a : ChipAnswer) (c : HeldChip) (b : Bool) (e : b ≡ within_page (counts_of (chip_of c))) where
-  -- within the limits the answer stays
-  pub within_stays : b ≡ true → meant a c ≡ page_read (meant a c)
-  within_stays h = by a
-    where
-      by : (x : ChipAnswer) → meant x c ≡ page_read (meant x c)
-      by answer.Accepted = rw (← e, h)
-      by (answer.Refused f) = refl
-
-  -- a refusal comes first; then 22
-  pub refusal_first : (f : Refusal) → a ≡ answer.Refused f → refused f.no f.line ≡ page_read (meant a c)
+module _ (a : Result HeldChip Refusal) where
+  -- a refusal comes first
+  pub refusal_first : (f : Refusal) → a ≡ Err f → refused f.no f.line ≡ page_read (meant_chip a)
   refusal_first f q = rw q
 
-  pub beyond_told : b ≡ false → a ≡ answer.Accepted → refused 22 0 ≡ page_read (meant a c)
-  beyond_told h q = rw (q, ← e, h)
+  -- within the limits the chip stays; beyond them 22
+  module _ (c : HeldChip) (q : a ≡ Ok c) (b : Bool) (e : b ≡ within_page (counts_of (chip_of c))) where
+    pub within_stays : b ≡ true → accepted (chip_of c) ≡ page_read (meant_chip a)
+    within_stays h = rw (q, ← e, h)
+
+    pub beyond_told : b ≡ false → refused 22 0 ≡ page_read (meant_chip a)
+    beyond_told h = rw (q, ← e, h)
 
 pub page_accepts : (r : Reading Chip) (c : Chip) → page_read r ≡ accepted c → page_read r ≡ r
 page_accepts (refused n l) c e = refl

@@ -3,32 +3,18 @@ use Prim.Native.Nat.{ℕ, ◌≤◌, ◌<◌, min}
 use native.Mathlib.Decide.{dec_le}
 use native.Mathlib.Omega.{arith}
 use mathlib.Core.Path.{◌≡◌, sym, ◌∙◌}
-use mathlib.Core.Bool.{Bool, false}
+use mathlib.Core.Bool.{Bool}
 use lib.Dec.{leb}
 use lib.ListN.{length}
 use borrow.Author.Tests.{le-leb, lt-leb}
 use Rattle.model.specs.declared.Chip.{Chip as HeldChip}
 use Rattle.model.specs.Meaning.{first_of, blank_fix, blank_mac, blank_net, nets_of, chip_of}
 use Rattle.model.proofs.FirstOf.{first_length}
-use Rattle.chip_text.specs.declared.Counts.{Counts as HeldCounts}
 use Rattle.chip_text.specs.Kind.{pin_count, counts_of}
-use Rattle.chip_text.specs.Tests.{counts_in}
 use Rattle.chip_text.specs.Valid.{pins_before}
 use Rattle.chip_text.proofs.HeldNets.{pins_mean, taken_first}
 use Rattle.chip_text.proofs.Passing.{Whole}
 use Rattle.quote_page.specs.Page.{within_page}
-
--- ---- counts, in the form of the needs
-
-module _ (n : HeldCounts) where
-  pub many_macs : 4 < n.macs → false ≡ within_page (counts_in n)
-  many_macs h = rw (lt-leb n.macs 4 h)
-
-  pub many_fixes : n.macs ≤ 4 → 2 < n.fixes → false ≡ within_page (counts_in n)
-  many_fixes m h = rw (le-leb n.macs 4 m, lt-leb n.fixes 2 h)
-
-  pub by_pins : n.macs ≤ 4 → n.fixes ≤ 2 → leb n.pins 16 ≡ within_page (counts_in n)
-  by_pins m f = rw (le-leb n.macs 4 m, le-leb n.fixes 2 f)
 
 -- ---- a chip held as a value
 

@@ -5,11 +5,10 @@ ghost use Rattle.std.specs.Prelude.{◌≡◌};
 ghost use Rattle.model.specs.Meaning.{chip_of};
 ghost use Rattle.chip_text.specs.Kind.{counts_of};
 ghost use Rattle.chip_text.specs.Tests.{counts_in};
-ghost use Rattle.chip_read.specs.Answer.{meant, meant_chip};
+ghost use Rattle.chip_read.specs.Answer.{meant_chip};
 ghost use Rattle.quote_page.specs.Page.{within_page, page_read};
 
 use chip_pins::pins_before;
-use chip_read::{ChipAnswer, ChipRead};
 use chip_text::Counts;
 use model::{Chip, Refusal};
 
@@ -24,39 +23,28 @@ pub const PINS: usize = 16;
 fn within_page(held: Counts) -> bool
     ensures { result ≡ within_page (counts_in held) }
 {
-    if MACROS < held.macs {
-        return false;
-    }
-    if FIXES < held.fixes {
-        return false;
-    }
-    held.pins <= PINS
+    held.macs <= MACROS && held.fixes <= FIXES && held.pins <= PINS
 }
 
 // Whether a chip is within the page's limits.
 pub fn on_page(c: Chip) -> bool
     ensures { result ≡ within_page (counts_of (chip_of c)) }
 {
-    let nets = c.nets;
-    let pins = pins_before(nets, c.t);
     within_page(Counts {
         fixes: c.k,
         macs: c.n,
         nets: c.t,
-        pins,
+        pins: pins_before(c.nets, c.t),
     })
 }
 
 // The answer of reading, for the page: beyond its limits the refusal of the text comes first, then 22.
-pub fn page_answer(read: ChipRead) -> ChipAnswer
-    ensures { meant result read.chip ≡ page_read (meant_chip read) }
+pub fn page_answer(read: Result<Chip, Refusal>) -> Result<Chip, Refusal>
+    ensures { meant_chip result ≡ page_read (meant_chip read) }
 {
-    let answer = read.answer;
-    if on_page(read.chip) {
-        return answer;
+    let c = read?;
+    if !on_page(c) {
+        return Err(Refusal { no: 22, line: 0 });
     }
-    match answer {
-        ChipAnswer::Refused(f) => ChipAnswer::Refused(f),
-        ChipAnswer::Accepted => ChipAnswer::Refused(Refusal { no: 22, line: 0 }),
-    }
+    Ok(c)
 }

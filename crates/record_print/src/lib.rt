@@ -25,10 +25,7 @@ fn put_item(out: &mut [u8], at: usize, w: RecordWord, v: [u64; 4]) -> usize
 fn spot_at(spots: [Spot; Mac::COUNT], i: usize) -> Spot
     ensures { result ≡ get_or spots i blank_spot }
 {
-    if i < Mac::COUNT {
-        return spots[i];
-    }
-    Spot { x: 0, y: 0 }
+    spots.get(i).copied().unwrap_or(Spot { x: 0, y: 0 })
 }
 
 // The same for the lines of the macros that the count n means.
@@ -37,12 +34,10 @@ fn put_spots(out: &mut [u8], at: usize, spots: [Spot; Mac::COUNT], n: usize) -> 
 {
     let last = model::item_count(n, Mac::COUNT);
     let mut a = at;
-    let mut i: usize = 0;
-    while i < last {
+    for i in 0..last {
         let p = spot_at(spots, i);
         let m = (i + 1) as u64;
         a = put_item(out, a, RecordWord::At, [m, p.x, p.y, 0]);
-        i += 1;
     }
     a
 }
@@ -51,9 +46,8 @@ fn put_spots(out: &mut [u8], at: usize, spots: [Spot; Mac::COUNT], n: usize) -> 
 fn put_body(out: &mut [u8], at: usize, r: Record) -> usize
     ensures { Wrote out.old out.new (items_text record_words (body (record_of r))) at result }
 {
-    let outcome = r.outcome;
     let spots = r.spots;
-    match outcome {
+    match r.outcome {
         Outcome::None => put_item(out, at, RecordWord::None, [0, 0, 0, 0]),
         Outcome::Least(wl, n) => {
             let a = put_item(out, at, RecordWord::Least, [wl, 0, 0, 0]);

@@ -5,6 +5,7 @@ use mathlib.Core.List.{List}
 use Prim.Native.Nat.{ℕ, ◌≤◌, ◌<◌}
 use lib.ListN.{length}
 use borrow.Author.Tests.{ltb-true}
+use Rattle.std.specs.Prelude.{Option, Some, None}
 use Rattle.model.specs.declared.Spot.{Spot}
 use Rattle.model.specs.Meaning.{blank_spot}
 use Rattle.model.proofs.Holding.{holds_all}
@@ -19,17 +20,17 @@ use Rattle.record_read.specs.State.{result_of, part_of, Sound}
 use Rattle.record_read.proofs.Follow.{after_least}
 
 -- the count of what is held is that of the record that it means
-spots_count : (found : Bool) (wl n : ℕ) (ps : List Spot) → n ≤ length ps → (found ≡ false → n ≡ 0) → length (spots_of (result_of found wl n ps)) ≡ n
-spots_count true wl n ps h z = length_first blank_spot n ps h
-spots_count false wl n ps h z = sym (z refl)
+spots_count : (wl : Option ℕ) (n : ℕ) (ps : List Spot) → n ≤ length ps → (wl ≡ None → n ≡ 0) → length (spots_of (result_of wl n ps)) ≡ n
+spots_count (Some wl) n ps h z = length_first blank_spot n ps h
+spots_count None n ps h z = sym (z refl)
 
 module _ (s : State) (sound : Sound s) where
   pub count_meant : length (spots_of (part_of s).result) ≡ s.count
-  count_meant = spots_count s.found s.wl s.count s.spots (holds_all sound.spots) sound.blank
+  count_meant = spots_count s.wl s.count s.spots (holds_all sound.spots) sound.blank
 
   module _ (entered : Entered record_kind (part_of s) word.At) where
     pub at_fits : s.count < 8
     at_fits = ltb-true s.count 8 (rw (← count_meant) (has_room_law record_kind (part_of s) word.At entered))
 
-    pub at_found : s.found ≡ true
+    pub at_found : (wl : ℕ) × (s.wl ≡ Some wl)
     at_found = sound.opened (sym (after_least (last_of s.last)) ∙ in_place_law record_kind (part_of s) word.At entered)

@@ -5,6 +5,7 @@ use mathlib.Core.List.{List}
 use Prim.Native.Nat.{ℕ, ◌+◌, ◌≤◌, ◌<◌}
 use lib.ListN.{length, replicate}
 use borrow.Author.Tests.{not-true, not-false}
+use Rattle.std.specs.Prelude.{Result, Ok, Err, Option, Some, None}
 use Rattle.model.specs.declared.Spot.{Spot}
 use Rattle.model.specs.declared.Outcome.TheVariants as outcome
 use Rattle.model.specs.declared.Record.{Record as HeldRecord}
@@ -20,24 +21,19 @@ use Rattle.text_grammar.specs.Steps.{ending, line_end, line_at}
 use Rattle.text_grammar.proofs.Left.{Left, text_left, text_fails, text_goes_on, text_ends}
 use Rattle.record_text.specs.declared.RecordWord.TheVariants as word
 use Rattle.record_text.specs.Words.{record_words}
-use Rattle.record_text.specs.declared.RecordLast.TheVariants as last
 use Rattle.record_text.specs.Tests.{last_of, record_following}
 use Rattle.record_text.specs.Kind.{start, record_kind, Part}
 use Rattle.record_text.specs.Text.{read_record}
 use Rattle.record_read.specs.declared.State.{State}
-use Rattle.text_line.specs.declared.Fault.TheVariants as held
-use Rattle.record_read.specs.declared.Taken.{Taken}
-use Rattle.record_read.specs.declared.RecordAnswer.TheVariants as answer
-use Rattle.record_read.specs.declared.RecordRead.{RecordRead}
-use Rattle.record_read.specs.State.{Sound, part_of, TakenOk, RecordIs, refused_at, ReadOk}
+use Rattle.record_read.specs.State.{Sound, part_of, TakenOk, RecordIs, ReadOk}
 
-pub refuses : (r : RecordRead) (f : Refusal) (read : Reading Record) → r ≡ refused_at f → refused f.no f.line ≡ read → ReadOk read r
-refuses r f read e q = rw (e, ← q) (record { meant = refl; whole = refl })
+pub refuses : (f : Refusal) (read : Reading Record) → refused f.no f.line ≡ read → ReadOk read (Err f)
+refuses f read q = rw (← q) (record { meant = refl; whole = refl })
 
 -- ---- before the first line
 
 module _ (ps : List Spot) (e : ps ≡ replicate 8 blank_spot) where
-  pub empty_sound : Sound (record { last = last.Before; found = false; wl = 0; count = 0; spots = ps })
+  pub empty_sound : Sound (record { last = None; wl = None; count = 0; spots = ps })
   empty_sound = record { spots = rw e (holds_none blank_spot most_macs); blank = λ f. refl; opened = λ o. absurd (false≢true o) }
 
 pub all_left : (text : List ℕ) → length text ≤ 16384 → (l : ℕ) → l ≡ 1 → Left record_kind start text start 0 l
@@ -45,36 +41,36 @@ all_left text h l q = rw q (text_left record_kind start text h)
 
 -- ---- a line
 
-module _ (text : List ℕ) (a : ℕ) (s : State) (t : Taken) (line : ℕ) (h : a < length text) (left : Left record_kind start text (part_of s) a line) (z : ℕ) (e : z ≡ line_end text a) (ok : TakenOk t line (step_line record_kind (part_of s) (line_at text a z))) where
-  pub line_fails : (f : Refusal) → t.fault ≡ held.Refused f → refused f.no f.line ≡ read_record text
+module _ (text : List ℕ) (a : ℕ) (s : State) (t : Result State Refusal) (line : ℕ) (h : a < length text) (left : Left record_kind start text (part_of s) a line) (z : ℕ) (e : z ≡ line_end text a) (ok : TakenOk t line (step_line record_kind (part_of s) (line_at text a z))) where
+  pub line_fails : (f : Refusal) → t ≡ Err f → refused f.no f.line ≡ read_record text
   unfolding read_record
   line_fails f g =
       let own : f.line ≡ line = rw g at ok.ok.at in
       rw own (ap (part_read (λ (s : Part). s.result)) (text_fails record_kind start text (part_of s) a line left z e h f.no (rw g at ok.ok.meant)))
 
-  pub line_read : t.fault ≡ held.Clear → Left record_kind start text (part_of t.state) (z + 1) (line + 1)
-  line_read g = text_goes_on record_kind start text (part_of s) a line left z e h (part_of t.state) (rw g at ok.ok.meant)
+  pub line_read : (u : State) → t ≡ Ok u → Left record_kind start text (part_of u) (z + 1) (line + 1)
+  line_read u g = text_goes_on record_kind start text (part_of s) a line left z e h (part_of u) (rw g at ok.ok.meant)
 
 -- ---- after the last line
 
-pub all_read : (text : List ℕ) (s : State) (a line : ℕ) → Left record_kind start text (part_of s) a line → length text ≤ a → (r : RecordRead) → ReadOk (part_read (λ (s : Part). s.result) (ending record_kind (part_of s) line)) r → ReadOk (read_record text) r
+pub all_read : (text : List ℕ) (s : State) (a line : ℕ) → Left record_kind start text (part_of s) a line → length text ≤ a → (r : Result HeldRecord Refusal) → ReadOk (part_read (λ (s : Part). s.result) (ending record_kind (part_of s) line)) r → ReadOk (read_record text) r
 unfolding read_record
 all_read text s a line left h r ok = rw (text_ends record_kind start text (part_of s) a line left h) ok
 
 module _ (s : State) (sound : Sound s) where
-  pub least_held : s.found ≡ true → RecordIs (record { outcome = outcome.Least s.wl s.count; spots = s.spots }) (part_of s).result
+  pub least_held : (wl : ℕ) → s.wl ≡ Some wl → RecordIs (record { outcome = outcome.Least wl s.count; spots = s.spots }) (part_of s).result
   unfolding record_of
-  least_held e =
+  least_held wl e =
       rw e
       (record {
         meant = refl;
         whole =
-            ap₂ (λ (n : ℕ) (ps : List Spot). record { outcome = outcome.Least s.wl n; spots = ps })
+            ap₂ (λ (n : ℕ) (ps : List Spot). record { outcome = outcome.Least wl n; spots = ps })
             (sym (length_first blank_spot s.count s.spots (holds_all sound.spots)))
             (sym (filled_again blank_spot most_macs s.count s.spots sound.spots));
       })
 
-  pub none_held : s.found ≡ false → RecordIs (record { outcome = outcome.None; spots = s.spots }) (part_of s).result
+  pub none_held : s.wl ≡ None → RecordIs (record { outcome = outcome.None; spots = s.spots }) (part_of s).result
   unfolding record_of first_of
   none_held e =
       let blank : replicate most_macs blank_spot ≡ s.spots = subst (λ (n : ℕ). filled most_macs blank_spot (first_of blank_spot n s.spots) ≡ s.spots) (sound.blank e) (filled_again blank_spot most_macs s.count s.spots sound.spots) in
@@ -85,11 +81,11 @@ module _ (s : State) (line : ℕ) (f : Following) (row : f ≡ record_following 
   unfolding record_following
   own = ap (λ (x : Following). x.over) row
 
-  pub complete : not f.over ≡ false → (r : HeldRecord) → RecordIs r (part_of s).result → ReadOk (part_read (λ (s : Part). s.result) (ending record_kind (part_of s) line)) (record { answer = answer.Accepted; «record» = r })
+  pub complete : not f.over ≡ false → (r : HeldRecord) → RecordIs r (part_of s).result → ReadOk (part_read (λ (s : Part). s.result) (ending record_kind (part_of s) line)) (Ok r)
   complete h r q =
       record {
         meant = rw (← own, not-false f.over h, q.meant);
-        whole = rw (← own, not-false f.over h) (ap (λ (d : HeldRecord). record { answer = answer.Accepted; «record» = d }) q.whole);
+        whole = rw (← own, not-false f.over h) (ap Ok q.whole);
       }
 
   pub not_complete : not f.over ≡ true → refused 5 line ≡ part_read (λ (s : Part). s.result) (ending record_kind (part_of s) line)

@@ -1,4 +1,3 @@
-pub mod Faults
 pub mod SpotsRead
 pub mod LinesRead
 pub mod InRange

@@ -1,4 +1,6 @@
 -- Reading the text of a record: its length, then its lines.
+use Rattle.std.specs.Prelude.{Result}
+use Rattle.model.specs.declared.Refusal.{Refusal}
 use mathlib.Core.Path.{◌≡◌}
 use mathlib.Core.List.{List}
 use Prim.Native.Nat.{ℕ, ◌≤◌, ◌<◌}
@@ -8,7 +10,6 @@ use borrow.Author.Tests.{le-leb}
 use Rattle.num_text.specs.Held.{Wrote}
 use Rattle.model.specs.declared.Outcome.TheVariants as outcome
 use Rattle.model.specs.declared.Record.{Record as HeldRecord}
-use Rattle.model.specs.declared.Tested.{Tested}
 use Rattle.model.specs.Meaning.{Record, none, least, first_of, blank_spot, record_of}
 use Rattle.text_grammar.specs.Words.{same, is_in}
 use Rattle.text_grammar.specs.Reading.{accepted, refused, read_text}
@@ -31,7 +32,7 @@ module _ (x : HeldRecord) where
   unfolding record_of
   none_passed e = rw (e, none_read)
 
-  pub least_tested : (wl n : ℕ) (t : Tested) → x.outcome ≡ outcome.Least wl n → tested_as (least wl (first_of blank_spot n x.spots)) t ≡ lines_read (least wl (first_of blank_spot n x.spots)) → tested_as (record_of x) t ≡ lines_read (record_of x)
+  pub least_tested : (wl n : ℕ) (t : Result (Unit {0}) Refusal) → x.outcome ≡ outcome.Least wl n → tested_as (least wl (first_of blank_spot n x.spots)) t ≡ lines_read (least wl (first_of blank_spot n x.spots)) → tested_as (record_of x) t ≡ lines_read (record_of x)
   unfolding record_of
   least_tested wl n t e q = rw e q
 
@@ -41,6 +42,6 @@ module _ (x : Record) (b a : List ℕ) (n : ℕ) (w : Wrote b a (record_text x) 
   pub too_long : 16384 < n → refused 1 0 ≡ read_record (record_text x)
   too_long h = over_long (record_text x) (omega (arith, w.place))
 
-  pub not_long : n ≤ 16384 → (t : Tested) → tested_as x t ≡ lines_read x → tested_as x t ≡ read_record (record_text x)
+  pub not_long : n ≤ 16384 → (t : Result (Unit {0}) Refusal) → tested_as x t ≡ lines_read x → tested_as x t ≡ read_record (record_text x)
   unfolding read_record read_text lines_read
   not_long h t e = rw (le-leb (length (record_text x)) 16384 (omega (arith, w.place))) e

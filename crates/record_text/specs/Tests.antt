@@ -1,21 +1,19 @@
 -- The tests of a line before its fields, as tables: an entry for each word in their order, and more up to eight; its last test; and what the
 -- program's values mean.
-use Rattle.std.specs.Prelude.{ℕ, suc, Bool, true, List, eqb, replicate}
+use Rattle.std.specs.Prelude.{ℕ, suc, Bool, true, List, eqb, replicate, Option, Some, None}
 use Rattle.text_grammar.specs.declared.Following.{Following}
 use Rattle.text_grammar.specs.Follow.{table_of, places_of}
 use Rattle.text_grammar.specs.Reading.{Last, before, after, is_last}
 use Rattle.text_grammar.specs.Steps.{need}
 use Rattle.record_text.specs.declared.RecordWord.{RecordWord}
 use Rattle.record_text.specs.declared.RecordWord.TheVariants as word
-use Rattle.record_text.specs.declared.RecordLast.{RecordLast}
-use Rattle.record_text.specs.declared.RecordLast.TheVariants as last
 use Rattle.record_text.specs.Words.{record_words}
 use Rattle.record_text.specs.Kind.{followers, room}
 
 -- the word of the last line
-abbrev pub last_of : RecordLast → Last RecordWord
-last_of last.Before = before
-last_of (last.After w) = after w
+abbrev pub last_of : Option RecordWord → Last RecordWord
+last_of None = before
+last_of (Some w) = after w
 
 -- what a reader knows of the next line: place; a record has no nets; `done` has been read
 unfoldable pub record_following : Last RecordWord → Following

@@ -20,20 +20,6 @@ use Rattle.text_grammar.specs.Reading.{Last}
 use Rattle.record_text.specs.Tests.{record_following, record_rooms}
 use Rattle.record_words.specs.Meant.{record_spellings, record_tests}
 
-pub all_spelled : (z a b c e : Spelling) → z ≡ spelled [] → a ≡ spelled (spell word.Least) → b ≡ spelled (spell word.None) → c ≡ spelled (spell word.At) → e ≡ spelled (spell word.Done) → (a ∷ b ∷ c ∷ e ∷ z ∷ z ∷ z ∷ z ∷ []) ≡ record_spellings
-all_spelled z a b c e ez ea eb ec ee = rw (ez, ea, eb, ec, ee)
-
-pub all_tests : (l : Last RecordWord) (n : ℕ) (f : Following) (rs : List Bool) → f ≡ record_following l → rs ≡ record_rooms n → record { placed = f.placed; room = rs; pinned = f.pinned } ≡ record_tests l n
-all_tests l n f rs ef er = rw (ef, er)
-
--- past the last word stands the first
-pub past_last : (i : ℕ) → 4 ≤ i → word.Least ≡ get_or record_words.all i word.Least
-past_last zero h = absurd (omega arith)
-past_last (suc zero) h = absurd (omega arith)
-past_last (suc (suc zero)) h = absurd (omega arith)
-past_last (suc (suc (suc zero))) h = absurd (omega arith)
-past_last (suc (suc (suc (suc i)))) h = refl
-
 pub table_of : (ps : List Spelling) → ps ≡ record_spellings → TableOf record_kind word.Least ps 4
 table_of ps e = rw e (record { spells = refl })
 

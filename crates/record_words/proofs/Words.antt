@@ -13,13 +13,6 @@ use Rattle.record_text.specs.Words.{spell, form}
 
 -- ---- a word that is x
 
-module _ (x w : RecordWord) (e : w ≡ x) where
-  pub spelled_as : spelled (spell x) ≡ spelled (spell w)
-  spelled_as = rw e
-
-  pub laid_as : (r : Layout) → r ≡ layout_for (form x) → r ≡ layout_for (form w)
-  laid_as r q = rw e q
-
 -- ---- the layout of a word is its form, within the limits
 
 form_of_law : (w : RecordWord) → form_of (layout_for (form w)).rules ≡ form w

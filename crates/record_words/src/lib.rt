@@ -9,7 +9,7 @@ ghost use Rattle.record_text.specs.Tests.{last_of};
 ghost use Rattle.record_words.specs.Meant.{record_spellings, record_tests};
 
 use model::{Mac, Record, Spot};
-use record_text::{RecordLast, RecordWord};
+use record_text::RecordWord;
 use text_grammar::WORDS;
 use text_line::{Layout, Rule, Spelling};
 use text_walk::Tests;
@@ -66,10 +66,7 @@ pub fn word_at(i: usize) -> RecordWord
         RecordWord::At,
         RecordWord::Done,
     ];
-    if COUNT <= i {
-        return RecordWord::Least;
-    }
-    all[i]
+    all.get(i).copied().unwrap_or(RecordWord::Least)
 }
 
 // The fields of a macro's corner.
@@ -107,7 +104,7 @@ pub fn layout_of(w: RecordWord) -> Layout
 }
 
 // The tests before the fields of a line, by word.
-pub fn entry_tests(last: RecordLast, count: usize) -> Tests
+pub fn entry_tests(last: Option<RecordWord>, count: usize) -> Tests
     ensures { result ≡ record_tests (last_of last) count }
 {
     let after = record_text::following(last);

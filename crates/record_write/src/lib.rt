@@ -6,19 +6,16 @@ ghost use Rattle.model.specs.Meaning.{record_of};
 ghost use Rattle.text_grammar.specs.Writing.{answer_of};
 ghost use Rattle.record_text.specs.Text.{write_record};
 
-use model::{Record, Refusal, Tested, WriteAnswer};
+use model::{Record, Refusal};
 
 // Writes the text of a record into the buffer, or refuses and leaves the buffer as it was.
-pub fn write_record(r: Record, out: &mut [u8]) -> WriteAnswer
+pub fn write_record(r: Record, out: &mut [u8]) -> Result<usize, Refusal>
     ensures { record { answer = answer_of result; buffer = out.new } ≡ write_record (record_of r) out.old }
 {
-    let tested = record_test::test_record(r);
-    if let Tested::Refused(f) = tested {
-        return WriteAnswer::Refused(f);
-    }
+    record_test::test_record(r)?;
     let mut scratch = [0u8; 1];
     if out.len() < record_print::put_record(&mut scratch, 0, r) {
-        return WriteAnswer::Refused(Refusal { no: 15, line: 0 });
+        return Err(Refusal { no: 15, line: 0 });
     }
-    WriteAnswer::Text(record_print::put_record(out, 0, r))
+    Ok(record_print::put_record(out, 0, r))
 }

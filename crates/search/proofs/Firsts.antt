@@ -7,7 +7,6 @@ use lib.ListN.{length, take, replicate}
 use Rattle.model.specs.declared.Chip.{Chip as HeldChip}
 use Rattle.model.specs.declared.Record.{Record as HeldRecord}
 use Rattle.model.specs.declared.Outcome.TheVariants as outcome
-use Rattle.model.specs.declared.Spot.{Spot}
 use Rattle.model.specs.Meaning.{Chip, chip_of, first_of, blank_spot}
 use Rattle.model.proofs.FirstOf.{first_take}
 use Rattle.chip_text.specs.Passed.{Passed}
@@ -28,9 +27,6 @@ use Rattle.search.specs.Search.{upright_spots}
 use Rattle.search_join.proofs.Cornering.{take_corners}
 use Rattle.search_node.proofs.Records.{nothing_none}
 use Rattle.search_join.proofs.Joining.{least_held}
-
-pub upright_is : (l n m : ℕ) (ps qs : List Spot) → n ≡ m → ps ≡ qs → ◌≡◌ {A = HeldRecord} (record { outcome = outcome.Least l n; spots = ps }) (record { outcome = outcome.Least l m; spots = qs })
-upright_is l n m ps qs e f = rw (e, f)
 
 module _ (c : HeldChip) (letters : List ℕ) (p : ℕ) (ok : Passed c) where
   abbrev C : Chip

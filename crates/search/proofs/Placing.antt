@@ -1,4 +1,5 @@
 -- From the test or the reading of a chip to its record, and to what is written: in the form of the needs of the services.
+use Rattle.std.specs.Prelude.{Ok, Err, Result}
 use Prim.{tt}
 use Prim.Native.Nat.{ℕ, ◌≤◌}
 use mathlib.Core.Path.{◌≡◌, refl, sym, ap, subst, ◌∙◌}
@@ -10,8 +11,6 @@ use Rattle.model.specs.declared.Spot.{Spot}
 use Rattle.model.specs.declared.Chip.{Chip as HeldChip}
 use Rattle.model.specs.declared.Record.{Record as HeldRecord}
 use Rattle.model.specs.declared.Refusal.{Refusal}
-use Rattle.model.specs.declared.Tested.{Tested}
-use Rattle.model.specs.declared.Tested.TheVariants as tested
 use Rattle.model.specs.Meaning.{Chip, Record, none, least, chip_of, record_of}
 use Rattle.text_grammar.specs.Reading.{Reading, accepted, refused}
 use Rattle.text_grammar.specs.Writing.{Written, tested_as, refuse, write_text}
@@ -19,9 +18,7 @@ use Rattle.chip_text.specs.Text.{read_chip, chip_text}
 use Rattle.chip_text.specs.Passed.{Passed}
 use Rattle.chip_text.specs.Valid.{Valid}
 use Rattle.chip_text.proofs.Accepted.{accepted_valid}
-use Rattle.chip_read.specs.declared.ChipAnswer.{ChipAnswer}
-use Rattle.chip_read.specs.declared.ChipAnswer.TheVariants as answer
-use Rattle.chip_read.specs.Answer.{meant}
+use Rattle.chip_read.specs.Answer.{meant_chip}
 use Rattle.record_text.specs.Text.{record_text, write_record}
 use Rattle.placement.specs.Letters.{Letter, dot}
 use Rattle.placement.specs.Pairs.{pairs}
@@ -46,7 +43,7 @@ use Rattle.search_node.specs.Node.{no_record, Arrayed}
 use Rattle.search_close.specs.Step.{Searched}
 use Rattle.search.specs.Search.{RootOk}
 use Rattle.search_node.specs.declared.Node.{Node}
-use Rattle.search.specs.Place.{placed_read, found_as, meant_found, search_chip, place_text, place_read}
+use Rattle.search.specs.Place.{placed_read, meant_found, search_chip, place_text, place_read}
 use Rattle.search.specs.declared.service.Found.{Found}
 use Rattle.search_node.proofs.Lettering.{dots_in}
 use Rattle.search_node.proofs.Records.{no_best, none_counted}
@@ -103,12 +100,12 @@ start_counted c o ok q = rw q (none_counted c.n ok.fine.mac_count)
 
 -- ---- what the search finds for a text
 
-module _ (c : HeldChip) (text : List ℕ) (a : ChipAnswer) (e : meant a c ≡ read_chip text) where
-  pub found_refused : (f : Refusal) → a ≡ answer.Refused f → refused f.no f.line ≡ placed_read (read_chip text)
-  found_refused f q = ap placed_read (ap (λ (t : ChipAnswer). meant t c) (sym q) ∙ e)
+module _ (text : List ℕ) (a : Result HeldChip Refusal) (e : meant_chip a ≡ read_chip text) where
+  pub found_refused : (f : Refusal) → a ≡ Err f → refused f.no f.line ≡ placed_read (read_chip text)
+  found_refused f q = ap placed_read (ap meant_chip (sym q) ∙ e)
 
-  pub found_placed : a ≡ answer.Accepted → (r : HeldRecord) → record_of r ≡ chip_record (chip_of c) → accepted (chip_of c, record_of r) ≡ placed_read (read_chip text)
-  found_placed q r o = rw o (ap placed_read (ap (λ (t : ChipAnswer). meant t c) (sym q) ∙ e))
+  pub found_placed : (c : HeldChip) → a ≡ Ok c → (r : HeldRecord) → record_of r ≡ chip_record (chip_of c) → accepted (chip_of c, record_of r) ≡ placed_read (read_chip text)
+  found_placed c q r o = rw o (ap placed_read (ap meant_chip (sym q) ∙ e))
 
 -- back to the reading of the text
 read_refused : (x : Reading Chip) (n l : ℕ) → refused n l ≡ placed_read x → x ≡ refused n l
@@ -122,18 +119,18 @@ read_found (accepted d) c r e =
     (ap accepted (sym q), ap (λ (t : Chip × Record). t.1) p ∙ ap chip_record (sym q))
 read_found (refused k m) c r e = let z : ◌≡◌ {A = ℕ} 0 1 = cc in absurd (omega arith)
 
-module _ (text : List ℕ) (p : Found) (e : meant_found p ≡ placed_read (read_chip text)) where
-  pub text_refused : (f : Refusal) → p.answer ≡ answer.Refused f → read_chip text ≡ refused f.no f.line
-  text_refused f q = read_refused (read_chip text) f.no f.line (ap (λ (t : ChipAnswer). found_as t p.chip p.record) (sym q) ∙ e)
+module _ (text : List ℕ) (a : Result Found Refusal) (e : meant_found a ≡ placed_read (read_chip text)) where
+  pub text_refused : (f : Refusal) → a ≡ Err f → read_chip text ≡ refused f.no f.line
+  text_refused f q = read_refused (read_chip text) f.no f.line (ap meant_found (sym q) ∙ e)
 
-  module _ (q : p.answer ≡ answer.Accepted) where
-    its : (read_chip text ≡ accepted (chip_of p.chip)) × (record_of p.record ≡ chip_record (chip_of p.chip))
-    its = read_found (read_chip text) (chip_of p.chip) (record_of p.record) (ap (λ (t : ChipAnswer). found_as t p.chip p.record) (sym q) ∙ e)
+  module _ (p : Found) (q : a ≡ Ok p) where
+    its : (read_chip text ≡ accepted (chip_of p.chip)) × (record_of p.best ≡ chip_record (chip_of p.chip))
+    its = read_found (read_chip text) (chip_of p.chip) (record_of p.best) (ap meant_found (sym q) ∙ e)
 
     pub text_accepted : read_chip text ≡ accepted (chip_of p.chip)
     text_accepted = its.0
 
-    pub record_found : record_of p.record ≡ chip_record (chip_of p.chip)
+    pub record_found : record_of p.best ≡ chip_record (chip_of p.chip)
     record_found = its.1
 
 -- ---- what is written
@@ -146,14 +143,14 @@ module _ (c : Chip) (v : Valid c) (r : HeldRecord) (q : record_of r ≡ chip_rec
 pub record_searched : (c : HeldChip) → Passed c → (r : HeldRecord) → record_of r ≡ chip_record (chip_of c) → (out : List ℕ) (w : Written) → w ≡ write_record (record_of r) out → w ≡ search_chip (chip_of c) out
 record_searched c ok r q out w e = written (chip_of c) ok.valid r q out w e ∙ ap (λ (t : Reading Chip). write_text t (record_text (chip_record (chip_of c))) out) ok.read
 
-pub search_refused : (c : HeldChip) (out : List ℕ) (f : Refusal) (t : Tested) → tested_as (chip_of c) t ≡ read_chip (chip_text (chip_of c)) → t ≡ tested.Refused f → refuse f.no f.line out ≡ search_chip (chip_of c) out
+pub search_refused : (c : HeldChip) (out : List ℕ) (f : Refusal) (t : Result (Unit {0}) Refusal) → tested_as (chip_of c) t ≡ read_chip (chip_text (chip_of c)) → t ≡ Err f → refuse f.no f.line out ≡ search_chip (chip_of c) out
 search_refused c out f t e q = ap (λ (s : Reading Chip). write_text s (record_text (chip_record (chip_of c))) out) (ap (tested_as (chip_of c)) (sym q) ∙ e)
 
-module _ (text out : List ℕ) (p : Found) (e : meant_found p ≡ placed_read (read_chip text)) where
-  pub place_refused : (f : Refusal) → p.answer ≡ answer.Refused f → refuse f.no f.line out ≡ place_text text out
-  place_refused f q = ap (λ (t : Reading Chip). place_read t out) (sym (text_refused text p e f q))
+module _ (text out : List ℕ) (a : Result Found Refusal) (e : meant_found a ≡ placed_read (read_chip text)) where
+  pub place_refused : (f : Refusal) → a ≡ Err f → refuse f.no f.line out ≡ place_text text out
+  place_refused f q = ap (λ (t : Reading Chip). place_read t out) (sym (text_refused text a e f q))
 
-  pub record_placed : p.answer ≡ answer.Accepted → (w : Written) → w ≡ write_record (record_of p.record) out → w ≡ place_text text out
-  record_placed q w o =
-      let t = text_accepted text p e q in
-      written (chip_of p.chip) (accepted_valid text (chip_of p.chip) t) p.record (record_found text p e q) out w o ∙ ap (λ (x : Reading Chip). place_read x out) (sym t)
+  pub record_placed : (p : Found) → a ≡ Ok p → (w : Written) → w ≡ write_record (record_of p.best) out → w ≡ place_text text out
+  record_placed p q w o =
+      let t = text_accepted text a e p q in
+      written (chip_of p.chip) (accepted_valid text (chip_of p.chip) t) p.best (record_found text a e p q) out w o ∙ ap (λ (x : Reading Chip). place_read x out) (sym t)

@@ -1,11 +1,12 @@
 -- The children of a node, visited in any order: at each time a legal placement of the branch that keeps the node's differences is covered by the best so far, or keeps the differences that are left. When all four are gone nothing is left.
-use Prim.Native.Nat.{ℕ, ◌≤◌, ◌<◌}
+use Prim.Native.Nat.{ℕ, ◌<◌}
 use mathlib.Core.Path.{◌≡◌, refl, sym, subst}
-use mathlib.Core.Bool.{true, false, false≢true}
+use mathlib.Core.Bool.{true, false≢true}
 use mathlib.Core.List.{List}
 use mathlib.Core.Logic.{◌⊎◌, inl, inr}
 use native.Mathlib.Omega.{arith}
 use lib.ListN.{length}
+use Rattle.std.specs.Prelude.{Option, Some, None}
 use Rattle.model.specs.declared.Chip.{Chip as HeldChip}
 use Rattle.model.specs.declared.Spot.{Spot}
 use Rattle.model.specs.declared.Record.{Record as HeldRecord}
@@ -26,7 +27,7 @@ use Rattle.search_halves.proofs.Covers.{branch_legal, branch_keeps, covers_on}
 use Rattle.search_best.specs.Best.{best_of, Counted}
 use Rattle.search_node.specs.Node.{NodeOk, Open, Given, Turn}
 use Rattle.search_node.specs.Letters.{letters_in, letter_at, Asks, slot_asked}
-use Rattle.search_left.specs.Left.{KeepsBoth, child_list, child_at, NextOrOver, Visited}
+use Rattle.search_left.specs.Left.{KeepsBoth, child_list, child_at, HoldsAt, NoneHolds, NothingLeft, NextOrOver, Visited}
 use Rattle.search_close.specs.Step.{Searched}
 use Rattle.search_letters.specs.Turns.{LeftOk, Tried}
 use Rattle.search.specs.Search.{Grown, NextOf, NextOk}
@@ -84,12 +85,12 @@ module _ (c : HeldChip) (p : ℕ) (node : Node) (s : ℕ) where
       -- ---- nothing is left
 
       module _ (best b : HeldRecord) (t : Left) (okay : LeftOk c p node s 4 t b) (grown : Grown c best b) where
-        visits_end : (i : ℕ) → NextOrOver t i → 4 ≤ i → Searched c node.letters p node.kx node.ky best b
-        visits_end i next g = record {
+        visits_end : NothingLeft t → Searched c node.letters p node.kx node.ky best b
+        visits_end next = record {
           counted = grown.counted;
           first = grown.first;
           real = grown.real;
-          covers = λ ps h k. by ps h (okay.covers ps h k) (next.none (let q = next.place in omega arith));
+          covers = λ ps h k. by ps h (okay.covers ps h k) next.none;
         }
           where
             all : (ps : List Spot) → in_branch C ls ps ≡ true → KeepsBoth t.kx t.ky ps → ((j : ℕ) → j < 4 → best_of (child_at (child_list t) j) ≡ nothing) → (m : Letter) → Says m → keeps_one ps (opposite_at C s m) ≡ true
@@ -99,10 +100,10 @@ module _ (c : HeldChip) (p : ℕ) (node : Node) (s : ℕ) where
             all ps h k z high w = (okay.shut 3 (omega arith) (omega arith) (z 3 (omega arith))).keeps ps h k
             all ps h k z dot w = absurd (false≢true (sym w))
 
-            by : (ps : List Spot) → in_branch C ls ps ≡ true → NotAfter (best_of b) (placed C ps) ⊎ KeepsBoth t.kx t.ky ps → ((qs : List Spot) → KeepsBoth t.kx t.ky qs → ⊥) ⊎ ((j : ℕ) → j < 4 → best_of (child_at (child_list t) j) ≡ nothing) → NotAfter (best_of b) (placed C ps)
+            by : (ps : List Spot) → in_branch C ls ps ≡ true → NotAfter (best_of b) (placed C ps) ⊎ KeepsBoth t.kx t.ky ps → ((qs : List Spot) → KeepsBoth t.kx t.ky qs → ⊥) ⊎ NoneHolds (child_list t) → NotAfter (best_of b) (placed C ps)
             by ps h (inl x) y = x
             by ps h (inr x) (inl y) = absurd (y ps x)
-            by ps h (inr x) (inr y) = absurd (not_all_opposite C ls s (let q = free.place in let l = many in omega arith) free.undecided ps (branch_legal C ls ps h) (branch_keeps C ls ps h) (all ps h x y))
+            by ps h (inr x) (inr y) = absurd (not_all_opposite C ls s (let q = free.place in let l = many in omega arith) free.undecided ps (branch_legal C ls ps h) (branch_keeps C ls ps h) (all ps h x y.none))
 
 -- ---- in the form of the needs
 
@@ -118,21 +119,26 @@ module _ (c : HeldChip) (parts : Parts) (p : ℕ) (tx ty : List ℕ) (node : Nod
   pub visits_start : (t : Left) → Tried c parts p tx ty node s at 4 best t → LeftOk c p node s 4 t best × Grown c best best
   visits_start t k = (k.left g w, grown_start c p node s g.passed best g.counted)
 
-  module _ (t : Left) (b : HeldRecord) (okay : LeftOk c p node s 4 t b) (grown : Grown c best b) (i : ℕ) (sought : NextOrOver t i) where
-    pub visits_done : 4 ≤ i → Searched c node.letters p node.kx node.ky best b
-    visits_done h = visits_end c p node s g.passed g.branch w.free best b t okay grown i sought h
+  module _ (t : Left) (b : HeldRecord) (okay : LeftOk c p node s 4 t b) (grown : Grown c best b) where
+    visits_done : NothingLeft t → Searched c node.letters p node.kx node.ky best b
+    visits_done sought = visits_end c p node s g.passed g.branch w.free best b t okay grown sought
 
-    pub visit_child : i < 4 → (u : Slot) → u ≡ slot_asked parts.blocks at i → (next : Node) → NextOf node t s i u next → (r : Left) → Visited t i u r → Visit c parts p tx ty node s best b t next r
-    visit_child h u e next o r v = record {
+    -- where there is no next child
+    pub visits_over : (r : Option ℕ) → NextOrOver t r → ((i : ℕ) → r ≡ Some i → ⊥) → Searched c node.letters p node.kx node.ky best b
+    visits_over None next none = visits_done next
+    visits_over (Some i) next none = absurd (none i refl)
+
+    pub visit_child : (i : ℕ) → HoldsAt (child_list t) i → (u : Slot) → u ≡ slot_asked parts.blocks at i → (next : Node) → NextOf node t s i u next → (r : Left) → Visited t i u r → Visit c parts p tx ty node s best b t next r
+    visit_child i sought u e next o r v = record {
       given = record { passed = g.passed; reads = g.reads; arrays = g.arrays; branch = nx.node; counted = grown.counted };
       falls = visit_falls c p node s g.passed g.branch w.free i u asks best b g.counted t okay grown next nx r v;
-      fewer = visit_fewer c p node s g.passed g.branch w.free i u asks best b g.counted t okay grown next nx r v (sought.some h);
+      fewer = visit_fewer c p node s g.passed g.branch w.free i u asks best b g.counted t okay grown next nx r v sought.some;
       left = visit_left c p node s g.passed g.branch w.free i u asks best b g.counted t okay grown next nx r v;
       grown = visit_grown c p node s g.passed g.branch w.free i u asks best b g.counted t okay grown next nx r v;
     }
       where
         asks : Asks c s i u
-        asks = asked c parts p tx ty node s at best g w i h u e
+        asks = asked c parts p tx ty node s at best g w i sought.place u e
 
         nx : NextOk c p node t s i u next
-        nx = next_ok c p node t b s i u g.passed g.branch w.free asks okay (sought.some h) next o
+        nx = next_ok c p node t b s i u g.passed g.branch w.free asks okay sought.some next o

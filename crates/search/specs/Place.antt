@@ -1,16 +1,13 @@
 -- What the services of the search answer and leave in the lent buffer. Document 01, "The search and its record" and "Refusal table": a chip
 -- alone fixes its record; a chip held as a value is tested first as its text would be, and a text is read; then 15 where the buffer is shorter
 -- than the record; a refusal writes nothing, and bytes past the record are not touched.
-use Rattle.std.specs.Prelude.{List, ℕ}
-use Rattle.model.specs.declared.Chip.{Chip as HeldChip}
-use Rattle.model.specs.declared.Record.{Record as HeldRecord}
+use Rattle.std.specs.Prelude.{List, ℕ, Result, Ok, Err}
+use Rattle.model.specs.declared.Refusal.{Refusal}
 use Rattle.model.specs.Meaning.{Chip, Record, chip_of, record_of}
 use Rattle.text_grammar.specs.Reading.{Reading, accepted, refused, part_read}
 use Rattle.text_grammar.specs.Writing.{Written, write_text, write_read}
 use Rattle.chip_text.specs.Text.{read_chip, chip_text}
 use Rattle.record_text.specs.Text.{record_text}
-use Rattle.chip_read.specs.declared.ChipAnswer.{ChipAnswer}
-use Rattle.chip_read.specs.declared.ChipAnswer.TheVariants as answer
 use Rattle.placement.specs.Least.{chip_record}
 use Rattle.search.specs.declared.service.Found.{Found}
 
@@ -23,13 +20,9 @@ abbrev pub placed_read : Reading Chip → Reading (Chip × Record)
 placed_read r = part_read (λ (c : Chip). (c, chip_record c)) r
 
 -- document 01's number and values for each case of what the search finds
-abbrev pub found_as : ChipAnswer → HeldChip → HeldRecord → Reading (Chip × Record)
-found_as answer.Accepted c r = accepted (chip_of c, record_of r)
-found_as (answer.Refused f) c r = refused f.no f.line
-
--- the same, of the answer, the chip and the record as one
-abbrev pub meant_found : Found → Reading (Chip × Record)
-meant_found p = found_as p.answer p.chip p.record
+abbrev pub meant_found : Result Found Refusal → Reading (Chip × Record)
+meant_found (Ok p) = accepted (chip_of p.chip, record_of p.best)
+meant_found (Err f) = refused f.no f.line
 
 -- the text of a chip's record
 abbrev pub record_for : Chip → List ℕ

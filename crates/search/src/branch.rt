@@ -10,25 +10,23 @@ use model::Record;
 use search_close::next_step;
 use search_left::{Left, child_at, next_child, visited};
 use search_letters::try_letters;
-use search_node::{Node, Parts, decided, length_of, less, letter_slot};
+use search_node::{Node, Parts, decided, length_of, letter_slot};
 use search_tables::with_bound;
+use std::ops::ControlFlow;
 
 // Child i as a node, of a letter in x: its fit is f, its slot t.
 fn next_x(node: Node, left: Left, f: Record, s: usize, i: usize, t: Slot) -> Node
     ensures { NextX node left f s i t result }
 {
-    let letters = node.letters;
-    let ax = node.ax;
     let ay = node.ay;
-    let kx = left.kx;
     let ky = left.ky;
     Node {
-        letters: decided(letters, s, i),
-        ax: with_bound(ax, t),
+        letters: decided(node.letters, s, i),
+        ax: with_bound(node.ax, t),
         ay,
-        kx: search_kept::keep(kx, t),
+        kx: search_kept::keep(left.kx, t),
         ky,
-        lx: less(length_of(f), node.ly),
+        lx: length_of(f).saturating_sub(node.ly),
         ly: node.ly,
         here: f,
     }
@@ -37,19 +35,16 @@ fn next_x(node: Node, left: Left, f: Record, s: usize, i: usize, t: Slot) -> Nod
 fn next_y(node: Node, left: Left, f: Record, s: usize, i: usize, t: Slot) -> Node
     ensures { NextY node left f s i t result }
 {
-    let letters = node.letters;
     let ax = node.ax;
-    let ay = node.ay;
     let kx = left.kx;
-    let ky = left.ky;
     Node {
-        letters: decided(letters, s, i),
+        letters: decided(node.letters, s, i),
         ax,
-        ay: with_bound(ay, t),
+        ay: with_bound(node.ay, t),
         kx,
-        ky: search_kept::keep(ky, t),
+        ky: search_kept::keep(left.ky, t),
         lx: node.lx,
-        ly: less(length_of(f), node.lx),
+        ly: length_of(f).saturating_sub(node.lx),
         here: f,
     }
 }
@@ -60,9 +55,10 @@ fn next_node(node: Node, left: Left, s: usize, i: usize, t: Slot) -> Node
 {
     let f = child_at(left, i);
     if i < 2 {
-        return next_x(node, left, f, s, i, t);
+        next_x(node, left, f, s, i, t)
+    } else {
+        next_y(node, left, f, s, i, t)
     }
-    next_y(node, left, f, s, i, t)
 }
 
 // The best so far or a better one: not after any legal placement under the node's letters that keeps its differences.
@@ -84,25 +80,18 @@ pub(crate) fn search(
     requires { Given (chip_in cs.now) parts p tx.now ty.now node best }
     ensures { Searched (chip_in cs.now) node.letters p node.kx node.ky best result }
 {
-    let turn = next_step(parts, p, node, best);
-    let closed = turn.closed;
-    if closed {
-        return turn.answer;
-    }
-    let s = turn.s;
-    let at = turn.at;
+    let pair = match next_step(parts, p, node, best) {
+        ControlFlow::Break(answer) => return answer,
+        ControlFlow::Continue(pair) => pair,
+    };
     let mut pool = [0u32; POOL];
     let mut left = try_letters(
-        cs, parts, p, tx, hx, ty, hy, node, sx, ix, sy, iy, s, at, best, &mut pool,
+        cs, parts, p, tx, hx, ty, hy, node, sx, ix, sy, iy, pair.s, pair.at, best, &mut pool,
     );
     let mut b = best;
-    loop {
-        let i = next_child(left);
-        if 4 <= i {
-            return b;
-        }
-        let t = letter_slot(parts, at, i);
-        let next = next_node(node, left, s, i, t);
+    while let Some(i) = next_child(left) {
+        let t = letter_slot(parts, pair.at, i);
+        let next = next_node(node, left, pair.s, i, t);
         left = visited(left, i, t);
         if i < 2 {
             b = search(cs, parts, p, tx, hx, ty, hy, next, &pool, i, sy, iy, b);
@@ -110,4 +99,5 @@ pub(crate) fn search(
             b = search(cs, parts, p, tx, hx, ty, hy, next, sx, ix, &pool, i, b);
         }
     }
+    b
 }

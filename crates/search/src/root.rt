@@ -3,7 +3,7 @@ ghost use Rattle.std.specs.Prelude.{◌≡◌, length};
 ghost use Rattle.model.specs.Meaning.{chip_of};
 ghost use Rattle.chip_text.specs.Passed.{Passed};
 ghost use Rattle.chip_array.specs.Array.{chip_in};
-ghost use Rattle.fit_slots.specs.Axes.{corner_on, corners_on};
+ghost use Rattle.fit_slots.specs.Axes.{corners_on};
 ghost use Rattle.fit_slots.specs.Fit.{dots};
 ghost use Rattle.search_tables.specs.Made.{Hold};
 ghost use Rattle.fit_pairs.specs.Count.{letter_total};
@@ -16,33 +16,21 @@ use chip_array::macro_count;
 use fit_pairs::LETTERS;
 use fit_slots::Direction;
 use half_fit::service::{HalfFit, HalfOutcome};
+use half_values::length::half_length;
 use model::{Chip, Mac, Outcome, Record, Spot};
 use search_join::{fit_again, joined, spots_with};
 use search_node::{Node, no_record};
 use search_order::ordered;
 use search_tables::Arrays;
 
-// A corner's coordinate in a direction.
-fn coordinate(p: Spot, d: Direction) -> u64
-    ensures { result ≡ corner_on d p }
-{
-    match d {
-        Direction::Horizontal => p.x,
-        Direction::Vertical => p.y,
-    }
-}
-
 // The corners' coordinates in a direction.
 fn coordinates(spots: [Spot; Mac::COUNT], d: Direction) -> [u64; Mac::COUNT]
     ensures { result ≡ corners_on d spots }
 {
-    let mut at = [0u64; Mac::COUNT];
-    let mut i: usize = 0;
-    while i < Mac::COUNT {
-        at[i] = coordinate(spots[i], d);
-        i += 1;
+    match d {
+        Direction::Horizontal => spots.map(|p| p.x),
+        Direction::Vertical => spots.map(|p| p.y),
     }
-    at
 }
 
 // A placement with x 0 and the given y, of length l.
@@ -68,12 +56,11 @@ fn from_halves(
     requires { Passed (chip_in cs.now) × Lettered (chip_in cs.now) letters p × HalfSaid (chip_of (chip_in cs.now)) (letters_in letters p) Direction.Horizontal 4000000000 fx.outcome fx.at × HalfSaid (chip_of (chip_in cs.now)) (letters_in letters p) Direction.Vertical 4000000000 (HalfOutcome.Fit l) at }
     ensures { ChildHeld (chip_in cs.now) letters p no_record result }
 {
-    let above = upright(cs, at, l);
     joined(
         cs,
         p,
         letters,
-        above,
+        upright(cs, at, l),
         no_record(),
         Direction::Horizontal,
         fx,
@@ -92,14 +79,11 @@ pub(crate) fn first_fit(
     requires { Passed (chip_in cs.now) × Lettered (chip_in cs.now) letters p × HalfSaid (chip_of (chip_in cs.now)) (letters_in letters p) Direction.Horizontal 4000000000 fx.outcome fx.at × HalfSaid (chip_of (chip_in cs.now)) (letters_in letters p) Direction.Vertical 4000000000 fy.outcome fy.at }
     ensures { FitHeld (chip_in cs.now) letters p result }
 {
-    let outcome = fy.outcome;
-    let HalfOutcome::Fit(l) = outcome else {
+    let HalfOutcome::Fit(l) = fy.outcome else {
         return fit_again(cs, letters, p);
     };
-    let at = fy.at;
-    let r = from_halves(cs, p, letters, fx, at, l);
-    let found = r.outcome;
-    match found {
+    let r = from_halves(cs, p, letters, fx, fy.at, l);
+    match r.outcome {
         Outcome::Least(_, _) => r,
         Outcome::None => fit_again(cs, letters, p),
     }
@@ -117,23 +101,16 @@ pub(crate) fn root(
     requires { Passed c × (p ≡ letter_total c.n c.k) × (letters ≡ dots 120) × Hold c Direction.Horizontal x.tab x.arcs × Hold c Direction.Vertical y.tab y.arcs × FitHeld c letters p here }
     ensures { RootOk c p result }
 {
-    let spots = here.spots;
-    let tx = x.tab;
-    let ty = y.tab;
     let ax = x.arcs;
     let ay = y.arcs;
-    let kx = ordered(c, search_kept::closed(ax));
-    let ky = search_kept::closed(ay);
-    let lx = half_values::length::half_length(&tx, coordinates(spots, Direction::Horizontal));
-    let ly = half_values::length::half_length(&ty, coordinates(spots, Direction::Vertical));
     Node {
         letters,
         ax,
         ay,
-        kx,
-        ky,
-        lx,
-        ly,
+        kx: ordered(c, search_kept::closed(x.arcs)),
+        ky: search_kept::closed(y.arcs),
+        lx: half_length(&x.tab, coordinates(here.spots, Direction::Horizontal)),
+        ly: half_length(&y.tab, coordinates(here.spots, Direction::Vertical)),
         here,
     }
 }

@@ -12,12 +12,11 @@ use crate::branch::search;
 use crate::root::{first_fit, root};
 use crate::weights::all_weights;
 use chip_put::array_of;
-use chip_read::ChipAnswer;
 use fit_pairs::all_dots;
 use fit_slots::Direction;
 use half_fit::service::first_half;
 use half_fit::{HELP, POOL};
-use model::{Chip, Record, Tested, WriteAnswer};
+use model::{Chip, Record, Refusal};
 use search_node::{Parts, no_record};
 use search_tables::arrays_of;
 
@@ -71,53 +70,35 @@ fn chip_record(c: Chip) -> Record
 }
 
 // The record of a chip held as a value, into the lent buffer.
-pub fn search_chip(c: Chip, out: &mut [u8]) -> WriteAnswer
+pub fn search_chip(c: Chip, out: &mut [u8]) -> Result<usize, Refusal>
     ensures { record { answer = answer_of result; buffer = out.new } ≡ search_chip (chip_of c) out.old }
 {
-    let tested = chip_test::test_chip(c);
-    match tested {
-        Tested::Refused(f) => WriteAnswer::Refused(f),
-        Tested::Passed => record_write::write_record(chip_record(c), out),
-    }
+    chip_test::test_chip(c)?;
+    record_write::write_record(chip_record(c), out)
 }
 
-// What the search finds for a chip text: the refusal, or the chip that was read and its record.
+// What the search finds for a chip text: the chip that was read and its record.
 #[derive(Clone, Copy)]
 pub struct Found {
-    pub answer: ChipAnswer,
     pub chip: Chip,
-    pub record: Record,
+    pub best: Record,
 }
 
-// The chip of a text and its record.
-pub fn placed(text: &[u8]) -> Found
+// The chip of a text and its record, or the refusal.
+pub fn placed(text: &[u8]) -> Result<Found, Refusal>
     ensures { meant_found result ≡ placed_read (read_chip text.now) }
 {
-    let read = chip_read::read_chip(text);
-    let answer = read.answer;
-    let chip = read.chip;
-    match answer {
-        ChipAnswer::Refused(f) => Found {
-            answer: ChipAnswer::Refused(f),
-            chip,
-            record: no_record(),
-        },
-        ChipAnswer::Accepted => Found {
-            answer: ChipAnswer::Accepted,
-            chip,
-            record: chip_record(chip),
-        },
-    }
+    let chip = chip_read::read_chip(text)?;
+    Ok(Found {
+        chip,
+        best: chip_record(chip),
+    })
 }
 
 // From chip text to record text.
-pub fn place_text(text: &[u8], out: &mut [u8]) -> WriteAnswer
+pub fn place_text(text: &[u8], out: &mut [u8]) -> Result<usize, Refusal>
     ensures { record { answer = answer_of result; buffer = out.new } ≡ place_text text.now out.old }
 {
-    let found = placed(text);
-    let answer = found.answer;
-    match answer {
-        ChipAnswer::Refused(f) => WriteAnswer::Refused(f),
-        ChipAnswer::Accepted => record_write::write_record(found.record, out),
-    }
+    let found = placed(text)?;
+    record_write::write_record(found.best, out)
 }

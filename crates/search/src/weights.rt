@@ -3,17 +3,12 @@ ghost use Rattle.std.specs.Prelude.{◌≤◌};
 
 use model::{Chip, Mac, Net, Pin};
 
-// For each macro whether a pin of it stands at the places from q to before end: 1, else 0.
-fn on_net(pins: [Pin; Pin::COUNT], q: usize, end: usize) -> [u64; Mac::COUNT]
-    requires { end ≤ 128 }
-{
-    let mut on = [0u64; Mac::COUNT];
-    let mut e = q;
-    while e < end {
-        let p = pins[e];
-        e += 1;
-        if 1 <= p.m {
-            on[(p.m - 1) % Mac::COUNT] = 1;
+// For each macro whether one of the pins is on it.
+fn on_net(pins: &[Pin]) -> [bool; Mac::COUNT] {
+    let mut on = [false; Mac::COUNT];
+    for p in pins {
+        if p.m != 0 {
+            on[(p.m - 1) % Mac::COUNT] = true;
         }
     }
     on
@@ -21,48 +16,36 @@ fn on_net(pins: [Pin; Pin::COUNT], q: usize, end: usize) -> [u64; Mac::COUNT]
 
 // The place after a net's pins, which begin at q.
 fn net_end(q: usize, count: usize) -> usize
-    ensures { result ≤ 128 }
+    requires { q ≤ 128 }
+    ensures at_least { q ≤ result }
+    ensures at_most { result ≤ 128 }
 {
-    if Pin::COUNT < q {
-        return Pin::COUNT;
-    }
-    if Pin::COUNT - q < count {
-        return Pin::COUNT;
-    }
-    q + count
+    q.saturating_add(count).min(Pin::COUNT)
 }
 
 // The weights with that of a net for the macros on it; those of an accepted chip are far below the limits.
-fn with_net(weights: [u64; Mac::COUNT], on: [u64; Mac::COUNT], weight: u64) -> [u64; Mac::COUNT] {
-    let mut r = weights;
-    let mut i: usize = 0;
-    while i < Mac::COUNT {
-        if on[i] == 1 {
-            r[i] = weights[i] % 1000000 + weight % 1001;
+fn with_net(
+    mut weights: [u64; Mac::COUNT],
+    on: [bool; Mac::COUNT],
+    weight: u64,
+) -> [u64; Mac::COUNT] {
+    for (w, on) in weights.iter_mut().zip(on) {
+        if on {
+            *w = *w % 1000000 + weight % 1001;
         }
-        i += 1;
     }
-    r
+    weights
 }
 
 // The summed weight of each macro's nets.
 pub(crate) fn all_weights(c: Chip) -> [u64; Mac::COUNT] {
-    let nets = c.nets;
-    let pins = c.pins;
-    let t = c.t;
-    let mut weights = [0u64; Mac::COUNT];
+    let mut weights = [0; Mac::COUNT];
     let mut q: usize = 0;
-    let mut j: usize = 0;
-    while j < Net::COUNT {
-        if t <= j {
-            return weights;
-        }
-        let net = nets[j];
+    for net in &c.nets[..c.t.min(Net::COUNT)] {
         let end = net_end(q, net.pins);
-        let next = with_net(weights, on_net(pins, q, end), net.weight);
+        let next = with_net(weights, on_net(&c.pins[q..end]), net.weight);
         weights = next;
         q = end;
-        j += 1;
     }
     weights
 }

@@ -1,17 +1,16 @@
 -- The better of two records, by whether there are placements, by their lengths and by their order; and the record that is chosen by that answer.
-use mathlib.Core.Path.{◌≡◌, refl, sym, subst, ◌∙◌}
-use mathlib.Core.Bool.{Bool, true, false, or-false, false≢true}
-use mathlib.Core.Logic.{inl, inr}
-use Prim.Native.Nat.{ℕ}
+use mathlib.Core.Path.{◌≡◌}
+use mathlib.Core.Bool.{Bool, true, false, or-false}
+use Prim.Native.Nat.{ℕ, ◌≤◌}
 use native.Mathlib.Omega.{arith}
-use lib.Dec.{ltb}
+use lib.Dec.{ltb, eqb}
 use borrow.Author.Tests.{le-ltb, eq-eqb, ne_eqb}
 use Rattle.model.specs.declared.Record.{Record as HeldRecord}
 use Rattle.model.specs.declared.Outcome.TheVariants as outcome
 use Rattle.model.specs.Meaning.{first_of, record_of, blank_spot}
 use Rattle.placement.specs.Order.{before}
 use Rattle.search_branches.specs.Branch.{pick, better}
-use Rattle.search_best.specs.Best.{best_of, Told, Better}
+use Rattle.search_best.specs.Best.{best_of}
 
 module _ (best other : HeldRecord) where
   abbrev Chosen : Bool → Type 0
@@ -22,16 +21,7 @@ module _ (best other : HeldRecord) where
   unfolding best_of record_of
   keeps_best e = rw e
 
-  pub told_none : Told false other
-  told_none = record { placed = λ e. absurd (false≢true e) }
-
   module _ (l n : ℕ) (e : other.outcome ≡ outcome.Least l n) where
-    pub told_least : (t : Bool) → Told t other
-    told_least t = record { placed = λ q z. no_none (sym e ∙ z) }
-      where
-        no_none : outcome.Least l n ≡ outcome.None → ⊥
-        no_none z = let q : ◌≡◌ {A = ℕ} 0 1 = cc in absurd (omega arith)
-
     -- the first placement
     pub takes_first : best.outcome ≡ outcome.None → Chosen true
     unfolding best_of record_of
@@ -42,13 +32,10 @@ module _ (best other : HeldRecord) where
       unfolding best_of record_of
       by_length d = rw (e, f, ne_eqb l m d, or-false (ltb l m))
 
+      pub by_more : m ≤ l → (l ≡ m → ⊥) → Chosen (eqb l m)
+      unfolding best_of record_of
+      by_more h d = rw (e, f, le-ltb l m h, ne_eqb l m d)
+
       pub by_order : (t : Bool) → t ≡ before (first_of blank_spot n other.spots) (first_of blank_spot k best.spots) → l ≡ m → Chosen t
       unfolding best_of record_of
       by_order t o d = rw (e, f, le-ltb l m (omega arith), eq-eqb l m d, ← o)
-
-  module _ (t : Bool) (chosen : Chosen t) where
-    pub other_better : t ≡ true → Better best other other
-    other_better e = record { is = subst Chosen e chosen; one_of = inr refl; counted = λ n a b. b }
-
-    pub best_better : t ≡ false → Better best other best
-    best_better e = record { is = subst Chosen e chosen; one_of = inl refl; counted = λ n a b. a }

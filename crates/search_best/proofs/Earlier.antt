@@ -3,10 +3,11 @@ use mathlib.Core.Path.{◌≡◌, refl, sym, ap, ◌∙◌}
 use mathlib.Core.Bool.{Bool, false, or-false}
 use mathlib.Core.Logic.{◌⊎◌, inl, inr}
 use mathlib.Core.List.{List, [], ◌∷◌}
-use Prim.Native.Nat.{ℕ, zero, suc, ◌+◌, ◌≤◌, ◌<◌}
+use Prim.Native.Nat.{ℕ, zero, suc, ◌+◌, ◌≤◌, ◌<◌, min}
 use native.Mathlib.Nat.{le_of_suc-le-suc}
 use native.Mathlib.Numerals.{add-one}
 use native.Mathlib.Omega.{arith}
+use native.Mathlib.Decide.{dec_lt}
 use lib.Dec.{ltb}
 use lib.ListN.{length, get_or, drop}
 use borrow.Author.Tests.{le-ltb, eq-eqb, ne_eqb}
@@ -64,20 +65,28 @@ module _ (n : ℕ) (a : List Spot) (m : ℕ) (b : List Spot) where
   FromCorner i = whole ≡ before (drop i (corners n a)) (drop i (corners m b))
 
   module _ (i : ℕ) (inv : FromCorner i) where
-    pub first_over : n ≤ i → false ≡ whole
+    first_over : n ≤ i → false ≡ whole
     first_over h = sym (inv ∙ (ap (λ (t : List Spot). before t (drop i (corners m b))) (from_past n a i h) ∙ none_before (drop i (corners m b))))
 
-    pub second_over : m ≤ i → false ≡ whole
+    second_over : m ≤ i → false ≡ whole
     second_over h = sym (inv ∙ (ap (before (drop i (corners n a))) (from_past m b i h) ∙ not_before_none (drop i (corners n a))))
 
     module _ (l : length a ≡ 8) (k : length b ≡ 8) where
-      pub both_over : 8 ≤ i → false ≡ whole
+      both_over : 8 ≤ i → false ≡ whole
       both_over h = by (from_blank n a i (omega arith)) (from_blank m b i (omega arith))
         where
           by : (drop i (corners n a) ≡ []) ⊎ (drop i (corners n a) ≡ blank_spot ∷ []) → (drop i (corners m b) ≡ []) ⊎ (drop i (corners m b) ≡ blank_spot ∷ []) → false ≡ whole
           by (inl e) f = sym (inv ∙ (ap (λ (t : List Spot). before t (drop i (corners m b))) e ∙ none_before (drop i (corners m b))))
           by (inr e) (inl f) = sym (inv ∙ (ap (before (drop i (corners n a))) f ∙ not_before_none (drop i (corners n a))))
           by (inr e) (inr f) = sym (inv ∙ rw (e, f) blank_alike)
+
+      pub over : min (min n m) 8 ≤ i → false ≡ whole
+      over h = by (dec_lt i n) (dec_lt i m)
+        where
+          by : Dec (i < n) → Dec (i < m) → false ≡ whole
+          by (no g) d = first_over (omega arith)
+          by (yes g) (no d) = second_over (omega arith)
+          by (yes g) (yes d) = both_over (omega arith)
 
       module _ (h : i < n) (g : i < m) (few : i < 8) where
         abbrev p : Spot

@@ -13,17 +13,9 @@ use model::{Mac, Outcome, Record, Spot};
 fn comes_before(n: usize, a: [Spot; Mac::COUNT], m: usize, b: [Spot; Mac::COUNT]) -> bool
     ensures { result ≡ before (first_of blank_spot n a) (first_of blank_spot m b) }
 {
-    let mut i: usize = 0;
-    while i < Mac::COUNT {
-        if n <= i {
-            return false;
-        }
-        if m <= i {
-            return false;
-        }
+    for i in 0..n.min(m).min(Mac::COUNT) {
         let p = a[i];
         let q = b[i];
-        i += 1;
         if p.x != q.x {
             return p.x < q.x;
         }
@@ -39,37 +31,22 @@ pub fn replaces_best(best: Record, other: Record) -> bool
     ensures best_value { pick result (best_of other) (best_of best) ≡ better (best_of best) (best_of other) }
     ensures told { Told result other }
 {
-    let theirs = other.outcome;
-    let Outcome::Least(l, n) = theirs else {
+    let Outcome::Least(l, n) = other.outcome else {
         return false;
     };
-    let ours = best.outcome;
-    let Outcome::Least(m, k) = ours else {
+    let Outcome::Least(m, k) = best.outcome else {
         return true;
     };
-    if l != m {
-        return l < m;
-    }
-    let a = other.spots;
-    let b = best.spots;
-    comes_before(n, a, k, b)
-}
-
-// The better of the two records.
-fn better_record(best: Record, other: Record) -> Record
-    ensures { Better best other result }
-{
-    if replaces_best(best, other) {
-        return other;
-    }
-    best
+    l < m || l == m && comes_before(n, other.spots, k, best.spots)
 }
 
 // The best record is replaced by the other where that is better.
 pub fn keep_better(best: &mut Record, other: Record)
     ensures { Better best.old other best.new }
 {
-    *best = better_record(*best, other);
+    if replaces_best(*best, other) {
+        *best = other;
+    }
 }
 
 // The best record after one more.

@@ -23,23 +23,22 @@ fn empty_box() -> Box
 pub fn mac_box(blocks: Blocks, spots: [Spot; Mac::COUNT], i: usize) -> Box
     ensures { result ≡ mac_box blocks spots i }
 {
-    if Mac::COUNT <= i {
-        return empty_box();
+    if i < Mac::COUNT {
+        geometry::box_at(blocks.macs[i], spots[i])
+    } else {
+        empty_box()
     }
-    let macs = blocks.macs;
-    geometry::box_at(macs[i], spots[i])
 }
 
 // The second of a pair: fix j, or macro j at its corner; past the arrays an empty box.
 pub fn second_box(blocks: Blocks, spots: [Spot; Mac::COUNT], fix: bool, j: usize) -> Box
     ensures { result ≡ second_of blocks spots fix j }
 {
-    if fix {
-        if j < Fix::COUNT {
-            let fixes = blocks.fixes;
-            return geometry::box_of(fixes[j]);
-        }
-        return empty_box();
+    if !fix {
+        mac_box(blocks, spots, j)
+    } else if j < Fix::COUNT {
+        geometry::box_of(blocks.fixes[j])
+    } else {
+        empty_box()
     }
-    mac_box(blocks, spots, j)
 }

@@ -1,15 +1,15 @@
 -- The choice of a pair: the cursor is at the place of each letter in turn, and the boxes read there are the pair of that place.
 use Prim.Native.Nat.{ℕ, ◌+◌, ◌≤◌, ◌<◌}
 use mathlib.Core.Path.{◌≡◌, refl, sym, ap, ◌∙◌}
-use mathlib.Core.Bool.{Bool, true, false, not, false≢true}
+use mathlib.Core.Bool.{Bool, true, false, not}
 use mathlib.Core.List.{List, [], map}
 use native.Mathlib.Decide.{ℕ_discrete}
 use native.Mathlib.Numerals.{add-one}
 use native.Mathlib.Omega.{arith}
-use lib.Dec.{ltb, eqb}
+use lib.Dec.{ltb}
 use lib.ListN.{length, get_or, take, get_or-map}
 use lib.Seq.{length-take-le, get_or-take}
-use borrow.Author.Tests.{lt-ltb, le-ltb, eq-eqb, eqb-true, not-true, not-false}
+use borrow.Author.Tests.{lt-ltb, le-ltb, not-true, not-false}
 use Rattle.model.specs.declared.Fix.{Fix}
 use Rattle.model.specs.declared.Mac.{Mac}
 use Rattle.model.specs.declared.Spot.{Spot}
@@ -27,10 +27,9 @@ use Rattle.fit_slots.proofs.Pairs.{pair_of, pairs_couples}
 use Rattle.fit_slots.proofs.Counting.{letters_count}
 use Rattle.fit_pairs.specs.declared.Cursor.{Cursor}
 use Rattle.fit_pairs.specs.Order.{pair_at, couple_at, OnPair, First, next_of}
-use Rattle.fit_pairs.specs.Count.{letter_total}
 use Rattle.fit_pairs.proofs.Counts.{all_letters}
 use Rattle.fit_pairs.proofs.Places.{AtPlace, place_first, place_on_law, place_next, place_couple, couple_taken}
-use Rattle.search_choose.specs.Choice.{no_pair, apart_at, Chosen, PlaceOf, Laid, LaidBy, ChosenOf}
+use Rattle.search_choose.specs.Choice.{no_pair, apart_at, Chosen, PlaceOf, Laid}
 use Rattle.search_boxes.specs.Boxes.{mac_box, second_of}
 
 module _ (blocks : Blocks) (spots : List Spot) (p : ℕ) where
@@ -181,41 +180,6 @@ module _ (blocks : Blocks) (spots : List Spot) (p : ℕ) where
 
       on_best : best < p → OnPair n k b
       on_best h = rw (w.size.mac_count, w.size.fix_count) at (place_on_law ms fs b best (w.chosen h) (inside h))
-
-  pub all_chosen : (at : Cursor) (s best : ℕ) (b : Cursor) (most : ℕ) → Seen at s best b most → p ≤ s → Chosen (bare_of blocks) (take n spots) p best
-  all_chosen at s best b most w h = record {
-    place = w.within;
-    overlap = λ g. same best (w.overlap g);
-    none = λ e t g. same t (w.apart e t (omega arith));
-  }
-    where
-      same : {b : Bool} (t : ℕ) → apart_here t ≡ b → apart_at (bare_of blocks) (pairs (bare_of blocks) ps) t ≡ b
-      same t e = rw (w.size.macs_first, w.size.fixes_first) e
-
--- ---- in the form of the needs
-
-module _ (n k p : ℕ) where
-  pub many_macs : 8 < n → LaidBy false n k p
-  many_macs h = record { yes = λ q. absurd (false≢true q); no = λ q l. let f = l.few in absurd (omega arith) }
-
-  pub many_fixes : 8 < k → LaidBy false n k p
-  many_fixes h = record { yes = λ q. absurd (false≢true q); no = λ q l. let f = l.few_fixes in absurd (omega arith) }
-
-  pub laid_by : n ≤ 8 → k ≤ 8 → (t : ℕ) → t ≡ letter_total n k → LaidBy (eqb p t) n k p
-  laid_by a b t e = record {
-    yes = λ q. record { few = a; few_fixes = b; count = eqb-true p t q ∙ e };
-    no = λ q l. absurd (false≢true (sym q ∙ eq-eqb p t (l.count ∙ sym e)));
-  }
-
-pub is_laid : (n k p : ℕ) (b : Bool) → LaidBy b n k p → not b ≡ false → Laid n k p
-is_laid n k p b h q = h.yes (not-false b q)
-
-module _ (b : Blocks) (spots : List Spot) (p r : ℕ) (at : Cursor) where
-  pub not_laid : (t : Bool) → LaidBy t b.n b.k p → not t ≡ true → ChosenOf b spots p r at
-  not_laid t h q = record { pair = λ l. absurd (h.no (not-true t q) l); place = λ l. absurd (h.no (not-true t q) l) }
-
-  pub chosen_of : Chosen (bare_of b) (take b.n spots) p r → PlaceOf b p r at → ChosenOf b spots p r at
-  chosen_of c o = record { pair = λ l. c; place = λ l. o }
 
 -- ---- the chip
 

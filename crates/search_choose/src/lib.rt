@@ -24,13 +24,7 @@ pub struct Choice {
 fn is_laid(n: usize, k: usize, p: usize) -> bool
     ensures { LaidBy result n k p }
 {
-    if Mac::COUNT < n {
-        return false;
-    }
-    if Fix::COUNT < k {
-        return false;
-    }
-    p == letter_count(n, k)
+    n <= Mac::COUNT && k <= Fix::COUNT && p == letter_count(n, k)
 }
 
 // The place of an overlapping pair of the p pairs of blocks, or p where each two are apart.
@@ -47,24 +41,18 @@ fn choose_pair(
     ensures chosen { Chosen (bare_of blocks) (take blocks.n spots) p result.s }
     ensures place_of { PlaceOf blocks p result.s result.at }
 {
-    let n = blocks.n;
-    let k = blocks.k;
     let mut best = p;
     let mut most: u64 = 0;
-    let mut at = first_pair(n);
+    let mut at = first_pair(blocks.n);
     let mut best_at = at;
-    let mut s: usize = 0;
-    while s < p {
+    for s in 0..p {
         let v = pair_score(blocks, spots, weights, kx, ky, found, at);
-        let here = s;
-        let here_at = at;
-        at = next_pair(at, n, k);
-        s += 1;
         if most < v {
-            best = here;
-            best_at = here_at;
+            best = s;
+            best_at = at;
             most = v;
         }
+        at = next_pair(at, blocks.n, blocks.k);
     }
     Choice {
         s: best,
@@ -84,11 +72,12 @@ pub fn choose(
 ) -> Choice
     ensures { ChosenOf blocks spots p result.s result.at }
 {
-    if !is_laid(blocks.n, blocks.k, p) {
-        return Choice {
+    if is_laid(blocks.n, blocks.k, p) {
+        choose_pair(blocks, p, weights, kx, ky, found, spots)
+    } else {
+        Choice {
             s: p,
             at: first_pair(blocks.n),
-        };
+        }
     }
-    choose_pair(blocks, p, weights, kx, ky, found, spots)
 }

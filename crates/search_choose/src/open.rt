@@ -41,22 +41,13 @@ pub(crate) fn open_letters(
 fn closed(open: bool) -> u64
     ensures { result ≤ 1 }
 {
-    if open {
-        return 0;
-    }
-    1
+    if open { 0 } else { 1 }
 }
 
 // How urgent a pair is: while no placement is found, pairs with at most two open letters come first, those with fewer earlier.
 pub(crate) fn urgency(found: bool, open: Open) -> u64
     ensures { result ≤ 3 }
 {
-    if found {
-        return 0;
-    }
     let count = closed(open.left) + closed(open.right) + closed(open.below) + closed(open.above);
-    if count < 2 {
-        return 0;
-    }
-    count - 1
+    if found { 0 } else { count.saturating_sub(1) }
 }

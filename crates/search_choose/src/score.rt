@@ -6,8 +6,7 @@ ghost use Rattle.search_boxes.specs.Boxes.{mac_box, second_of};
 use crate::open::{Open, open_letters, urgency};
 use fit_pairs::Cursor;
 use geometry::{Box, apart};
-use model::{Blocks, Mac, Spot};
-use num_limits::{greater, lesser};
+use model::{Blocks, Die, Mac, Spot};
 use search_boxes::{mac_box, second_box};
 use search_kept::CELLS;
 
@@ -22,24 +21,21 @@ fn two_least(left: u64, right: u64, down: u64, up: u64) -> u64
     requires { (left ≤ 2048) × (right ≤ 2048) × (down ≤ 2048) × (up ≤ 2048) }
     ensures { result ≤ 4194304 }
 {
-    let x = lesser(left, right);
-    let y = lesser(down, up);
-    let far = lesser(greater(left, right), greater(down, up));
-    lesser(x, y) * lesser(greater(x, y), far)
+    let x = left.min(right);
+    let y = down.min(up);
+    let far = left.max(right).min(down.max(up));
+    x.min(y) * x.max(y).min(far)
 }
 
 // How far a side that begins at a has to move so that it ends by b; where its letter is not open, 2,048.
 fn way(open: bool, a: u64, side: u64, b: u64) -> u64
     ensures { result ≤ 2048 }
 {
-    if !open {
-        return FAR;
+    if open {
+        (a.min(Die::SIDE_MOST) + side.min(Die::SIDE_MOST)).saturating_sub(b)
+    } else {
+        FAR
     }
-    let end = lesser(a, 1024) + lesser(side, 1024);
-    if end < b {
-        return 0;
-    }
-    end - b
 }
 
 // How far a has to move to stand left of, right of, below or above b, in the two shortest ways.
@@ -65,21 +61,24 @@ fn score(a: Box, b: Box, open: Open, urgent: u64, weight: u64, early: u64) -> u6
 fn earliness(fix: bool, i: usize, j: usize) -> u64
     ensures { result ≤ 1023 }
 {
-    if fix {
-        return 1023 - (i % 8 * 64 + j % 8) as u64;
-    }
-    1023 - (j % 8 * 64 + 32 + i % 8) as u64
+    let late = if fix {
+        i % 8 * 64 + j % 8
+    } else {
+        j % 8 * 64 + 32 + i % 8
+    };
+    1023 - late as u64
 }
 
 // The weight of the nets of a pair: the lesser of its macros' weights.
 fn pair_weight(weights: [u64; Mac::COUNT], fix: bool, i: usize, j: usize) -> u64
     ensures { result ≤ 32000 }
 {
-    let w = lesser(weights[i % 8], HEAVY);
+    let w = weights[i % Mac::COUNT].min(HEAVY);
     if fix {
-        return w;
+        w
+    } else {
+        w.min(weights[j % Mac::COUNT])
     }
-    lesser(w, weights[j % 8])
 }
 
 // The score of the pair at hand.
@@ -94,21 +93,20 @@ pub(crate) fn pair_score(
 ) -> u64
     ensures { ltb 0 result ≡ not (areApart 0 (mac_box blocks spots at.i) (second_of blocks spots at.fix at.j)) }
 {
-    let fix = at.fix;
-    let i = at.i;
-    let j = at.j;
+    let Cursor { fix, i, j } = at;
     let a = mac_box(blocks, spots, i);
     let b = second_box(blocks, spots, fix, j);
     if apart(a, b, 0) {
-        return 0;
+        0
+    } else {
+        let open = open_letters(blocks, kx, ky, at);
+        score(
+            a,
+            b,
+            open,
+            urgency(found, open),
+            pair_weight(weights, fix, i, j),
+            earliness(fix, i, j),
+        )
     }
-    let open = open_letters(blocks, kx, ky, at);
-    score(
-        a,
-        b,
-        open,
-        urgency(found, open),
-        pair_weight(weights, fix, i, j),
-        earliness(fix, i, j),
-    )
 }

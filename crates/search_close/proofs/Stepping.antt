@@ -14,11 +14,11 @@ use Rattle.fit_slots.specs.Fit.{letter_count}
 use Rattle.model.specs.declared.Spot.{Spot}
 use Rattle.model.specs.declared.Record.{Record as HeldRecord}
 use mathlib.Core.List.{List}
-use mathlib.Core.Bool.{Bool, true, false, not, true≢false, false≢true}
+use mathlib.Core.Bool.{Bool, true, false, not}
 use Rattle.search_branches.specs.Branch.{pick, better}
 use Rattle.search_best.specs.Best.{best_of, Told, Better}
-use Rattle.search_close.specs.Step.{closed_by, StepOk}
-use Rattle.search_close.specs.declared.Step.{Step}
+use Rattle.search_close.specs.Step.{ClosedBy, OpenAt}
+use Rattle.search_choose.specs.declared.Choice.{Choice}
 use Rattle.search_close.proofs.Closings.{fit_closes, legal_found, chosen_open}
 use Rattle.search_choose.proofs.Choosing.{chip_chosen}
 use Rattle.search_node.specs.declared.Node.{Node}
@@ -61,26 +61,19 @@ module _ (c : HeldChip) (b : Blocks) (q : b ≡ blocks_of c) (ok : Passed c) (p 
 -- ---- in the form of the needs
 
 module _ (parts : Parts) (p : ℕ) (node : Node) (best : HeldRecord) (t : Bool) where
-  pub step_closed : pick t (best_of node.here) (best_of best) ≡ better (best_of best) (best_of node.here) → not t ≡ true → (r : Step) → r ≡ closed_by best → StepOk parts p node best r
-  step_closed b q r e = rw e (record {
-    closed = λ _ c tx ty g. fit_closes c node.letters p node.here best g.branch.fit g.counted g.passed node.kx node.ky t b q;
-    branch = λ z. absurd (true≢false z);
-  })
+  pub step_closed : pick t (best_of node.here) (best_of best) ≡ better (best_of best) (best_of node.here) → not t ≡ true → ClosedBy parts p node best best
+  step_closed b q = record { searched = λ c tx ty g. fit_closes c node.letters p node.here best g.branch.fit g.counted g.passed node.kx node.ky t b q }
 
-  module _ (told : Told t node.here) (q : not t ≡ false) (s : ℕ) (at : Cursor) (h : ChosenOf parts.blocks node.here.spots p s at) where
-    pair : (c : HeldChip) (tx ty : List ℕ) → Given c parts p tx ty node best → Chosen (chip_of c) (take c.n node.here.spots) p s
-    pair c tx ty g = blocks_chosen c parts.blocks g.reads g.passed p g.branch.letters.count node.here.spots s at h
+  module _ (told : Told t node.here) (q : not t ≡ false) (r : Choice) (h : ChosenOf parts.blocks node.here.spots p r.s r.at) where
+    pair : (c : HeldChip) (tx ty : List ℕ) → Given c parts p tx ty node best → Chosen (chip_of c) (take c.n node.here.spots) p r.s
+    pair c tx ty g = blocks_chosen c parts.blocks g.reads g.passed p g.branch.letters.count node.here.spots r.s r.at h
 
-    pub step_found : s ≡ p → (a : HeldRecord) → Better best node.here a → (r : Step) → r ≡ closed_by a → StepOk parts p node best r
-    step_found z a w r e = rw e (record {
-      closed = λ _ c tx ty g. legal_found c node.letters p node.here best g.branch.fit g.counted g.passed t told q s (pair c tx ty g) g.branch.whole g.branch.letters z node.kx node.ky a w;
-      branch = λ y. absurd (true≢false y);
-    })
+    pub step_found : r.s ≡ p → (a : HeldRecord) → Better best node.here a → ClosedBy parts p node best a
+    step_found z a w = record { searched = λ c tx ty g. legal_found c node.letters p node.here best g.branch.fit g.counted g.passed t told q r.s (pair c tx ty g) g.branch.whole g.branch.letters z node.kx node.ky a w }
 
-    pub step_open : (s ≡ p → ⊥) → StepOk parts p node best (record { closed = false; answer = best; s = s; at = at })
+    pub step_open : (r.s ≡ p → ⊥) → OpenAt parts p node best r
     step_open z = record {
-      closed = λ y. absurd (false≢true y);
-      branch = λ _ c tx ty g.
-          let o = chosen_open c p node best g.passed g.branch g.counted t told q s (pair c tx ty g) z in
-          record { free = o; on = chosen_placed c g.passed p s at (blocks_place c parts.blocks g.reads g.passed p g.branch.letters.count node.here.spots s at h) o.place };
+      turn = λ c tx ty g.
+          let o = chosen_open c p node best g.passed g.branch g.counted t told q r.s (pair c tx ty g) z in
+          record { free = o; on = chosen_placed c g.passed p r.s r.at (blocks_place c parts.blocks g.reads g.passed p g.branch.letters.count node.here.spots r.s r.at h) o.place };
     }

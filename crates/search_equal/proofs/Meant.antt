@@ -1,13 +1,13 @@
 -- Nets of a chip's arrays that have mates are nets with mates of the chip that the arrays mean.
 use Prim.Native.Nat.{ℕ, suc, ◌+◌, ◌-◌, ◌≤◌, ◌<◌}
 use mathlib.Core.Path.{◌≡◌, sym, ap, ◌∙◌}
-use mathlib.Core.Bool.{Bool, true, false, not, ◌&&◌}
+use mathlib.Core.Bool.{Bool, true, ◌&&◌}
 use mathlib.Core.List.{List}
 use native.Mathlib.Omega.{arith}
 use lib.ListN.{length, get_or, drop, length-drop}
 use lib.Seq.{get_or-drop}
 use lib.Dec.{eqb}
-use borrow.Author.Tests.{eqb-true, not-false}
+use borrow.Author.Tests.{eqb-true}
 use Rattle.model.specs.declared.Mac.{Mac}
 use Rattle.model.specs.declared.Pin.{Pin as HeldPin}
 use Rattle.model.specs.declared.Chip.{Chip as HeldChip}
@@ -85,7 +85,7 @@ module _ (c : HeldChip) (w : Whole c) (i j : ℕ) (many : c.n ≤ 8) (few : c.t 
   unfolding chip_of
   macs_long = let l = w.macs in length_first blank_mac c.n c.macs (omega arith)
 
-  pub macs_alike : (q r : Bool) → q ≡ (eqb (get_or c.macs i blank_mac).w (get_or c.macs j blank_mac).w && eqb (get_or c.macs i blank_mac).h (get_or c.macs j blank_mac).h) → not q ≡ false → Yes r (NetsAlike c.nets c.pins c.t i j) → Yes r (Alike (chip_of c) i j)
+  pub macs_alike : (q r : Bool) → q ≡ (eqb (get_or c.macs i blank_mac).w (get_or c.macs j blank_mac).w && eqb (get_or c.macs i blank_mac).h (get_or c.macs j blank_mac).h) → q ≡ true → Yes r (NetsAlike c.nets c.pins c.t i j) → Yes r (Alike (chip_of c) i j)
   macs_alike q r same o s = record { then = λ e. by (s.then e) }
     where
       by : NetsAlike c.nets c.pins c.t i j → Alike (chip_of c) i j
@@ -95,7 +95,7 @@ module _ (c : HeldChip) (w : Whole c) (i j : ℕ) (many : c.n ≤ 8) (few : c.t 
           record {
             first = let m = macs_long in omega arith;
             second = let m = macs_long in omega arith;
-            size = mac_held c i li ∙ (sizes_same (get_or c.macs i blank_mac) (get_or c.macs j blank_mac) (sym same ∙ not-false q o) ∙ sym (mac_held c j lj));
+            size = mac_held c i li ∙ (sizes_same (get_or c.macs i blank_mac) (get_or c.macs j blank_mac) (sym same ∙ o) ∙ sym (mac_held c j lj));
             mate = λ a. get_or h.mates a 0;
             inside = λ a l. let p = inside a (omega arith) in omega arith;
             back = λ a l. h.all.back a (omega arith);

@@ -16,7 +16,7 @@ use Rattle.model.specs.Meaning.{blank_net}
 use Rattle.chip_text.specs.Valid.{pins_before}
 use Rattle.chip_text.proofs.HeldNets.{pins_before_more, pins_before_next, pins_before_up}
 use Rattle.search_equal.specs.Answer.{Yes}
-use Rattle.search_equal.specs.Held.{Covers, Turns, MatesTo, NetsAlike}
+use Rattle.search_equal.specs.Held.{Covers, Turns, MatesTo}
 
 -- ---- where a net's pins begin
 
@@ -38,26 +38,20 @@ module _ (nets : List Net) where
   pub net_within : (t a : ℕ) → pins_before t nets ≤ 128 → a < t → pins_before (a + 1) nets ≤ 128
   net_within t a h l = let p = pins_before_up (a + 1) t nets (omega arith) in omega arith
 
-  pub all_within : (t from : ℕ) → from ≡ min 129 (pins_before t nets) → from ≤ 128 → pins_before t nets ≤ 128
-  all_within t from e n = omega arith
-
 -- ---- mates
 
 module _ (nets : List Net) (pins : List Pin) (i j : ℕ) where
   pub net_turns : (a b from low : ℕ) (r : Bool) → from ≡ min 129 (pins_before a nets) → low ≡ min 129 (pins_before b nets) → pins_before (a + 1) nets ≤ 128 → pins_before (b + 1) nets ≤ 128
-      → (q : Bool) → q ≡ eqb (get_or nets a blank_net).weight (get_or nets b blank_net).weight → not q ≡ false
+      → (q : Bool) → q ≡ eqb (get_or nets a blank_net).weight (get_or nets b blank_net).weight → q ≡ true
       → Yes r (Covers pins i j from (from + (get_or nets a blank_net).pins) low (low + (get_or nets b blank_net).pins)) → Yes r (Turns nets pins i j a b)
   net_turns a b from low r ef el la lb q w n s = record {
     then = λ e. record {
-      weight = sym (eqb-true (get_or nets a blank_net).weight (get_or nets b blank_net).weight (sym w ∙ not-false q n));
+      weight = sym (eqb-true (get_or nets a blank_net).weight (get_or nets b blank_net).weight (sym w ∙ n));
       covers = rw (sym (start_is nets a from ef la), sym (end_is nets a from ef la), sym (start_is nets b low el lb), sym (end_is nets b low el lb)) (s.then e);
     };
   }
 
   module _ (t : ℕ) (mates : List ℕ) where
-    pub mates_none : MatesTo nets pins t i j mates 0
-    mates_none = record { inside = λ a l. absurd (omega arith); back = λ a l. absurd (omega arith); turns = λ a l. absurd (omega arith) }
-
     pub mates_more : (k : ℕ) (r : Bool) → MatesTo nets pins t i j mates k → get_or mates k 0 < t → get_or mates (get_or mates k 0) 0 ≡ k → Yes r (Turns nets pins i j k (get_or mates k 0)) → not r ≡ false → MatesTo nets pins t i j mates (k + 1)
     mates_more k r m l b s e = record {
       inside = λ a g. any a g (λ (x : ℕ). get_or mates x 0 < t) (m.inside a) l;
@@ -71,9 +65,3 @@ module _ (nets : List Net) (pins : List Pin) (i j : ℕ) where
             by : Dec (a < k) → P a
             by (yes h) = before h
             by (no h) = let q : k ≡ a = omega arith in subst P q here
-
-    pub mates_all : (k : ℕ) → MatesTo nets pins t i j mates k → t ≤ k → Yes true (MatesTo nets pins t i j mates t)
-    mates_all k m l = record { then = λ e. record { inside = λ a g. m.inside a (omega arith); back = λ a g. m.back a (omega arith); turns = λ a g. m.turns a (omega arith) } }
-
-    pub nets_mated : (from : ℕ) (r : Bool) → from ≡ min 129 (pins_before t nets) → from ≤ 128 → Yes r (MatesTo nets pins t i j mates t) → Yes r (NetsAlike nets pins t i j)
-    nets_mated from r e n s = record { then = λ q. record { fit = all_within nets t from e n; mates = mates; all = s.then q } }

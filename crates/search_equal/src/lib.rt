@@ -28,36 +28,21 @@ fn nets_alike(
     requires j_bound { j < 8 }
     ensures { Yes result (NetsAlike nets pins t i j) }
 {
-    if Pin::COUNT < pins_before(nets, t) {
-        return false;
-    }
-    let mates = mates_of(nets, t, pins, i, j);
-    mated(nets, t, pins, i, j, mates)
+    pins_before(nets, t) <= Pin::COUNT
+        && match mates_of(nets, t, pins, i, j) {
+            Some(mates) => mated(nets, t, pins, i, j, mates),
+            None => false,
+        }
 }
 
 // Whether macros i and j, counted from 0, are alike; false where the counts are more than a chip holds.
 pub fn alike(c: Chip, i: usize, j: usize) -> bool
     ensures { Yes result (Alike (chip_of c) i j) }
 {
-    if Mac::COUNT < c.n {
-        return false;
-    }
-    if Net::COUNT < c.t {
-        return false;
-    }
-    if c.n <= i {
-        return false;
-    }
-    if c.n <= j {
-        return false;
-    }
-    let macs = c.macs;
-    let a = macs[i];
-    let b = macs[j];
-    if !same_size(a, b) {
-        return false;
-    }
-    let nets = c.nets;
-    let pins = c.pins;
-    nets_alike(nets, c.t, pins, i, j)
+    c.n <= Mac::COUNT
+        && c.t <= Net::COUNT
+        && i < c.n
+        && j < c.n
+        && same_size(c.macs[i], c.macs[j])
+        && nets_alike(c.nets, c.t, c.pins, i, j)
 }

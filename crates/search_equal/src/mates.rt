@@ -1,5 +1,5 @@
 // The mate of each net: the net that the exchange of two macros makes of it.
-ghost use Rattle.std.specs.Prelude.{◌+◌, ◌≤◌, ◌<◌};
+ghost use Rattle.std.specs.Prelude.{◌+◌, ◌≤◌, ◌<◌, IfSome};
 ghost use Rattle.chip_text.specs.Valid.{pins_before};
 ghost use Rattle.search_equal.specs.Answer.{Yes};
 ghost use Rattle.search_equal.specs.Held.{Turns, MatesTo};
@@ -26,17 +26,23 @@ fn turns(
     requires nets_bound_2 { pins_before (b + 1) nets ≤ 128 }
     ensures { Yes result (Turns nets pins i j a b) }
 {
-    let one = nets[a];
-    let two = nets[b];
-    if !same_weight(one, two) {
-        return false;
-    }
-    let from = pins_before(nets, a);
-    let low = pins_before(nets, b);
-    covers(pins, i, j, from, from + one.pins, low, low + two.pins)
+    same_weight(nets[a], nets[b])
+        && {
+            let from = pins_before(nets, a);
+            let low = pins_before(nets, b);
+            covers(
+                pins,
+                i,
+                j,
+                from,
+                from + nets[a].pins,
+                low,
+                low + nets[b].pins,
+            )
+        }
 }
 
-// A likely mate of net a, from net a on and without a mate: each is the other one exchanged. 32: none.
+// A likely mate of net a, from net a on and without a mate: each is the other one exchanged.
 fn mate_of(
     nets: [Net; Net::COUNT],
     t: usize,
@@ -45,54 +51,47 @@ fn mate_of(
     j: usize,
     mates: [usize; Net::COUNT],
     a: usize,
-) -> usize
+) -> Option<usize>
     requires t_bound { t ≤ 32 }
     requires nets_bound { pins_before t nets ≤ 128 }
     requires i_bound { i < 8 }
     requires j_bound { j < 8 }
     requires a_lt_t { a < t }
+    ensures { IfSome result (λ b. b < t) }
 {
-    let mut b = a;
-    while b < t {
-        if Net::COUNT <= mates[b] {
-            if turns(nets, pins, i, j, a, b) {
-                if turns(nets, pins, i, j, b, a) {
-                    return b;
-                }
-            }
+    for b in a..t {
+        if mates[b] == Net::COUNT
+            && turns(nets, pins, i, j, a, b)
+            && turns(nets, pins, i, j, b, a)
+        {
+            return Some(b);
         }
-        b += 1;
     }
-    Net::COUNT
+    None
 }
 
-// Likely mates of t nets, in pairs; 32 from the first net on that has none.
+// Likely mates of t nets, in pairs, where each net has one.
 pub(crate) fn mates_of(
     nets: [Net; Net::COUNT],
     t: usize,
     pins: [Pin; Pin::COUNT],
     i: usize,
     j: usize,
-) -> [usize; Net::COUNT]
+) -> Option<[usize; Net::COUNT]>
     requires t_bound { t ≤ 32 }
     requires nets_bound { pins_before t nets ≤ 128 }
     requires i_bound { i < 8 }
     requires j_bound { j < 8 }
 {
     let mut mates = [Net::COUNT; Net::COUNT];
-    let mut a: usize = 0;
-    while a < t {
-        if Net::COUNT <= mates[a] {
-            let b = mate_of(nets, t, pins, i, j, mates, a);
-            if Net::COUNT <= b {
-                return mates;
-            }
+    for a in 0..t {
+        if mates[a] == Net::COUNT {
+            let b = mate_of(nets, t, pins, i, j, mates, a)?;
             mates[a] = b;
             mates[b] = a;
         }
-        a += 1;
     }
-    mates
+    Some(mates)
 }
 
 // Whether the mates are those of t nets: each the other's mate, and the other one exchanged.
@@ -110,19 +109,11 @@ pub(crate) fn mated(
     requires j_bound { j < 8 }
     ensures { Yes result (MatesTo nets pins t i j mates t) }
 {
-    let mut a: usize = 0;
-    while a < t {
+    for a in 0..t {
         let b = mates[a];
-        if t <= b {
+        if t <= b || mates[b] != a || !turns(nets, pins, i, j, a, b) {
             return false;
         }
-        if mates[b] != a {
-            return false;
-        }
-        if !turns(nets, pins, i, j, a, b) {
-            return false;
-        }
-        a += 1;
     }
     true
 }

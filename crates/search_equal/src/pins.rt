@@ -13,16 +13,13 @@ fn other_macro(m: usize, i: usize, j: usize) -> usize
     requires j_bound { j < 8 }
     ensures { result ≡ renumbered i j m }
 {
-    if m == 0 {
-        return 0;
+    if m == i + 1 {
+        j + 1
+    } else if m == j + 1 {
+        i + 1
+    } else {
+        m
     }
-    if m - 1 == i {
-        return j + 1;
-    }
-    if m - 1 == j {
-        return i + 1;
-    }
-    m
 }
 
 fn other_pin(p: Pin, i: usize, j: usize) -> Pin
@@ -42,13 +39,10 @@ fn has_pin(pins: [Pin; Pin::COUNT], from: usize, to: usize, p: Pin) -> bool
     requires { to ≤ 128 }
     ensures { Yes result (Within pins from to p) }
 {
-    let mut k = from;
-    while k < to {
-        let held = pins[k];
-        if same_pin(held, p) {
+    for k in from..to {
+        if same_pin(pins[k], p) {
             return true;
         }
-        k += 1;
     }
     false
 }
@@ -69,14 +63,10 @@ pub(crate) fn covers(
     requires high_bound { high ≤ 128 }
     ensures { Yes result (Covers pins i j from to low high) }
 {
-    let mut k = from;
-    while k < to {
-        let held = pins[k];
-        let p = other_pin(held, i, j);
-        if !has_pin(pins, low, high, p) {
+    for k in from..to {
+        if !has_pin(pins, low, high, other_pin(pins[k], i, j)) {
             return false;
         }
-        k += 1;
     }
     true
 }

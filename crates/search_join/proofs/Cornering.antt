@@ -1,25 +1,21 @@
 -- Corners and their coordinates in a direction: written one by one, replaced in one direction, and the first of them.
-use Prim.Native.Nat.{ℕ, ◌+◌, ◌≤◌, ◌<◌}
+use Prim.Native.Nat.{ℕ, ◌≤◌, ◌<◌}
 use mathlib.Core.Path.{◌≡◌, sym, ap, ◌∙◌}
 use mathlib.Core.List.{List}
-use native.Mathlib.Decide.{ℕ_discrete}
 use native.Mathlib.Omega.{arith}
-use lib.ListN.{length, get_or, take, set, length-set, length-map, get_or-map}
-use lib.Seq.{ext_get_or, get_or-set_same, get_or-set_other}
+use lib.ListN.{length, get_or, take, length-map, get_or-map}
+use lib.Seq.{ext_get_or}
 use Rattle.model.specs.declared.Spot.{Spot}
 use Rattle.model.specs.Meaning.{blank_spot}
 use Rattle.fit_slots.specs.declared.Direction.{Direction}
 use Rattle.fit_slots.specs.declared.Direction.TheVariants.{Horizontal as horizontal, Vertical as vertical}
 use Rattle.fit_slots.specs.Axes.{corner_on, corners_on}
-use Rattle.fit_axes.proofs.Copies.{map_take, Copied, copied_more}
+use Rattle.fit_axes.proofs.Copies.{map_take}
 use Rattle.model.specs.Corners.{spots_of}
 use Rattle.model.proofs.Corners.{spots_length, spots_each, take_spots}
 use Rattle.search_join.specs.Joined.{spot_with, spots_with}
 
 -- ---- the coordinates of corners
-
-pub coordinates_more : (d : Direction) (ps : List Spot) (at : List ℕ) (i r : ℕ) → r ≡ corner_on d (get_or ps i blank_spot) → Copied (corner_on d) ps at i → i < length ps → Copied (corner_on d) ps (set at i r) (i + 1)
-coordinates_more d ps at i r e c h = rw e (copied_more (corner_on d) blank_spot ps at i c h)
 
 pub take_corners : (d : Direction) (n : ℕ) (ps : List Spot) → take n (corners_on d ps) ≡ corners_on d (take n ps)
 take_corners d n ps = map_take (corner_on d) n ps
@@ -42,29 +38,13 @@ with_at : (d : Direction) (at : List ℕ) (ps : List Spot) (j : ℕ) → j < len
 with_at horizontal at ps j g h = let m = length-map ps (corner_on vertical) in spots_each at (corners_on vertical ps) j g (omega arith) ∙ ap (λ (v : ℕ). record { x = get_or at j 0; y = v }) (corner_at vertical ps j)
 with_at vertical at ps j g h = let m = length-map ps (corner_on horizontal) in spots_each (corners_on horizontal ps) at j (omega arith) g ∙ ap (λ (v : ℕ). record { x = v; y = get_or at j 0 }) (corner_at horizontal ps j)
 
-pub with_x : (d : Direction) (v : ℕ) (p : Spot) → d ≡ horizontal → record { x = v; y = p.y } ≡ spot_with d v p
-with_x d v p e = rw e
-
-pub with_y : (d : Direction) (v : ℕ) (p : Spot) → d ≡ vertical → record { x = p.x; y = v } ≡ spot_with d v p
-with_y d v p e = rw e
-
 -- the first i corners are written
 pub record WithTo (d : Direction) (at : List ℕ) (ps r : List Spot) (i : ℕ) : Type 0 where
   pub long : length r ≡ 8
   pub each : (j : ℕ) → j < i → get_or r j blank_spot ≡ spot_with d (get_or at j 0) (get_or ps j blank_spot)
 
 module _ (d : Direction) (at : List ℕ) (ps : List Spot) where
-  pub with_none : length ps ≡ 8 → WithTo d at ps ps 0
-  with_none e = record { long = e; each = λ j l. absurd (omega arith) }
-
   module _ (r : List Spot) (i : ℕ) (inv : WithTo d at ps r i) where
-    pub with_more : (new : Spot) → new ≡ spot_with d (get_or at i 0) (get_or ps i blank_spot) → i < 8 → WithTo d at ps (set r i new) (i + 1)
-    with_more new e l = record { long = length-set r i new ∙ inv.long; each = λ j h. by j h (ℕ_discrete j i) }
-      where
-        by : (j : ℕ) → j < i + 1 → Dec (j ≡ i) → get_or (set r i new) j blank_spot ≡ spot_with d (get_or at j 0) (get_or ps j blank_spot)
-        by j h (yes q) = rw (q, get_or-set_same r i new blank_spot (let m = inv.long in omega arith)) e
-        by j h (no q) = get_or-set_other r i j new blank_spot q ∙ inv.each j (omega arith)
-
     pub with_all : 8 ≤ i → length at ≡ 8 → length ps ≡ 8 → r ≡ spots_with d at ps
     with_all l ea ep = ext_get_or blank_spot r (spots_with d at ps) (inv.long ∙ sym (with_long d at ps (ea ∙ sym ep) ∙ ep))
         (λ j h. let m = inv.long in inv.each j (omega arith) ∙ sym (with_at d at ps j (omega arith) (omega arith)))

@@ -1,4 +1,5 @@
 -- The fit as a record: what the fit answers for one letter for each pair of a chip whose test is passed, held in a record.
+use Rattle.std.specs.Prelude.{Result, Ok, Err, Option, Some, None}
 use Prim.Native.Nat.{ℕ, ◌≤◌, ◌<◌}
 use mathlib.Core.Path.{◌≡◌, refl, sym, ap, subst, ◌∙◌}
 use mathlib.Core.List.{List}
@@ -25,7 +26,6 @@ use Rattle.fit_slots.proofs.ReadBack.{back, back_best}
 use Rattle.search_branches.proofs.Betters.{Sized}
 use Rattle.search_branches.proofs.Closing.{fit_sized}
 use Rattle.fit.specs.declared.Fitted.{Fitted}
-use Rattle.fit.specs.declared.FitOutcome.TheVariants as fitted
 use Rattle.fit.specs.declared.FitAnswer.{FitAnswer}
 use Rattle.fit.specs.Answer.{outcome_of, positions_of, answer_for}
 use Rattle.fit.proofs.Outcomes.{filled_long, take_filled, is_placed, is_none, is_refused}
@@ -76,14 +76,14 @@ module _ (c : HeldChip) (letters : List ℕ) (p : ℕ) (ok : Passed c) (e : Lett
     none_held : fit_of C ls ≡ nothing → FitHeld c letters p no_record
     none_held k = record { is = no_best ∙ sym k; counted = none_counted c.n ok.fine.mac_count }
 
-    no_fit_held : (r : HeldRecord) → r ≡ no_record → a.outcome ≡ fitted.NoFit → FitHeld c letters p r
+    no_fit_held : (r : HeldRecord) → r ≡ no_record → a.outcome ≡ Ok None → FitHeld c letters p r
     no_fit_held r o z = rw o (none_held (best_is no_fit (is_none a.outcome F same z)))
 
-    refused_held : (r : HeldRecord) → r ≡ no_record → (g : Refusal) → a.outcome ≡ fitted.Refused g → FitHeld c letters p r
+    refused_held : (r : HeldRecord) → r ≡ no_record → (g : Refusal) → a.outcome ≡ Err g → FitHeld c letters p r
     refused_held r o g z = rw o (none_held (best_is (refused_by g.no g.line) (is_refused a.outcome F same g z)))
 
     -- the placement and its length
-    placed_held : (f : Fitted) → a.outcome ≡ fitted.Placed f → FitHeld c letters p (record { outcome = outcome.Least f.length c.n; spots = a.spots })
+    placed_held : (f : Fitted) → a.outcome ≡ Ok (Some f) → FitHeld c letters p (record { outcome = outcome.Least f.length c.n; spots = a.spots })
     unfolding best_of record_of
     placed_held f z = record {
       is = rw (spots, first_filled c.n (positions_of F) sized ok.fine.mac_count) (sym here);
@@ -105,11 +105,11 @@ pub fit_past : (c : HeldChip) (letters : List ℕ) (p : ℕ) (r : HeldRecord) �
 fit_past c letters p r h = record { held = λ ok e. let f = e.few in absurd (omega arith) }
 
 module _ (c : HeldChip) (letters : List ℕ) (p : ℕ) (l : length letters ≡ 120) (room : ℕ) (m : room ≡ 784) (a : FitAnswer) (q : a ≡ answer_for (fit_letters (chip_of c) (take p letters) room)) where
-  pub fit_none : (r : HeldRecord) → r ≡ no_record → a.outcome ≡ fitted.NoFit → FitFor c letters p r
+  pub fit_none : (r : HeldRecord) → r ≡ no_record → a.outcome ≡ Ok None → FitFor c letters p r
   fit_none r o z = record { held = λ ok e. no_fit_held c letters p ok e l room m a q r o z }
 
-  pub fit_refused : (r : HeldRecord) → r ≡ no_record → (g : Refusal) → a.outcome ≡ fitted.Refused g → FitFor c letters p r
+  pub fit_refused : (r : HeldRecord) → r ≡ no_record → (g : Refusal) → a.outcome ≡ Err g → FitFor c letters p r
   fit_refused r o g z = record { held = λ ok e. refused_held c letters p ok e l room m a q r o g z }
 
-  pub fit_placed : (f : Fitted) → a.outcome ≡ fitted.Placed f → FitFor c letters p (record { outcome = outcome.Least f.length c.n; spots = a.spots })
+  pub fit_placed : (f : Fitted) → a.outcome ≡ Ok (Some f) → FitFor c letters p (record { outcome = outcome.Least f.length c.n; spots = a.spots })
   fit_placed f z = record { held = λ ok e. placed_held c letters p ok e l room m a q f z }

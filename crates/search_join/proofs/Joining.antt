@@ -163,7 +163,3 @@ module _ (c : HeldChip) (letters : List ℕ) (p : ℕ) (here best : HeldRecord) 
         let same : t ≡ l + other = omega arith in
         rw same (joined_child c letters p here best d other ok b e many f s l q m em ps long ep);
   }
-
--- the chip as it is read from the array
-pub read_for : (a b : HeldChip) → a ≡ b → (letters : List ℕ) (p : ℕ) (r : HeldRecord) → FitFor a letters p r → FitFor b letters p r
-read_for a b e letters p r h = rw e at h

@@ -6,7 +6,6 @@ ghost use Rattle.chip_array.specs.Array.{chip_in};
 ghost use Rattle.search_join.specs.Joined.{FitFor, spot_with, spots_with, JoinedFrom};
 
 use chip_array::{chip_in, macro_count};
-use fit::FitOutcome;
 use fit_pairs::LETTERS;
 use fit_slots::Direction;
 use half_fit::service::{HalfFit, HalfOutcome};
@@ -24,14 +23,13 @@ fn fit_record(c: Chip, letters: [u8; LETTERS], p: usize) -> Record
     let mut flow = [0u16; 784];
     let a = fit::fit_letters(c, &letters[..p], &mut flow);
     let spots = a.spots;
-    let outcome = a.outcome;
-    match outcome {
-        FitOutcome::Placed(f) => Record {
+    match a.outcome {
+        Ok(Some(f)) => Record {
             outcome: Outcome::Least(f.length, c.n),
             spots,
         },
-        FitOutcome::NoFit => no_record(),
-        FitOutcome::Refused(_) => no_record(),
+        Ok(None) => no_record(),
+        Err(_) => no_record(),
     }
 }
 
@@ -39,8 +37,7 @@ fn fit_record(c: Chip, letters: [u8; LETTERS], p: usize) -> Record
 pub fn fit_again(cs: &[u64; chip_array::CELLS], letters: [u8; LETTERS], p: usize) -> Record
     ensures { FitFor (chip_in cs.now) letters p result }
 {
-    let c = chip_in(cs);
-    fit_record(c, letters, p)
+    fit_record(chip_in(cs), letters, p)
 }
 
 // A corner with another coordinate in a direction.
@@ -62,10 +59,8 @@ pub fn spots_with(
     ensures { result ≡ spots_with d at spots }
 {
     let mut r = spots;
-    let mut i: usize = 0;
-    while i < Mac::COUNT {
+    for i in 0..Mac::COUNT {
         r[i] = spot_with(d, at[i], spots[i]);
-        i += 1;
     }
     r
 }
@@ -83,13 +78,10 @@ pub fn joined(
 ) -> Record
     ensures { JoinedFrom (chip_in cs.now) letters p here best d f other result }
 {
-    let outcome = f.outcome;
-    let at = f.at;
-    let spots = here.spots;
-    match outcome {
+    match f.outcome {
         HalfOutcome::Fit(l) => Record {
             outcome: Outcome::Least(sum(l, other), macro_count(cs)),
-            spots: spots_with(d, at, spots),
+            spots: spots_with(d, f.at, here.spots),
         },
         HalfOutcome::Beyond => no_record(),
         HalfOutcome::Unshown => fit_again(cs, letters, p),

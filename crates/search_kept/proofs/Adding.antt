@@ -1,16 +1,14 @@
 -- One difference more, and its sums with the others: the table stands for all of them.
-use Prim.Native.Nat.{ℕ, ◌+◌, ◌-◌, ◌*◌, ◌/◌, ◌%◌, ◌≤◌, ◌<◌, suc, min}
+use Prim.Native.Nat.{ℕ, ◌+◌, ◌*◌, ◌/◌, ◌%◌, ◌≤◌, ◌<◌}
 use mathlib.Core.Path.{◌≡◌, ap, subst, sym, ◌∙◌}
 use mathlib.Core.Bool.{Bool, true}
 use mathlib.Core.List.{List}
 use native.Mathlib.Omega.{arith}
-use lib.Dec.{ltb}
 use lib.ListN.{length, get_or, set}
 use lib.Seq.{get_or-set_same}
 use borrow.Author.Tests.{ltb-true}
 use Rattle.axis_bounds.specs.declared.Slot.{Slot}
-use Rattle.axis_bounds.specs.Listed.{slot}
-use Rattle.search_kept.specs.Differences.{raised, bound_in, KeptBy, Holds, limited, Limited, contrary, held_bound, Adds, excluded, contradicts, raised_at, Follows, Starts}
+use Rattle.search_kept.specs.Differences.{raised, bound_in, KeptBy, Holds, limited, Limited, held_bound, Adds, excluded, contradicts, raised_at, Follows, Starts}
 use Rattle.search_kept.proofs.Raising.{raised_keeps, raised_back, raised_own}
 
 -- the bound at place 9 u + v, of the values x
@@ -39,13 +37,6 @@ row_next e₀ p v t e r q d f lp lv lq j i = rw i (record {
   back = λ x k. f.back x (raised_back e (p * 9 + q) (t + d) (omega arith) x k);
 })
 
--- a way into u, then the bound b from u to v
-pub from_more : (e : List ℕ) (p u v b d g : ℕ) (r : List ℕ) → p < 9 → u < 9 → v < 9 → d ≡ bound_in e (p * 9 + u) → g ≡ bound_in e (p * 9 + v) → raised + g < d + b → Follows e p v (d + b - raised) r → Follows e u v b r
-from_more e p u v b d g r lp lu lv i j h f = record {
-  to = λ x k y. let a = kept_at e x k p u lp lu in f.to x k (omega arith);
-  back = f.back;
-}
-
 -- ---- one difference more
 
 -- the bound the other way is too large
@@ -66,9 +57,6 @@ module _ (e : List ℕ) (s : Slot) (m : Limited s) (le : length e ≡ 128) where
 
   here : (x : ℕ → ℕ) → KeptBy e x → x u + bound_in e (u * 9 + v) ≤ x v + raised
   here x k = kept_at e x k u v m.tail m.head
-
-  pub adds_none : (b d : ℕ) → b ≡ held_bound s → d ≡ bound_in e (u * 9 + v) → b ≤ d → Adds e s e
-  adds_none b d i j h = record { to = λ x k g. k; back = λ x k. k; own = λ x k. let a = here x k in let z = m.minus in omega arith }
 
   pub adds_shut : (t : Bool) → t ≡ excluded e s → t ≡ true → (r : List ℕ) → r ≡ set e 0 16777217 → Adds e s r
   adds_shut t j g r i = let h : excluded e s ≡ true = sym j ∙ g in record { to = λ x k g. absurd (excluded_none e s m h x k g); back = λ x k. absurd (no x k); own = λ x k. absurd (no x k) }
@@ -129,27 +117,5 @@ pub contradicts_none : (e : List ℕ) → contradicts e ≡ true → (x : ℕ �
 unfolding contradicts
 contradicts_none e h x k = let a = k.at 0 (omega arith) in let b = ltb-true raised (bound_in e 0) h in omega arith
 
-pub shut_is : (e : List ℕ) (b : ℕ) → b ≡ bound_in e 0 → ltb 16777216 b ≡ contradicts e
-unfolding contradicts
-shut_is e b i = rw i
-
-pub against_is : (e : List ℕ) (a : Slot) (d b : ℕ) → d ≡ bound_in e (a.head * 9 + a.tail) → b ≡ held_bound a → ltb 33554432 (d + b) ≡ excluded e a
-unfolding excluded
-against_is e a d b j k = rw (j, k)
-
 pub limited_small : (s : Slot) → Limited (limited s)
 limited_small s = record { tail = omega arith; head = omega arith; plus = omega arith; minus = omega arith }
-
--- the opposite of a slot as it is read
-pub opposite_is : (s a r : Slot) → a ≡ limited s → r ≡ slot a.head a.tail (min a.minus 2097152 + 1) a.plus → r ≡ contrary (limited s)
-opposite_is s a r e q = q ∙ (ap (λ (t : Slot). slot t.head t.tail (min t.minus 2097152 + 1) t.plus) e ∙ ap (λ (p : ℕ). slot (s.head % 9) (s.tail % 9) p (s.plus % 2097152)) (let e : min (s.minus % 2097152) 2097152 + 1 ≡ suc (s.minus % 2097152) = omega arith in e))
-
-pub opposite_small : (s a r : Slot) → a ≡ limited s → r ≡ slot a.head a.tail (min a.minus 2097152 + 1) a.plus → Limited r
-opposite_small s a r e q = rw (opposite_is s a r e q) (record { tail = omega arith; head = omega arith; plus = omega arith; minus = omega arith })
-
--- a slot as it is read, and its contrary
-pub of_limited : (e : List ℕ) (s a : Slot) (r : List ℕ) → a ≡ limited s → Adds e a r → Adds e (limited s) r
-of_limited e s a r i h = subst (λ (t : Slot). Adds e t r) i h
-
-pub of_contrary : (e : List ℕ) (s a o : Slot) (r : List ℕ) → a ≡ limited s → o ≡ slot a.head a.tail (min a.minus 2097152 + 1) a.plus → Adds e o r → Adds e (contrary (limited s)) r
-of_contrary e s a o r i q h = subst (λ (t : Slot). Adds e t r) (opposite_is s a o i q) h

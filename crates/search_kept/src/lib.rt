@@ -10,8 +10,13 @@ use search_numbers::opposite;
 // How many numbers a table has: one for each two of nine nodes, the rest is not used.
 pub const CELLS: usize = 128;
 
-// A bound is held higher by this.
+// The nodes: the die corner and the macros.
+const NODES: usize = 9;
+
+// A bound is held higher by this, and is read modulo twice that.
 const RAISED: u64 = 16777216;
+
+const RANGE: u64 = 2 * RAISED;
 
 // A slot between two of the nine nodes, with small numbers.
 fn limit(s: Slot) -> Slot
@@ -19,8 +24,8 @@ fn limit(s: Slot) -> Slot
     ensures limited { Limited result }
 {
     Slot {
-        tail: s.tail % 9,
-        head: s.head % 9,
+        tail: s.tail % NODES,
+        head: s.head % NODES,
         plus: s.plus % 2097152,
         minus: s.minus % 2097152,
     }
@@ -39,18 +44,17 @@ fn bound(e: &[u32; CELLS], c: usize) -> u64
     requires { c < 81 }
     ensures { result ≡ bound_in e.now c }
 {
-    (e[c] % 33554432) as u64
+    e[c] as u64 % RANGE
 }
 
 // The bound w less 2^24 at place c, if it is above the one that stands.
+#[tactic(auto, unfolding(crate::specs::Differences::raised_at))]
 fn raise(e: &mut [u32; CELLS], c: usize, w: u64)
     requires { c < 81 }
     ensures { e.new ≡ raised_at e.old c w }
 {
-    if RAISED + bound(e, c) < w {
-        if w < 50331648 {
-            e[c] = ((w - RAISED) % 33554432) as u32;
-        }
+    if RAISED + bound(e, c) < w && w < RAISED + RANGE {
+        e[c] = ((w - RAISED) % RANGE) as u32;
     }
 }
 
@@ -59,11 +63,9 @@ fn raise_row(e: &mut [u32; CELLS], p: usize, v: usize, t: u64)
     requires { (p < 9) × (v < 9) × (t < 4294967296) }
     ensures { Follows e.old p v t e.new }
 {
-    let mut q: usize = 0;
-    while q < 9 {
-        let w = t + bound(e, v * 9 + q);
-        raise(e, p * 9 + q, w);
-        q += 1;
+    for q in 0..NODES {
+        let w = t + bound(e, v * NODES + q);
+        raise(e, p * NODES + q, w);
     }
 }
 
@@ -72,8 +74,8 @@ fn raise_from(e: &mut [u32; CELLS], p: usize, u: usize, v: usize, b: u64)
     requires { (p < 9) × (u < 9) × (v < 9) × (b < 33554432) }
     ensures { Follows e.old u v b e.new }
 {
-    let t = bound(e, p * 9 + u) + b;
-    if RAISED + bound(e, p * 9 + v) < t {
+    let t = bound(e, p * NODES + u) + b;
+    if RAISED + bound(e, p * NODES + v) < t {
         raise_row(e, p, v, t - RAISED);
     }
 }
@@ -83,48 +85,45 @@ fn raise_all(e: &mut [u32; CELLS], u: usize, v: usize, b: u64)
     requires { (u < 9) × (v < 9) × (b < 33554432) }
     ensures { Follows e.old u v b e.new }
 {
-    let mut p: usize = 0;
-    while p < 9 {
+    for p in 0..NODES {
         raise_from(e, p, u, v, b);
-        p += 1;
     }
 }
 
 // A table that nothing keeps.
-fn shut(e: [u32; CELLS]) -> [u32; CELLS]
+fn shut(mut e: [u32; CELLS]) -> [u32; CELLS]
     ensures { result ≡ set e 0 16777217 }
 {
-    let mut r = e;
-    r[0] = 16777217;
-    r
+    e[0] = RAISED as u32 + 1;
+    e
 }
 
 // Whether the bound the other way is too large.
+#[tactic(auto, unfolding(crate::specs::Differences::excluded))]
 fn against(e: &[u32; CELLS], a: Slot) -> bool
     requires { Limited a }
     ensures { result ≡ excluded e.now a }
 {
-    RAISED + RAISED < bound(e, a.head * 9 + a.tail) + held(a)
+    RAISED + RAISED < bound(e, a.head * NODES + a.tail) + held(a)
 }
 
 // One difference more.
-fn add(e: [u32; CELLS], a: Slot) -> [u32; CELLS]
+fn add(mut e: [u32; CELLS], a: Slot) -> [u32; CELLS]
     requires { Limited a }
     ensures { Adds e a result }
 {
     let b = held(a);
-    let c = a.tail * 9 + a.head;
+    let c = a.tail * NODES + a.head;
     if b <= bound(&e, c) {
         return e;
     }
     if against(&e, a) {
         return shut(e);
     }
-    let mut r = e;
-    raise(&mut r, c, b + RAISED);
-    raise_row(&mut r, a.tail, a.head, b);
-    raise_all(&mut r, a.tail, a.head, b);
-    r
+    raise(&mut e, c, b + RAISED);
+    raise_row(&mut e, a.tail, a.head, b);
+    raise_all(&mut e, a.tail, a.head, b);
+    e
 }
 
 // Whether nothing can keep the table and the slot's bound, as the bound the other way shows.
@@ -135,6 +134,7 @@ pub fn excludes(e: &[u32; CELLS], s: Slot) -> bool
 }
 
 // Whether the table is known to contradict itself.
+#[tactic(auto, unfolding(crate::specs::Differences::contradicts))]
 pub fn is_shut(e: &[u32; CELLS]) -> bool
     ensures { result ≡ contradicts e.now }
 {
@@ -156,16 +156,13 @@ pub fn keep_opposite(e: [u32; CELLS], s: Slot) -> [u32; CELLS]
 }
 
 // The bounds of a table with their sums over the die corner, and 0 from each node to itself.
-pub fn closed(e: [u32; CELLS]) -> [u32; CELLS]
+pub fn closed(mut e: [u32; CELLS]) -> [u32; CELLS]
     ensures { Starts e result }
 {
-    let mut r = e;
-    let mut u: usize = 0;
-    while u < 9 {
-        raise(&mut r, u * 9 + u, RAISED + RAISED);
-        let t = bound(&r, u * 9);
-        raise_row(&mut r, u, 0, t);
-        u += 1;
+    for u in 0..NODES {
+        raise(&mut e, u * NODES + u, RAISED + RAISED);
+        let t = bound(&e, u * NODES);
+        raise_row(&mut e, u, 0, t);
     }
-    r
+    e
 }

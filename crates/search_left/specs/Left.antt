@@ -1,5 +1,5 @@
 -- What is left of a branch: the fits of the four letters of a pair, and the differences kept in both directions.
-use Rattle.std.specs.Prelude.{ℕ, ◌≤◌, ◌<◌, ◌≡◌, Bool, true, List, [], ◌∷◌, ◌⊎◌, get_or, set}
+use Rattle.std.specs.Prelude.{ℕ, ◌<◌, ◌≡◌, Bool, true, List, [], ◌∷◌, ◌⊎◌, Option, MatchOption, get_or, set}
 use Rattle.model.specs.declared.Spot.{Spot}
 use Rattle.model.specs.declared.Record.{Record as HeldRecord}
 use Rattle.placement.specs.Least.{nothing}
@@ -28,17 +28,27 @@ pub record AddsOn (d : Direction) (kx ky : List ℕ) (s : Slot) (rx ry : List �
 
 -- ---- the four children, in the order L, R, B, A
 
+abbrev pub fit_at : Left → ℕ → HeldRecord
+fit_at t i = get_or t.fits i no_record
+
 abbrev pub child_list : Left → List HeldRecord
-child_list t = t.l ∷ t.r ∷ t.b ∷ t.a ∷ []
+child_list t = fit_at t 0 ∷ fit_at t 1 ∷ fit_at t 2 ∷ fit_at t 3 ∷ []
 
 abbrev pub child_at : List HeldRecord → ℕ → HeldRecord
 child_at ks i = get_or ks i no_record
 
--- r is the place of a child that holds a placement, or r is 4 and none does
-pub record NextChild (ks : List HeldRecord) (r : ℕ) : Type 0 where
-  pub place : r ≤ 4
-  pub some : r < 4 → best_of (child_at ks r) ≡ nothing → ⊥
-  pub none : r ≡ 4 → (i : ℕ) → i < 4 → best_of (child_at ks i) ≡ nothing
+-- child i holds a placement
+pub record HoldsAt (ks : List HeldRecord) (i : ℕ) : Type 0 where
+  pub place : i < 4
+  pub some : best_of (child_at ks i) ≡ nothing → ⊥
+
+-- no child does
+pub record NoneHolds (ks : List HeldRecord) : Type 0 where
+  pub none : (i : ℕ) → i < 4 → best_of (child_at ks i) ≡ nothing
+
+-- r is the place of a child that holds a placement, where one does
+abbrev pub NextChild : List HeldRecord → Option ℕ → Type 0
+NextChild ks r = MatchOption r (NoneHolds ks) (HoldsAt ks)
 
 -- ---- what is answered
 
@@ -61,11 +71,13 @@ pub record SameKept (t r : Left) (ks : List HeldRecord) : Type 0 where
   pub x : r.kx ≡ t.kx
   pub y : r.ky ≡ t.ky
 
--- r is the place of a child that holds a placement, or r is 4 and nothing is left
-pub record NextOrOver (t : Left) (r : ℕ) : Type 0 where
-  pub place : r ≤ 4
-  pub some : r < 4 → best_of (child_at (child_list t) r) ≡ nothing → ⊥
-  pub none : r ≡ 4 → ((ps : List Spot) → KeepsBoth t.kx t.ky ps → ⊥) ⊎ ((i : ℕ) → i < 4 → best_of (child_at (child_list t) i) ≡ nothing)
+-- nothing keeps the differences that are left, or no child holds a placement
+pub record NothingLeft (t : Left) : Type 0 where
+  pub none : ((ps : List Spot) → KeepsBoth t.kx t.ky ps → ⊥) ⊎ NoneHolds (child_list t)
+
+-- r is the place of a child that holds a placement, where something is left
+abbrev pub NextOrOver : Left → Option ℕ → Type 0
+NextOrOver t r = MatchOption r (NothingLeft t) (HoldsAt (child_list t))
 
 -- child i is gone, and the opposite of its letter, whose slot is u, is kept
 pub record Visited (t : Left) (i : ℕ) (u : Slot) (r : Left) : Type 0 where

@@ -5,18 +5,19 @@ ghost use Rattle.std.specs.Prelude.{◌≡◌, set};
 ghost use Rattle.search_left.specs.Left.{child_list, child_at, NextChild, Over, ExcludedBy, OppositeKept, SameKept, NextOrOver, Visited};
 
 use axis_bounds::Slot;
+use fit_slots::Direction;
 use model::Record;
 use search_best::replaces_best;
 use search_kept::CELLS;
-use search_node::no_record;
+use search_node::{no_record, way};
 
-// The fits of the four letters, in the order L, R, B, A; none where there is no fit, or nothing of it is left. The differences kept.
+// How many letters a pair has: L, R, B and A, in this order.
+pub const FOUR: usize = 4;
+
+// The fits of the four letters; none where there is no fit, or nothing of it is left. The differences kept.
 #[derive(Clone, Copy)]
 pub struct Left {
-    pub l: Record,
-    pub r: Record,
-    pub b: Record,
-    pub a: Record,
+    pub fits: [Record; FOUR],
     pub kx: [u32; CELLS],
     pub ky: [u32; CELLS],
 }
@@ -25,19 +26,7 @@ pub struct Left {
 pub fn child_at(left: Left, i: usize) -> Record
     ensures { result ≡ child_at (child_list left) i }
 {
-    if i == 0 {
-        return left.l;
-    }
-    if i == 1 {
-        return left.r;
-    }
-    if i == 2 {
-        return left.b;
-    }
-    if i == 3 {
-        return left.a;
-    }
-    no_record()
+    if i < FOUR { left.fits[i] } else { no_record() }
 }
 
 // The record f as child i.
@@ -45,40 +34,23 @@ pub fn put_child(left: Left, i: usize, f: Record) -> Left
     ensures { SameKept left result (set (child_list left) i f) }
 {
     let mut t = left;
-    if i == 0 {
-        t.l = f;
-        return t;
-    }
-    if i == 1 {
-        t.r = f;
-        return t;
-    }
-    if i == 2 {
-        t.b = f;
-        return t;
-    }
-    if i == 3 {
-        t.a = f;
-        return t;
+    if i < FOUR {
+        t.fits[i] = f;
     }
     t
 }
 
-// The child whose fit is the best, or 4 where none is left.
-fn first_child(left: Left) -> usize
+// The child whose fit is the best, where one is left.
+fn first_child(left: Left) -> Option<usize>
     ensures { NextChild (child_list left) result }
 {
     let mut best = no_record();
-    let mut at: usize = 4;
-    let mut i: usize = 0;
-    while i < 4 {
+    let mut at = None;
+    for i in 0..FOUR {
         let k = child_at(left, i);
-        let here = i;
-        let first = replaces_best(best, k);
-        i += 1;
-        if first {
+        if replaces_best(best, k) {
             best = k;
-            at = here;
+            at = Some(i);
         }
     }
     at
@@ -88,37 +60,29 @@ fn first_child(left: Left) -> usize
 fn is_over(left: Left) -> bool
     ensures { Over result left.kx left.ky }
 {
-    let kx = left.kx;
-    if search_kept::is_shut(&kx) {
-        return true;
-    }
-    let ky = left.ky;
-    search_kept::is_shut(&ky)
+    search_kept::is_shut(&left.kx) || search_kept::is_shut(&left.ky)
 }
 
-// The child to visit next, or 4 where nothing is left.
-pub fn next_child(left: Left) -> usize
+// The child to visit next, where something is left.
+pub fn next_child(left: Left) -> Option<usize>
     ensures { NextOrOver left result }
 {
     if is_over(left) {
-        return 4;
+        None
+    } else {
+        first_child(left)
     }
-    first_child(left)
 }
 
 // Whether nothing that keeps the differences keeps letter i, whose slot is s.
 pub fn is_excluded(left: Left, i: usize, s: Slot) -> bool
     ensures { ExcludedBy result i s left.kx left.ky }
 {
-    if is_over(left) {
-        return true;
-    }
-    if i < 2 {
-        let kx = left.kx;
-        return search_kept::excludes(&kx, s);
-    }
-    let ky = left.ky;
-    search_kept::excludes(&ky, s)
+    is_over(left)
+        || match way(i) {
+            Direction::Horizontal => search_kept::excludes(&left.kx, s),
+            Direction::Vertical => search_kept::excludes(&left.ky, s),
+        }
 }
 
 // The opposite of letter i is kept.
@@ -126,15 +90,10 @@ pub fn keep_opposite(left: Left, i: usize, s: Slot) -> Left
     ensures { OppositeKept left i s result }
 {
     let mut t = left;
-    if i < 2 {
-        let kx = left.kx;
-        let k = search_kept::keep_opposite(kx, s);
-        t.kx = k;
-        return t;
+    match way(i) {
+        Direction::Horizontal => t.kx = search_kept::keep_opposite(left.kx, s),
+        Direction::Vertical => t.ky = search_kept::keep_opposite(left.ky, s),
     }
-    let ky = left.ky;
-    let k = search_kept::keep_opposite(ky, s);
-    t.ky = k;
     t
 }
 

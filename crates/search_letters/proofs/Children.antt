@@ -1,12 +1,11 @@
 -- A node's child: the letters with one more, the half of the fit that the letter leaves as it is, and the half fit in the letter's direction.
 use Prim.{tt}
-use Prim.Native.Nat.{ℕ, ◌≤◌, ◌<◌}
+use Prim.Native.Nat.{ℕ, ◌<◌}
 use mathlib.Core.Path.{◌≡◌, refl, sym, ap, subst, ◌∙◌}
 use mathlib.Core.Bool.{Bool, true, false, cond}
 use mathlib.Core.List.{List}
 use native.Mathlib.Omega.{arith}
 use lib.Dec.{ltb}
-use borrow.Author.Tests.{lt-ltb, le-ltb}
 use lib.ListN.{length, get_or, set}
 use Rattle.model.specs.declared.Chip.{Chip as HeldChip}
 use Rattle.model.specs.declared.Record.{Record as HeldRecord}
@@ -38,8 +37,8 @@ use Rattle.search_best.specs.Best.{best_of}
 use Rattle.search_node.specs.Letters.{byte_of, letters_in, letter_at, way_at, Lettered, Asks}
 use Rattle.search_node.specs.Node.{room_of, NodeOk, Open}
 use Rattle.search_join.specs.Joined.{HalfSaid, Beside, JoinedFrom}
-use Rattle.search_letters.specs.Turns.{own_arcs, other_length, ChildOn, ChildOf}
-use Rattle.search_node.proofs.Asking.{way_across, way_up, way_of_law, asks_beside}
+use Rattle.search_letters.specs.Turns.{own_arcs, other_length, ChildOn}
+use Rattle.search_node.proofs.Asking.{way_of_law, asks_beside}
 use Rattle.search_node.proofs.Lettering.{letters_set, letters_long, lettered_set}
 
 -- a result that is not nothing
@@ -123,12 +122,6 @@ module _ (c : HeldChip) (p : ℕ) (node : Node) (s i : ℕ) where
 
 -- ---- in the form of the needs
 
-pub in_first : {A : Type 0} (a b : A) (i : ℕ) → i < 2 → a ≡ cond (ltb i 2) a b
-in_first a b i h = rw (lt-ltb i 2 h)
-
-pub in_second : {A : Type 0} (a b : A) (i : ℕ) → 2 ≤ i → b ≡ cond (ltb i 2) a b
-in_second a b i h = rw (le-ltb i 2 h)
-
 module _ (c : HeldChip) (p s i : ℕ) (t : Slot) (best r : HeldRecord) (node : Node) where
   pub child_on : (tab before arcs : List ℕ) (other room : ℕ) (d : Direction) (f : HalfFit) → before ≡ own_arcs node i → other ≡ other_length node i → d ≡ way_at i → arcs ≡ with_bound before t → room ≡ room_of best.outcome other
       → Answers tab arcs room f.outcome f.at → (ls : List ℕ) → ls ≡ set node.letters s (byte_of i) → JoinedFrom c ls p node.here best d f other r → ChildOn c p tab node s i t best r
@@ -141,10 +134,3 @@ module _ (c : HeldChip) (p s i : ℕ) (t : Slot) (best r : HeldRecord) (node : N
     where
       new : List ℕ
       new = set node.letters s (byte_of i)
-
-  module _ (tx ty : List ℕ) where
-    pub child_across : i < 2 → ChildOn c p tx node s i t best r → ChildOf c p tx ty node s i t best r
-    child_across h k = record { held = λ ok v n o a. k.held ok n o a (rw (← way_across i h) v.x) }
-
-    pub child_up : 2 ≤ i → ChildOn c p ty node s i t best r → ChildOf c p tx ty node s i t best r
-    child_up h k = record { held = λ ok v n o a. k.held ok n o a (rw (← way_up i h) v.y) }

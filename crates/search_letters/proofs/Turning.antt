@@ -1,8 +1,8 @@
 -- The letters of a node's pair, tried one by one. At each time a legal placement of the branch that keeps the node's differences is covered by the best so far, or keeps the differences that are left; a letter that is closed, excluded or visited leaves its opposite.
-use Prim.Native.Nat.{ℕ, zero, suc, ◌+◌, ◌%◌, ◌≤◌, ◌<◌}
+use Prim.Native.Nat.{ℕ, ◌+◌, ◌%◌, ◌≤◌, ◌<◌}
 use mathlib.Core.Path.{◌≡◌, refl, sym, ap, subst, ◌∙◌}
 use mathlib.Core.Bool.{Bool, true, false}
-use mathlib.Core.List.{List, [], ◌∷◌}
+use mathlib.Core.List.{List}
 use mathlib.Core.Logic.{◌⊎◌, inl, inr}
 use native.Mathlib.Decide.{ℕ_discrete}
 use native.Mathlib.Omega.{arith}
@@ -14,14 +14,13 @@ use Rattle.model.specs.declared.Spot.{Spot}
 use Rattle.model.specs.declared.Record.{Record as HeldRecord}
 use Rattle.model.specs.Meaning.{Chip, chip_of}
 use Rattle.chip_text.specs.Passed.{Passed}
-use Rattle.placement.specs.Letters.{Letter, left}
+use Rattle.placement.specs.Letters.{Letter}
 use Rattle.placement.specs.Least.{Best, nothing, found, fit_of}
 use Rattle.axis_bounds.specs.declared.Slot.{Slot}
-use Rattle.axis_bounds.specs.Listed.{slot}
 use Rattle.fit_slots.specs.declared.Direction.{Direction}
 use Rattle.fit_slots.specs.Slots.{couples}
 use Rattle.fit_slots.proofs.Counting.{letters_count}
-use Rattle.search_branches.specs.Branch.{pick, better, in_branch, undecided}
+use Rattle.search_branches.specs.Branch.{pick, better, in_branch}
 use Rattle.search_branches.proofs.Betters.{Sized}
 use Rattle.search_halves.specs.Kept.{value_on, keeps_one, asks_at, opposite_at}
 use Rattle.search_halves.specs.Result.{placed, NotAfter}
@@ -41,16 +40,6 @@ use Rattle.fit_pairs.specs.declared.Cursor.{Cursor}
 use Rattle.search_node.specs.declared.Parts.{Parts}
 use Rattle.search_node.proofs.Records.{no_best, nothing_none, none_counted, counted_sized}
 use Rattle.search_node.proofs.Lettering.{letters_set, letters_long}
-
-pub untried_is : (node : Node) (k₀ k₁ k₂ k₃ : HeldRecord) → k₀ ≡ no_record → k₁ ≡ no_record → k₂ ≡ no_record → k₃ ≡ no_record → Untried node (record { l = k₀; r = k₁; b = k₂; a = k₃; kx = node.kx; ky = node.ky })
-untried_is node k₀ k₁ k₂ k₃ e₀ e₁ e₂ e₃ = record { none = by; x = refl; y = refl }
-  where
-    by : (j : ℕ) → child_at (k₀ ∷ k₁ ∷ k₂ ∷ k₃ ∷ []) j ≡ no_record
-    by zero = e₀
-    by (suc zero) = e₁
-    by (suc (suc zero)) = e₂
-    by (suc (suc (suc zero))) = e₃
-    by (suc (suc (suc (suc j)))) = refl
 
 module _ (c : HeldChip) (p : ℕ) (node : Node) (s : ℕ) where
   abbrev C : Chip
@@ -294,9 +283,6 @@ module _ (c : HeldChip) (parts : Parts) (p : ℕ) (tx ty : List ℕ) (node : Nod
 
   pub none_tried : (t : Left) → Untried node t → Tried c parts p tx ty node s at 0 best t
   none_tried t u = record { left = λ g w. untried_left c p node s g.passed t u best }
-
-  pub one_tried : (i : ℕ) (t r : Left) → Tried c parts p tx ty node s at i best t → i < 4 → TriedOne c parts p tx ty node s at i best t r → Tried c parts p tx ty node s at (i + 1) best r
-  one_tried i t r k h o = record { left = λ g w. o.left g w h (k.left g w) }
 
   pub four_tried : (i : ℕ) (t : Left) → i ≤ 4 → 4 ≤ i → Tried c parts p tx ty node s at i best t → Tried c parts p tx ty node s at 4 best t
   four_tried i t h g k = subst (λ (j : ℕ). Tried c parts p tx ty node s at j best t) (omega arith) k

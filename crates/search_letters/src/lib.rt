@@ -12,7 +12,7 @@ use half_fit::{ARCS, HELP, POOL, TAB};
 use model::Record;
 use search_best::replaces_best;
 use search_join::joined;
-use search_left::{Left, is_excluded, keep_opposite, put_child};
+use search_left::{FOUR, Left, is_excluded, keep_opposite, put_child};
 use search_node::{Node, Parts, decided, letter_slot, no_record, room, way};
 use search_tables::with_bound;
 
@@ -20,20 +20,14 @@ use search_tables::with_bound;
 fn own_arcs(node: Node, i: usize) -> [u32; ARCS]
     ensures { result ≡ own_arcs node i }
 {
-    if i < 2 {
-        return node.ax;
-    }
-    node.ay
+    if i < 2 { node.ax } else { node.ay }
 }
 
 // The length of the half that letter i leaves as it is.
 fn other_length(node: Node, i: usize) -> u64
     ensures { result ≡ other_length node i }
 {
-    if i < 2 {
-        return node.ly;
-    }
-    node.lx
+    if i < 2 { node.ly } else { node.lx }
 }
 
 // The fit of a branch with letter i for pair s, whose slot is t, from the half fit of the letter's direction. The half fit's state goes into the pool.
@@ -53,14 +47,12 @@ fn child_on(
 ) -> Record
     ensures { ChildOn (chip_in cs.now) p tab.now node s i t best result }
 {
-    let letters = node.letters;
-    let here = node.here;
     let other = other_length(node, i);
     let most = room(best, other);
     let arcs = with_bound(own_arcs(node, i), t);
     let f = half_fit(tab, help, &arcs, state, k, pool, i, t.tail, t.head, most);
-    let next = decided(letters, s, i);
-    joined(cs, p, next, here, best, way(i), f, other)
+    let next = decided(node.letters, s, i);
+    joined(cs, p, next, node.here, best, way(i), f, other)
 }
 
 // Letter i of pair s, whose slot is t. Its state goes into the pool.
@@ -85,9 +77,10 @@ fn child(
     ensures { ChildOf (chip_in cs.now) p tx.now ty.now node s i t best result }
 {
     if i < 2 {
-        return child_on(cs, p, tx, hx, node, sx, ix, s, i, t, best, pool);
+        child_on(cs, p, tx, hx, node, sx, ix, s, i, t, best, pool)
+    } else {
+        child_on(cs, p, ty, hy, node, sy, iy, s, i, t, best, pool)
     }
-    child_on(cs, p, ty, hy, node, sy, iy, s, i, t, best, pool)
 }
 
 // A branch of which no letter of a pair is tried.
@@ -97,10 +90,7 @@ fn untried(node: Node) -> Left
     let kx = node.kx;
     let ky = node.ky;
     Left {
-        l: no_record(),
-        r: no_record(),
-        b: no_record(),
-        a: no_record(),
+        fits: [no_record(); FOUR],
         kx,
         ky,
     }
@@ -135,9 +125,10 @@ fn try_letter(
     }
     let f = child(cs, p, tx, hx, ty, hy, node, sx, ix, sy, iy, s, i, t, b, out);
     if replaces_best(b, f) {
-        return put_child(left, i, f);
+        put_child(left, i, f)
+    } else {
+        keep_opposite(left, i, t)
     }
-    keep_opposite(left, i, t)
 }
 
 // The four letters of pair s are tried.
@@ -162,12 +153,10 @@ pub fn try_letters(
     ensures { Tried (chip_in cs.now) parts p tx.now ty.now node s at 4 best result }
 {
     let mut left = untried(node);
-    let mut i: usize = 0;
-    while i < 4 {
+    for i in 0..FOUR {
         left = try_letter(
             cs, parts, p, tx, hx, ty, hy, node, sx, ix, sy, iy, s, at, i, best, left, pool,
         );
-        i += 1;
     }
     left
 }

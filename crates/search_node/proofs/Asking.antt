@@ -1,31 +1,23 @@
 -- The four letters, their directions, what they ask there and of the pair at hand, and the room that the best leaves beside a half.
-use Prim.Native.Nat.{ℕ, zero, suc, ◌-◌, ◌≤◌, ◌<◌}
+use Prim.Native.Nat.{ℕ, zero, suc, ◌≤◌, ◌<◌}
 use mathlib.Core.Path.{◌≡◌, refl, ap, ◌∙◌}
 use native.Mathlib.Omega.{arith}
 use lib.ListN.{get_or}
 use borrow.Author.Tests.{lt-ltb, le-ltb}
 use Rattle.model.specs.declared.Chip.{Chip as HeldChip}
-use Rattle.model.specs.declared.Blocks.{Blocks}
-use Rattle.model.specs.declared.Record.{Record as HeldRecord}
-use Rattle.model.specs.declared.Outcome.TheVariants as outcome
 use Rattle.model.specs.Meaning.{chip_of}
 use Rattle.model.specs.Blocks.{blocks_of}
 use Rattle.placement.specs.Letters.{dot}
 use Rattle.axis_bounds.specs.declared.Slot.{Slot}
-use Rattle.fit_slots.specs.declared.Direction.{Direction}
 use Rattle.fit_slots.specs.declared.Direction.TheVariants.{Horizontal as horizontal, Vertical as vertical}
-use Rattle.fit_slots.specs.declared.Asked.{Asked}
-use Rattle.fit_slots.specs.declared.Asked.TheVariants.{Before as before}
 use Rattle.fit_slots.specs.Slots as slots
 use Rattle.fit_slots.specs.Slots.{Couple, couples}
 use Rattle.fit_slots.specs.Axes.{held_slot}
 use Rattle.fit_pairs.specs.declared.Cursor.{Cursor}
-use Rattle.fit_pair_slots.specs.Letters.{slot_read}
 use Rattle.search_halves.specs.Half.{other_way}
 use Rattle.fit_pair_slots.proofs.Reading.{slot_read_law}
 use Rattle.search_halves.specs.Kept.{way_of, no_couple, asks}
 use Rattle.search_node.specs.Letters.{letter_at, way_at, asked_at, slot_asked, Asks, CursorAt}
-use Rattle.search_node.specs.Node.{room_of}
 
 -- ---- letter i
 
@@ -34,16 +26,6 @@ way_across i h = rw (lt-ltb i 2 h)
 
 pub way_up : (i : ℕ) → 2 ≤ i → vertical ≡ way_at i
 way_up i h = rw (le-ltb i 2 h)
-
-pub asked_before : (i : ℕ) → (i ≡ 1 → ⊥) → (i ≡ 3 → ⊥) → before ≡ asked_at i
-asked_before zero a b = refl
-asked_before (suc zero) a b = absurd (a refl)
-asked_before (suc (suc zero)) a b = refl
-asked_before (suc (suc (suc zero))) a b = absurd (b refl)
-asked_before (suc (suc (suc (suc i)))) a b = refl
-
-pub slot_asked_law : (b : Blocks) (at : Cursor) (i : ℕ) (k : Asked) (d : Direction) (r : Slot) → k ≡ asked_at i → d ≡ way_at i → r ≡ slot_read d k b at.fix at.i at.j → r ≡ slot_asked b at i
-slot_asked_law b at i k d r e f q = q ∙ rw (e, f)
 
 -- the direction of a letter, and what it asks in the other one
 pub way_of_law : (i : ℕ) → i < 4 → way_of (letter_at i) ≡ way_at i
@@ -75,8 +57,3 @@ asks_is c s at p i h t e = record {
   four = h;
   slot = e ∙ (slot_read_law (way_at i) (asked_at i) (blocks_of c) at p.reached ∙ (ap (held_slot (way_at i) (asked_at i)) p.couple ∙ letter_asks i h (get_or (couples (chip_of c)) s no_couple)));
 }
-
--- ---- the room
-
-pub room_beside : (best : HeldRecord) (other m n r : ℕ) → best.outcome ≡ outcome.Least m n → r ≡ m - other → r ≡ room_of best.outcome other
-room_beside best other m n r e q = q ∙ rw e

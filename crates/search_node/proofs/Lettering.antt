@@ -1,11 +1,11 @@
 -- Bytes and the letters that they stand for: a byte stored for a pair, dots at the start, and how many there are.
 use Prim.Native.Nat.{ℕ, zero, suc, ◌≤◌, ◌<◌}
-use mathlib.Core.Path.{◌≡◌, refl, sym, ap, ◌∙◌}
+use mathlib.Core.Path.{◌≡◌, refl, ap, ◌∙◌}
 use mathlib.Core.Bool.{true, false}
 use mathlib.Core.List.{List, [], ◌∷◌, map}
 use native.Mathlib.Omega.{arith}
 use lib.ListN.{length, take, set, replicate, length-map}
-use lib.Seq.{take-set-lt, length-take-le, set_out}
+use lib.Seq.{take-set-lt, length-take-le}
 use Rattle.num_text.specs.Number.{all_of}
 use Rattle.model.specs.declared.Chip.{Chip as HeldChip}
 use Rattle.text_grammar.proofs.Lacks.{and_left, and_right, and_both}
@@ -27,21 +27,7 @@ letters_set letters p s b h = rw (take-set-lt p letters s b h) (map_set letter_o
 pub letters_long : (letters : List ℕ) (p : ℕ) → p ≤ length letters → length (letters_in letters p) ≡ p
 letters_long letters p h = length-map (take p letters) letter_of ∙ length-take-le p letters h
 
-pub stored : (letters : List ℕ) (s i b : ℕ) → b ≡ byte_of i → set letters s b ≡ set letters s (byte_of i)
-stored letters s i b e = ap (set letters s) e
-
--- past the letters nothing is stored
-pub past_letters : (letters : List ℕ) (s i : ℕ) → length letters ≡ 120 → 120 ≤ s → letters ≡ set letters s (byte_of i)
-past_letters letters s i l h = sym (set_out letters s (byte_of i) (omega arith))
-
 -- ---- the four letters
-
-pub no_byte : (i : ℕ) → (i ≡ 0 → ⊥) → (i ≡ 1 → ⊥) → (i ≡ 2 → ⊥) → (i ≡ 3 → ⊥) → 0 ≡ byte_of i
-no_byte zero a b c d = absurd (a refl)
-no_byte (suc zero) a b c d = absurd (b refl)
-no_byte (suc (suc zero)) a b c d = absurd (c refl)
-no_byte (suc (suc (suc zero))) a b c d = absurd (d refl)
-no_byte (suc (suc (suc (suc i)))) a b c d = refl
 
 is_letter_law : (i : ℕ) → i < 4 → is_letter (byte_of i) ≡ true
 is_letter_law zero h = refl

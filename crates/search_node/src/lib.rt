@@ -47,31 +47,19 @@ pub fn no_record() -> Record
 pub fn length_of(r: Record) -> u64
     ensures { result ≡ length_of r.outcome }
 {
-    let outcome = r.outcome;
-    match outcome {
+    match r.outcome {
         Outcome::Least(l, _) => l,
         Outcome::None => 0,
     }
-}
-
-// a less b, or 0.
-pub fn less(a: u64, b: u64) -> u64
-    ensures { result ≡ a - b }
-{
-    if a < b {
-        return 0;
-    }
-    a - b
 }
 
 // How long a half may be beside the other half's length so that the whole is not longer than the best.
 pub fn room(best: Record, other: u64) -> u64
     ensures { result ≡ room_of best.outcome other }
 {
-    let outcome = best.outcome;
-    match outcome {
+    match best.outcome {
         Outcome::None => 4000000000,
-        Outcome::Least(m, _) => less(m, other),
+        Outcome::Least(m, _) => m.saturating_sub(other),
     }
 }
 
@@ -79,19 +67,13 @@ pub fn room(best: Record, other: u64) -> u64
 fn letter(i: usize) -> u8
     ensures { result ≡ byte_of i }
 {
-    if i == 0 {
-        return 76;
+    match i {
+        0 => b'L',
+        1 => b'R',
+        2 => b'B',
+        3 => b'A',
+        _ => 0,
     }
-    if i == 1 {
-        return 82;
-    }
-    if i == 2 {
-        return 66;
-    }
-    if i == 3 {
-        return 65;
-    }
-    0
 }
 
 // The letters with letter i for pair s.
@@ -110,22 +92,20 @@ pub fn way(i: usize) -> Direction
     ensures { result ≡ way_at i }
 {
     if i < 2 {
-        return Direction::Horizontal;
+        Direction::Horizontal
+    } else {
+        Direction::Vertical
     }
-    Direction::Vertical
 }
 
 // What letter i asks of a pair in its direction.
 fn asked(i: usize) -> Asked
     ensures { result ≡ asked_at i }
 {
-    if i == 1 {
-        return Asked::After;
+    match i {
+        1 | 3 => Asked::After,
+        _ => Asked::Before,
     }
-    if i == 3 {
-        return Asked::After;
-    }
-    Asked::Before
 }
 
 // The slot that letter i asks of the pair at hand.

@@ -7,28 +7,27 @@ ghost use Rattle.search_numbers.specs.Spans.{joined_to};
 
 use axis_bounds::Slot;
 use model::{Mac, Net, Pin};
-use num_limits::lesser;
 
 // The most that a side of a bound counts for, and of a slot whose opposite is asked.
 const SIDE_MOST: u64 = 1000000;
 
 const SLOT_MOST: u64 = 2097152;
 
+// A bound is held higher by this.
+const RAISED: u64 = 16777216;
+
 // The greater of a bound that stands and one more.
 pub fn greater(old: u32, more: u32) -> u32
     ensures { result ≡ max old more }
 {
-    if old < more {
-        return more;
-    }
-    old
+    old.max(more)
 }
 
 // A bound, held higher by 2^24.
 pub fn bound_of(plus: u64, minus: u64) -> u32
     ensures { result ≡ 16777216 + min plus 1000000 - min minus 1000000 }
 {
-    (16777216 + lesser(plus, SIDE_MOST) - lesser(minus, SIDE_MOST)) as u32
+    (RAISED + plus.min(SIDE_MOST) - minus.min(SIDE_MOST)) as u32
 }
 
 // The opposite of a slot with small numbers: one track the other way.
@@ -38,7 +37,7 @@ pub fn opposite(s: Slot) -> Slot
     Slot {
         tail: s.head,
         head: s.tail,
-        plus: lesser(s.minus, SLOT_MOST) + 1,
+        plus: s.minus.min(SLOT_MOST) + 1,
         minus: s.plus,
     }
 }
@@ -55,18 +54,18 @@ pub struct Span {
 pub fn joined(s: Span, up: u64) -> Span
     ensures { result ≡ joined_to s up }
 {
-    let some = s.some;
-    if some {
-        return Span {
-            some,
-            most: num_limits::greater(s.most, up),
-            least: lesser(s.least, up),
-        };
-    }
-    Span {
-        some: true,
-        most: up,
-        least: up,
+    if s.some {
+        Span {
+            some: true,
+            most: s.most.max(up),
+            least: s.least.min(up),
+        }
+    } else {
+        Span {
+            some: true,
+            most: up,
+            least: up,
+        }
     }
 }
 
@@ -74,10 +73,7 @@ pub fn joined(s: Span, up: u64) -> Span
 pub fn same_size(a: Mac, b: Mac) -> bool
     ensures { result ≡ (eqb a.w b.w && eqb a.h b.h) }
 {
-    if a.w != b.w {
-        return false;
-    }
-    a.h == b.h
+    a.w == b.w && a.h == b.h
 }
 
 // Whether two nets have one weight.
@@ -91,11 +87,5 @@ pub fn same_weight(a: Net, b: Net) -> bool
 pub fn same_pin(p: Pin, q: Pin) -> bool
     ensures { result ≡ (eqb p.m q.m && (eqb p.xup q.xup && eqb p.yup q.yup)) }
 {
-    if p.m != q.m {
-        return false;
-    }
-    if p.xup != q.xup {
-        return false;
-    }
-    p.yup == q.yup
+    p.m == q.m && p.xup == q.xup && p.yup == q.yup
 }

@@ -1,11 +1,10 @@
 -- The differences of equal macros, which the chip's earliest least placement keeps.
 use Prim.Native.Nat.{ℕ, suc, ◌+◌, ◌%◌, ◌≤◌, ◌<◌}
 use mathlib.Core.Path.{◌≡◌, ap}
-use mathlib.Core.Bool.{Bool, false, not, true, false≢true}
+use mathlib.Core.Bool.{Bool, true}
 use mathlib.Core.List.{List}
 use native.Mathlib.Omega.{arith}
 use lib.ListN.{get_or}
-use borrow.Author.Tests.{not-false}
 use Rattle.model.specs.declared.Spot.{Spot}
 use Rattle.model.specs.Meaning.{Chip, blank_spot}
 use Rattle.axis_bounds.specs.Listed.{slot}
@@ -17,14 +16,8 @@ use Rattle.search_equal.specs.Answer.{Yes}
 use Rattle.search_kept.specs.Differences.{Adds, Holds, limited}
 use Rattle.search_order.specs.Order.{OrderKept}
 
-pub order_same : (c : Chip) (e : List ℕ) → OrderKept c e e
-order_same c e = record { to = λ ps o k. k }
-
-pub order_more : (c : Chip) (e₀ e r : List ℕ) → OrderKept c e₀ e → OrderKept c e r → OrderKept c e₀ r
-order_more c e₀ e r f g = record { to = λ ps o k. g.to ps o (f.to ps o k) }
-
-pub order_equal : (c : Chip) (e : List ℕ) (i j : ℕ) → j < 8 → i < j → (b : Bool) → Yes b (Alike c i j) → not b ≡ false → (r : List ℕ) → Adds e (limited (slot (i + 1) (j + 1) 0 0)) r → OrderKept c e r
-order_equal c e i j lj h b y q r a = record { to = λ ps o k. a.to (value_on horizontal ps) k (holds ps (o.le i j h (y.then (not-false b q)))) }
+pub order_equal : (c : Chip) (e : List ℕ) (i j : ℕ) → j < 8 → i < j → (b : Bool) → Yes b (Alike c i j) → b ≡ true → (r : List ℕ) → Adds e (limited (slot (i + 1) (j + 1) 0 0)) r → OrderKept c e r
+order_equal c e i j lj h b y q r a = record { to = λ ps o k. a.to (value_on horizontal ps) k (holds ps (o.le i j h (y.then q))) }
   where
     holds : (ps : List Spot) → (get_or ps i blank_spot).x ≤ (get_or ps j blank_spot).x → Holds (value_on horizontal ps) (limited (slot (i + 1) (j + 1) 0 0))
     holds ps le =
@@ -34,9 +27,3 @@ order_equal c e i j lj h b y q r a = record { to = λ ps o k. a.to (value_on hor
         let s : value_on horizontal ps ((j + 1) % 9) ≡ value_on horizontal ps (suc j) = ap (λ (k : ℕ). value_on horizontal ps k) ej in
         let u = value_corner horizontal ps (suc i) in let v = value_corner horizontal ps (suc j) in
         omega arith
-
-pub not_before : (i j : ℕ) → false ≡ true → i < j
-not_before i j q = absurd (false≢true q)
-
-pub is_before_law : (b : Bool) (i j : ℕ) → (b ≡ true → i < j) → b ≡ true → i < j
-is_before_law b i j h q = h q

@@ -1,12 +1,12 @@
 -- The bounds of a chip without letters: written place by place, and what they say of coordinates.
-use Prim.Native.Nat.{ℕ, zero, suc, ◌+◌, ◌/◌, ◌%◌, ◌≤◌, ◌<◌}
-use mathlib.Core.Path.{◌≡◌, sym, ap, ◌∙◌}
+use Prim.Native.Nat.{ℕ, zero, suc, ◌+◌, ◌/◌, ◌%◌, ◌<◌}
+use mathlib.Core.Path.{◌≡◌, ap, ◌∙◌}
 use mathlib.Core.Bool.{Bool, true, false, cond}
 use mathlib.Core.List.{List}
 use native.Mathlib.Decide.{ℕ_discrete}
 use native.Mathlib.Omega.{arith}
 use lib.Dec.{ltb}
-use lib.ListN.{length, get_or, set, length-set}
+use lib.ListN.{get_or, set, length-set}
 use lib.Seq.{get_or-set_same, get_or-set_other}
 use Rattle.half_arrays.specs.Arrays.{bound_at}
 use Rattle.search_tables.specs.Dots.{unbound, die_bound, dot_bound, Dotted}
@@ -23,9 +23,6 @@ module _ (side n : ℕ) (ws : List ℕ) where
       by true = omega arith
       by false = omega arith
   dot_small (suc u) (suc v) = omega arith
-
-  pub dotted_none : (arcs : List ℕ) → length arcs ≡ 128 → Dotted side n ws arcs 0
-  dotted_none arcs e = record { long = e; at = λ c l. absurd (omega arith) }
 
   module _ (arcs : List ℕ) (c : ℕ) (h : Dotted side n ws arcs c) (l : c < 81) (r : ℕ) (er : r ≡ dot_bound side n ws (c / 9) (c % 9)) where
     dot_here : bound_at (set arcs c r) c ≡ dot_bound side n ws (c / 9) (c % 9)
@@ -47,6 +44,3 @@ module _ (side n : ℕ) (ws : List ℕ) where
         by : (k : ℕ) → k < c + 1 → Dec (k ≡ c) → bound_at (set arcs c r) k ≡ dot_bound side n ws (k / 9) (k % 9)
         by k m (yes q) = rw q dot_here
         by k m (no q) = dot_there k (omega arith) ∙ h.at k (omega arith)
-
-pub dotted_all : (side n : ℕ) (ws arcs : List ℕ) (c s : ℕ) → Dotted side n ws arcs c → side ≡ s → 81 ≤ c → Dotted s n ws arcs 81
-dotted_all side n ws arcs c s h e l = rw (sym e) (record { long = h.long; at = λ k m. h.at k (omega arith) })

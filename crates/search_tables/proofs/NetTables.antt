@@ -94,11 +94,6 @@ module _ (d : Direction) (nets : List Net) (pins : List Pin) (j from : ℕ) wher
     pub few : Few (pins_on d pins) from m v e
     pub rest : SameRest before tab
 
-  pub net_none : (tab : List ℕ) (e : ℕ) → e ≤ from → Entered (pins_on d pins) (start_of nets) tab e (9 * j) → InNet tab tab e 0
-  net_none tab e l h =
-      let q : 9 * j ≡ 9 * j + 0 = omega arith in
-      record { entered = subst (Entered (pins_on d pins) (start_of nets) tab e) q h; few = record { le = omega arith }; rest = record { at = λ k g. refl } }
-
   module _ (ef : from ≡ pins_before j nets) where
     to_is : from + m ≡ pins_before (suc j) nets
     to_is = let a = pins_before_more j nets in omega arith
@@ -212,9 +207,6 @@ module _ (d : Direction) (nets : List Net) (pins : List Pin) where
 
     pub from_fits : (from : ℕ) → from ≡ pins_before j nets → Fits w64 (from + (get_or nets j blank_net).pins)
     from_fits from ef = let a = from_more from ef in let b = net_within in omega arith
-
-  pub nets_all : (tab : List ℕ) (e j t : ℕ) → NetsIn d nets pins tab e j → j ≤ t → t ≤ j → NetsIn d nets pins tab e t
-  nets_all tab e j t h a b = let q : t ≡ j = omega arith in rw q h
 
 pub from_none : (nets : List Net) → 0 ≡ pins_before 0 nets
 unfolding pins_before

@@ -4,17 +4,16 @@ use mathlib.Core.Path.{◌≡◌, refl, sym, ap, ◌∙◌}
 use mathlib.Core.List.{List, map}
 use native.Mathlib.Omega.{arith}
 use lib.ListN.{get_or, set, get_or-map}
-use borrow.Author.Tests.{le-ltb, lt-ltb}
+use borrow.Author.Tests.{lt-ltb}
 use Rattle.model.specs.declared.Mac.{Mac}
-use Rattle.model.specs.declared.Pin.{Pin}
 use Rattle.model.specs.Meaning.{blank_mac}
 use Rattle.axis_bounds.specs.declared.Slot.{Slot}
 use Rattle.fit_slots.specs.declared.Direction.{Direction}
 use Rattle.fit_slots.specs.declared.Direction.TheVariants.{Horizontal as horizontal, Vertical as vertical}
 use Rattle.fit_slots.specs.Slots.{mac_side}
-use Rattle.half_arrays.specs.Arrays.{bound_at, pin_at}
+use Rattle.half_arrays.specs.Arrays.{bound_at}
 use Rattle.search_tables.specs.Tables.{place_on, bound_on, with_bound}
-use Rattle.search_tables.specs.Entries.{up_on, pin_on, with_entry}
+use Rattle.search_tables.specs.Entries.{with_entry}
 use Rattle.search_tables.specs.Dots.{dot_bound}
 
 pub bound_put : (arcs : List ℕ) (s : Slot) (old b r : ℕ) → old ≡ get_or arcs (place_on s) 0 % 33554432 → b ≡ bound_on s → r ≡ max old b → set arcs (place_on s) r ≡ with_bound arcs s
@@ -23,9 +22,6 @@ bound_put arcs s old b r eo eb er =
     let p : place_on s % 128 ≡ place_on s = omega arith in
     rw (er, eo, eb, p)
 
-pub pin_made : (d : Direction) (p : Pin) (u : ℕ) → u ≡ up_on d p → pin_at (p.m % 9) (u % 65536) ≡ pin_on d p
-pin_made d p u e = rw e
-
 pub entry_put : (tab : List ℕ) (e node most least net a b c g : ℕ) → a ≡ node % 65536 → b ≡ most % 65536 → c ≡ least % 65536 → g ≡ net % 65536 → set (set (set (set tab (e % 128) a) (128 + e % 128) b) (256 + e % 128) c) (384 + e % 128) g ≡ with_entry tab e node most least net
 unfolding with_entry
 entry_put tab e node most least net a b c g ea eb ec eg = rw (ea, eb, ec, eg)
@@ -33,19 +29,6 @@ entry_put tab e node most least net a b c g ea eb ec eg = rw (ea, eb, ec, eg)
 -- ---- the bounds of a chip without letters
 
 module _ (side n : ℕ) (ws : List ℕ) where
-  pub dot_rise : (u v : ℕ) → u ≡ 0 → (v ≡ 0 → ⊥) → 16777216 ≡ dot_bound side n ws u v
-  dot_rise u zero e h = absurd (h refl)
-  dot_rise u (suc v) e h = rw e
-
-  pub dot_between : (u v : ℕ) → (u ≡ 0 → ⊥) → (v ≡ 0 → ⊥) → 15777216 ≡ dot_bound side n ws u v
-  dot_between zero v h g = absurd (h refl)
-  dot_between (suc u) zero h g = absurd (g refl)
-  dot_between (suc u) (suc v) h g = refl
-
-  pub dot_past : (u v : ℕ) → (u ≡ 0 → ⊥) → v ≡ 0 → n < u → 15777216 ≡ dot_bound side n ws u v
-  dot_past zero v h e l = absurd (h refl)
-  dot_past (suc u) v h e l = rw (e, le-ltb u n (omega arith))
-
   dot_at : (u v : ℕ) → v ≡ 0 → u < n → (w r : ℕ) → w ≡ get_or ws u 0 → r ≡ 16777216 + min w 1000000 - min side 1000000 → r ≡ dot_bound side n ws (suc u) v
   dot_at u v e l w r ew er = rw (e, lt-ltb u n l, er, ew)
 

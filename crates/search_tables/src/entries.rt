@@ -42,11 +42,8 @@ fn node_span(pins: [Pin; Pin::COUNT], d: Direction, from: usize, to: usize, node
         most: 0,
         least: 0,
     };
-    let mut i = from;
-    while i < to {
-        let held = pins[i];
-        let p = pin_on(held, d);
-        i += 1;
+    for i in from..to {
+        let p = pin_on(pins[i], d);
         if p.node == node {
             s = joined(s, p.up);
         }
@@ -81,15 +78,10 @@ fn put_net(
     ensures { NetPut d nets pins j result tab.old tab.new }
 {
     let mut next = e;
-    let mut node: usize = 0;
-    while node < 9 {
-        let at = node;
-        let net = nets[j];
-        let s = node_span(pins, d, from, from + net.pins, at);
-        let some = s.some;
-        node += 1;
-        if some {
-            put_entry(tab, next, at, s.most, s.least, j);
+    for node in 0..9 {
+        let s = node_span(pins, d, from, from + nets[j].pins, node);
+        if s.some {
+            put_entry(tab, next, node, s.most, s.least, j);
             next += 1;
         }
     }
@@ -111,14 +103,12 @@ fn put_nets(
 {
     let mut from: usize = 0;
     let mut e: usize = 0;
-    let mut j: usize = 0;
-    while j < t {
+    for j in 0..t {
         let net = nets[j];
         tab[512 + j] = narrow(e as u64);
         tab[576 + j] = narrow(net.weight);
         e = put_net(nets, pins, d, j, from, e, tab);
         from += net.pins;
-        j += 1;
     }
     e
 }

@@ -13,9 +13,10 @@ ghost use Rattle.search_tables.specs.Made.{NetsFit, ArraysFor};
 use crate::dots::dot_arcs;
 use crate::entries::net_table;
 use axis_bounds::Slot;
+use chip_pins::pins_before;
 use fit_slots::Direction;
 use model::{Chip, Mac, Net, Pin};
-use search_numbers::{bound_of, greater};
+use search_numbers::bound_of;
 
 // The lengths of the arrays, which are those of half_arrays.
 pub const TAB: usize = half_arrays::TAB;
@@ -35,8 +36,7 @@ pub fn with_bound(arcs: [u32; ARCS], s: Slot) -> [u32; ARCS]
 {
     let mut with = arcs;
     let place = s.tail % 9 * 9 + s.head % 9;
-    let old = arcs[place] % 33554432;
-    with[place] = greater(old, bound_of(s.plus, s.minus));
+    with[place] = (arcs[place] % 33554432).max(bound_of(s.plus, s.minus));
     with
 }
 
@@ -44,20 +44,7 @@ pub fn with_bound(arcs: [u32; ARCS], s: Slot) -> [u32; ARCS]
 fn nets_fit(nets: [Net; Net::COUNT], t: usize) -> bool
     ensures { NetsFit result nets t }
 {
-    if Net::COUNT < t {
-        return false;
-    }
-    let mut q: usize = 0;
-    let mut j: usize = 0;
-    while j < t {
-        let net = nets[j];
-        if Pin::COUNT - q < net.pins {
-            return false;
-        }
-        q += net.pins;
-        j += 1;
-    }
-    true
+    t <= Net::COUNT && pins_before(nets, t) <= Pin::COUNT
 }
 
 // The arrays of a chip whose macros, nets and pins stand within its own arrays.
@@ -65,20 +52,16 @@ fn held_arrays(c: Chip, d: Direction) -> Arrays
     requires { (c.n ≤ 8) × (c.t ≤ 32) × (pins_before c.t c.nets ≤ 128) }
     ensures { ArraysFor c d result.tab result.arcs }
 {
-    let die = c.die;
-    let macs = c.macs;
-    let nets = c.nets;
-    let pins = c.pins;
     Arrays {
-        tab: net_table(nets, c.t, pins, c.n, d),
-        arcs: dot_arcs(die, macs, c.n, d),
+        tab: net_table(c.nets, c.t, c.pins, c.n, d),
+        arcs: dot_arcs(c.die, c.macs, c.n, d),
     }
 }
 
 fn blank_arrays() -> Arrays {
     Arrays {
-        tab: [0u32; TAB],
-        arcs: [0u32; ARCS],
+        tab: [0; TAB],
+        arcs: [0; ARCS],
     }
 }
 
@@ -86,12 +69,9 @@ fn blank_arrays() -> Arrays {
 pub fn arrays_of(c: Chip, d: Direction) -> Arrays
     ensures { ArraysFor c d result.tab result.arcs }
 {
-    if Mac::COUNT < c.n {
-        return blank_arrays();
+    if c.n <= Mac::COUNT && nets_fit(c.nets, c.t) {
+        held_arrays(c, d)
+    } else {
+        blank_arrays()
     }
-    let nets = c.nets;
-    if !nets_fit(nets, c.t) {
-        return blank_arrays();
-    }
-    held_arrays(c, d)
 }

@@ -2,19 +2,16 @@
 use crate::sample;
 use model::Refusal;
 use text_grammar::{ABSENT, WORDS};
-use text_line::{Fault, Fields};
 
 // Prints the values of a line, as held.
 fn show_values(v: [u64; 4]) {
-    let mut i: usize = 0;
-    while i < 4 {
+    for i in 0..4 {
         if v[i] == ABSENT {
             io::write_all(1, b"absent ");
         } else {
             io::print_decimal(1, v[i]);
             io::write_all(1, b" ");
         }
-        i += 1;
     }
 }
 
@@ -45,15 +42,12 @@ fn show_fields(bytes: &[u8], i: usize, size: usize, line: usize) {
     if bytes.len() < size {
         return;
     }
-    let fields = text_line::read_fields(&bytes[size..], sample::layout_at(i), line);
-    let answer = fields.answer;
-    let values = fields.values;
-    match answer {
-        Fields::Got => {
+    match text_line::read_fields(&bytes[size..], sample::layout_at(i), line) {
+        Ok(values) => {
             show_values(values);
             write_back(i, &bytes[size..], values);
         }
-        Fields::Refused(f) => show_refusal(f),
+        Err(f) => show_refusal(f),
     }
 }
 
@@ -61,15 +55,13 @@ fn show_fields(bytes: &[u8], i: usize, size: usize, line: usize) {
 fn show_line(text: &[u8], a: usize, end: usize, line: usize) {
     let spellings = sample::spellings();
     let tests = sample::tests();
-    let walked = text_walk::next_word(text, a, end, spellings, sample::COUNT, tests, line);
-    let fault = walked.fault;
-    match fault {
-        Fault::Clear => {
+    match text_walk::next_word(text, a, end, spellings, sample::COUNT, tests, line) {
+        Ok(walked) => {
             if a <= end && end <= text.len() {
                 show_fields(&text[a..end], walked.word, walked.size, line);
             }
         }
-        Fault::Refused(f) => show_refusal(f),
+        Err(f) => show_refusal(f),
     }
 }
 

@@ -4,8 +4,8 @@ use crate::every::{allowed, first, length_of, next};
 use crate::report::{FILL, print_numbers};
 use crate::unfold::text_at;
 use crate::written::put_record;
-use beside_check::{AtFault, BesideAnswer};
-use model::{Chip, Mac, Spot, WriteAnswer};
+use beside_check::{AtFault, BesideRefusal};
+use model::{Chip, Mac, Spot};
 
 fn print_at_fault(text: AtFault) {
     match text {
@@ -21,22 +21,22 @@ fn print_at_fault(text: AtFault) {
     }
 }
 
-fn print_answer(answer: BesideAnswer) {
+fn print_answer(answer: Result<(), BesideRefusal>) {
     match answer {
-        BesideAnswer::Passed => {
+        Ok(()) => {
             io::write_all(1, b"passed\n");
         }
-        BesideAnswer::Refused(f, text) => {
-            print_numbers(f);
-            print_at_fault(text);
+        Err(f) => {
+            print_numbers(f.refusal);
+            print_at_fault(f.text);
         }
     }
 }
 
 // The answer for the first n bytes of a text, which has as many, as a record beside a chip.
-fn beside_first(chip: &[u8], text: &[u8], n: usize) -> BesideAnswer {
+fn beside_first(chip: &[u8], text: &[u8], n: usize) -> Result<(), BesideRefusal> {
     if text.len() < n {
-        return BesideAnswer::Passed;
+        return Ok(());
     }
     beside_check::check_beside(chip, &text[0..n])
 }
@@ -49,19 +49,13 @@ pub(crate) fn beside(s: &[u8], chip: &[u8]) {
 }
 
 // The number of a refusal after all reading, 0 where the record passes, or 99.
-fn number_in(answer: BesideAnswer) -> usize {
+fn number_in(answer: Result<(), BesideRefusal>) -> usize {
     match answer {
-        BesideAnswer::Passed => 0,
-        BesideAnswer::Refused(f, text) => {
-            if f.line != 0 {
-                return 99;
-            }
-            match text {
-                AtFault::Neither => f.no,
-                AtFault::Chip => 99,
-                AtFault::Record => 99,
-            }
-        }
+        Ok(()) => 0,
+        Err(f) => match f.text {
+            AtFault::Neither if f.refusal.line == 0 => f.refusal.no,
+            _ => 99,
+        },
     }
 }
 
@@ -117,15 +111,13 @@ fn with_chip(t: Tally, c: Chip, chip: &[u8], case: u64) -> Tally {
     let die = c.die;
     let mut t = t;
     let mut spots = [Spot { x: 0, y: 0 }; Mac::COUNT];
-    let mut i: usize = 0;
-    while i < 1000000 {
+    for i in 0..1000000 {
         t = with_placement(t, c, chip, spots, case);
         let turn = next(spots, c.n, die);
         if turn.over {
             return t;
         }
         spots = turn.spots;
-        i += 1;
     }
     t
 }
@@ -140,9 +132,8 @@ fn with_text(t: Tally, c: Chip, text: &[u8], n: usize, case: u64) -> Tally {
 // With the records of every placement of a chip.
 pub(crate) fn with_records(t: Tally, case: u64, c: Chip) -> Tally {
     let mut text = [FILL; 4096];
-    let written = chip_write::write_chip(c, &mut text);
-    match written {
-        WriteAnswer::Refused(_) => compared(t, case, false),
-        WriteAnswer::Text(n) => with_text(t, c, &text, n, case),
+    match chip_write::write_chip(c, &mut text) {
+        Err(_) => compared(t, case, false),
+        Ok(n) => with_text(t, c, &text, n, case),
     }
 }

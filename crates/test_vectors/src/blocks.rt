@@ -8,8 +8,8 @@ use crate::report::{FILL, untouched};
 use crate::rule::{Block, block_at, chip_of};
 use crate::searching::{Service, answer_to};
 use crate::written::{put_boxed, put_record};
-use fit::{FitAnswer, FitOutcome};
-use model::{Chip, WriteAnswer};
+use fit::FitAnswer;
+use model::{Chip, Refusal};
 
 // What is asked of each chip: its record, the fit of the empty string, its record from the quoting page, its record with boxes, or records beside it.
 #[derive(Clone, Copy)]
@@ -37,15 +37,15 @@ pub(crate) struct Tally {
 }
 
 // Whether the text given was written, into a buffer of the same length.
-fn is_written(answer: WriteAnswer, out: &[u8; ROOM], expected: &[u8; ROOM], length: usize) -> bool {
+fn is_written(
+    answer: Result<usize, Refusal>,
+    out: &[u8; ROOM],
+    expected: &[u8; ROOM],
+    length: usize,
+) -> bool {
     match answer {
-        WriteAnswer::Refused(_) => false,
-        WriteAnswer::Text(n) => {
-            if n != length {
-                return false;
-            }
-            check::same(out, expected)
-        }
+        Err(_) => false,
+        Ok(n) => { n == length && check::same(out, expected) }
     }
 }
 
@@ -56,21 +56,18 @@ fn search_gives(c: Chip, expected: &[u8; ROOM], length: usize) -> bool {
 }
 
 // The answer to the first n bytes of a text.
-fn answer_first(text: &[u8], n: usize, service: Service, out: &mut [u8]) -> WriteAnswer {
+fn answer_first(text: &[u8], n: usize, service: Service, out: &mut [u8]) -> Result<usize, Refusal> {
     if text.len() < n {
-        return WriteAnswer::Text(0);
+        return Ok(0);
     }
     answer_to(&text[0..n], service, out)
 }
 
 // The answer to a chip's text.
-fn answered(c: Chip, service: Service, out: &mut [u8]) -> WriteAnswer {
+fn answered(c: Chip, service: Service, out: &mut [u8]) -> Result<usize, Refusal> {
     let mut text = [FILL; 4096];
-    let written = chip_write::write_chip(c, &mut text);
-    match written {
-        WriteAnswer::Refused(f) => WriteAnswer::Refused(f),
-        WriteAnswer::Text(n) => answer_first(&text, n, service, out),
-    }
+    let n = chip_write::write_chip(c, &mut text)?;
+    answer_first(&text, n, service, out)
 }
 
 fn service_gives(c: Chip, service: Service, expected: &[u8; ROOM], length: usize) -> bool {
@@ -82,40 +79,24 @@ fn service_gives(c: Chip, service: Service, expected: &[u8; ROOM], length: usize
 // Whether the page refuses a chip by 22, line 0, and writes nothing.
 fn quote_refuses(c: Chip) -> bool {
     let mut out = [FILL; ROOM];
-    let answer = answered(c, Service::Quote, &mut out);
-    match answer {
-        WriteAnswer::Text(_) => false,
-        WriteAnswer::Refused(f) => {
-            if f.no != 22 {
-                return false;
-            }
-            if f.line != 0 {
-                return false;
-            }
-            untouched(&out, 0)
-        }
+    match answered(c, Service::Quote, &mut out) {
+        Ok(_) => false,
+        Err(f) => f.no == 22 && f.line == 0 && untouched(&out, 0),
     }
 }
 
 // More than 4 macros, 2 fixes or 16 pins.
 fn is_beyond(c: Chip) -> bool {
-    if 4 < c.n {
-        return true;
-    }
-    if 2 < c.k {
-        return true;
-    }
-    16 < pin_count(c)
+    4 < c.n || 2 < c.k || 16 < pin_count(c)
 }
 
 // What a fit placed, as it is found by trying; a refusal is not whole.
 fn placed(answer: FitAnswer) -> Found {
     let spots = answer.spots;
-    let outcome = answer.outcome;
-    match outcome {
-        FitOutcome::Placed(f) => first(spots, f.length),
-        FitOutcome::NoFit => nothing(),
-        FitOutcome::Refused(_) => {
+    match answer.outcome {
+        Ok(Some(f)) => first(spots, f.length),
+        Ok(None) => nothing(),
+        Err(_) => {
             let mut refused = nothing();
             refused.whole = false;
             refused
@@ -251,10 +232,8 @@ fn compare(b: Block, from: u64, to: u64, asked: Asked) -> Tally {
         passed: 0,
         differs: 0,
     };
-    let mut case = from;
-    while case < to {
+    for case in from..to {
         t = with_case(t, case, b, asked);
-        case += 1;
     }
     t
 }

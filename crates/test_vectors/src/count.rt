@@ -125,15 +125,13 @@ fn die_slot(c: Chip, s: usize, vertical: bool) -> Slot {
 
 // The pair of macros at place r: 1-2, 1-3 .. 2-3 .. .
 fn macro_pair(n: usize, r: usize) -> Pair {
-    let mut a: usize = 0;
     let mut left = r;
-    while a < n {
+    for a in 0..n {
         let row = n - 1 - a;
         if left < row {
             return Pair { a, b: a + 1 + left };
         }
         left -= row;
-        a += 1;
     }
     Pair { a: 0, b: 0 }
 }
@@ -206,14 +204,12 @@ fn net_of(c: Chip, i: usize) -> usize
 {
     let nets = c.nets;
     let mut left = i;
-    let mut j: usize = 0;
-    while j < Net::COUNT {
+    for j in 0..Net::COUNT {
         let net = nets[j];
         if left < net.pins {
             return j;
         }
         left -= net.pins;
-        j += 1;
     }
     Net::COUNT
 }
@@ -280,12 +276,10 @@ fn carry_all(
     into: &mut [u64],
     out: &mut [u64],
 ) -> bool {
-    let mut s: usize = 0;
-    while s < part.len() {
+    for s in 0..part.len() {
         if !carry(slot_at(c, letters, s, vertical), part[s], most, into, out) {
             return false;
         }
-        s += 1;
     }
     true
 }
@@ -319,14 +313,12 @@ fn node_even(c: Chip, v: usize, into: u64, out: u64, chain: bool) -> bool {
 }
 
 fn nodes_even(c: Chip, into: &[u64], out: &[u64], chain: bool) -> bool {
-    let mut v: usize = 0;
-    while v < into.len() {
+    for v in 0..into.len() {
         if v < out.len() {
             if !node_even(c, v, into[v], out[v], chain) {
                 return false;
             }
         }
-        v += 1;
     }
     true
 }
@@ -345,24 +337,20 @@ fn part_even(c: Chip, letters: &[u8], part: &[u16], vertical: bool, chain: bool)
 // The sum of up x amount, or of down x amount, over a direction.
 fn part_sum(c: Chip, letters: &[u8], part: &[u16], vertical: bool, of_up: bool) -> u64 {
     let mut total: u64 = 0;
-    let mut s: usize = 0;
-    while s < part.len() {
+    for s in 0..part.len() {
         let at = slot_at(c, letters, s, vertical);
         let factor = if of_up { at.up } else { at.down };
         total = sum(total, carried(factor, part[s]));
-        s += 1;
     }
     total
 }
 
 // Whether all amounts are the one given.
 pub(crate) fn all_are(part: &[u16], amount: u16) -> bool {
-    let mut s: usize = 0;
-    while s < part.len() {
+    for s in 0..part.len() {
         if part[s] != amount {
             return false;
         }
-        s += 1;
     }
     true
 }
@@ -387,13 +375,11 @@ pub(crate) fn pin_count(c: Chip) -> usize
     let nets = c.nets;
     let t = c.t;
     let mut q: usize = 0;
-    let mut j: usize = 0;
-    while j < Net::COUNT {
+    for j in 0..Net::COUNT {
         if t <= j {
             return q;
         }
         q = more_pins(q, nets[j]);
-        j += 1;
     }
     q
 }
@@ -408,13 +394,11 @@ pub(crate) fn pair_count(c: Chip) -> usize
         return 0;
     }
     let mut p: usize = 0;
-    let mut i: usize = 0;
-    while i < Mac::COUNT {
+    for i in 0..Mac::COUNT {
         if n <= i {
             return p;
         }
         p += i + k;
-        i += 1;
     }
     p
 }

@@ -69,15 +69,13 @@ fn mac_box(m: Mac, s: Spot) -> Box {
 
 // Whether a box is apart from each of the first k fixes.
 fn clear_of_fixes(b: Box, fixes: [Fix; Fix::COUNT], k: usize) -> bool {
-    let mut i: usize = 0;
-    while i < Fix::COUNT {
+    for i in 0..Fix::COUNT {
         if k <= i {
             return true;
         }
         if !apart(b, fix_box(fixes[i])) {
             return false;
         }
-        i += 1;
     }
     true
 }
@@ -94,12 +92,10 @@ fn clear_of_macs(c: Chip, spots: [Spot; Mac::COUNT], j: usize) -> bool {
         return true;
     }
     let b = mac_box(macs[j], spots[j]);
-    let mut i: usize = 0;
-    while i < j {
+    for i in 0..j {
         if !apart(b, mac_box(macs[i], spots[i])) {
             return false;
         }
-        i += 1;
     }
     true
 }
@@ -125,15 +121,13 @@ fn allowed_macro(c: Chip, spots: [Spot; Mac::COUNT], j: usize, undecided: bool) 
 }
 
 pub(crate) fn allowed(c: Chip, spots: [Spot; Mac::COUNT], undecided: bool) -> bool {
-    let mut j: usize = 0;
-    while j < Mac::COUNT {
+    for j in 0..Mac::COUNT {
         if c.n <= j {
             return true;
         }
         if !allowed_macro(c, spots, j, undecided) {
             return false;
         }
-        j += 1;
     }
     true
 }
@@ -201,14 +195,12 @@ pub(crate) fn extent_of(
         least: Spot { x: 65535, y: 65535 },
         most: Spot { x: 0, y: 0 },
     };
-    let mut i: usize = 0;
-    while i < Pin::COUNT {
+    for i in 0..Pin::COUNT {
         if from <= i {
             if i - from < count {
                 e = wider(e, place_of(spots, pins[i]));
             }
         }
-        i += 1;
     }
     e
 }
@@ -236,8 +228,7 @@ pub(crate) fn length_of(c: Chip, spots: [Spot; Mac::COUNT]) -> u64 {
     let t = c.t;
     let mut total: u64 = 0;
     let mut from: usize = 0;
-    let mut j: usize = 0;
-    while j < Net::COUNT {
+    for j in 0..Net::COUNT {
         if t <= j {
             return total;
         }
@@ -245,29 +236,23 @@ pub(crate) fn length_of(c: Chip, spots: [Spot; Mac::COUNT]) -> u64 {
         let half = half_perimeter(extent_of(spots, pins, from, net.pins));
         total = sum(total, product(net.weight, half));
         from = after(from, net);
-        j += 1;
     }
     total
 }
 
 // The positions that come next: the last macro's y first, up to the die's sides.
-pub(crate) fn next(spots: [Spot; Mac::COUNT], n: usize, die: Die) -> Turn {
-    let mut spots = spots;
-    let mut i: usize = Mac::COUNT;
-    while 0 < i {
-        i -= 1;
-        if i < n {
-            let s = spots[i];
-            if s.y < die.h {
-                spots[i] = Spot { x: s.x, y: s.y + 1 };
-                return Turn { over: false, spots };
-            }
-            if s.x < die.w {
-                spots[i] = Spot { x: s.x + 1, y: 0 };
-                return Turn { over: false, spots };
-            }
-            spots[i] = Spot { x: 0, y: 0 };
+pub(crate) fn next(mut spots: [Spot; Mac::COUNT], n: usize, die: Die) -> Turn {
+    for i in (0..n.min(Mac::COUNT)).rev() {
+        let s = spots[i];
+        if s.y < die.h {
+            spots[i] = Spot { x: s.x, y: s.y + 1 };
+            return Turn { over: false, spots };
         }
+        if s.x < die.w {
+            spots[i] = Spot { x: s.x + 1, y: 0 };
+            return Turn { over: false, spots };
+        }
+        spots[i] = Spot { x: 0, y: 0 };
     }
     Turn { over: true, spots }
 }
@@ -319,15 +304,13 @@ pub(crate) fn try_every(c: Chip, undecided: bool) -> Found {
     let die = c.die;
     let mut found = nothing();
     let mut spots = [Spot { x: 0, y: 0 }; Mac::COUNT];
-    let mut i: usize = 0;
-    while i < 1000000 {
+    for i in 0..1000000 {
         found = tried(c, spots, undecided, found);
         let turn = next(spots, c.n, die);
         if turn.over {
             return found;
         }
         spots = turn.spots;
-        i += 1;
     }
     found.whole = false;
     found

@@ -2,7 +2,6 @@
 ghost use Rattle.std.specs.Prelude.{◌≡◌, ◌+◌, ◌≤◌, min, length};
 
 use model::{Mac, Spot};
-use num_text::Number;
 
 // A part of a line: from a up to e.
 #[derive(Clone, Copy)]
@@ -16,14 +15,12 @@ pub(crate) fn index_of(s: &[u8], i: usize, d: u8) -> usize
     requires { i ≤ length s.now }
     ensures { (i ≤ result) × (result ≤ length s.now) }
 {
-    let mut j = i;
-    while j < s.len() {
+    for j in i..s.len() {
         if s[j] == d {
             return j;
         }
-        j += 1;
     }
-    j
+    s.len()
 }
 
 // The place after e, or the end.
@@ -39,10 +36,8 @@ pub(crate) fn part(s: &[u8], j: usize) -> Range
     ensures { (result.a ≤ result.e) × (result.e ≤ length s.now) }
 {
     let mut a: usize = 0;
-    let mut i: usize = 0;
-    while i < j {
+    for i in 0..j {
         a = after(s, index_of(s, a, 9));
-        i += 1;
     }
     Range {
         a,
@@ -56,8 +51,8 @@ pub(crate) fn number(s: &[u8]) -> u64 {
         return 18446744073709551615;
     }
     match num_text::read_number(s) {
-        Number::Value(_, m) => m,
-        Number::Bad => 0,
+        Some(n) => n.magnitude,
+        None => 0,
     }
 }
 
@@ -109,12 +104,10 @@ fn spot(s: &[u8]) -> Spot {
 fn spots(s: &[u8]) -> [Spot; Mac::COUNT] {
     let mut all = [Spot { x: 0, y: 0 }; Mac::COUNT];
     let mut a: usize = 0;
-    let mut i: usize = 0;
-    while i < Mac::COUNT {
+    for i in 0..Mac::COUNT {
         let e = index_of(s, a, 32);
         all[i] = spot(&s[a..e]);
         a = after(s, e);
-        i += 1;
     }
     all
 }

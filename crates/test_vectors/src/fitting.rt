@@ -2,7 +2,7 @@
 use crate::count::{FILL, all_are, list_right, pair_count, slot_count};
 use crate::fields::{number_at, part};
 use crate::report::print_numbers;
-use fit::{FitAnswer, FitOutcome, Fitted};
+use fit::{FitAnswer, Fitted};
 use model::{Chip, Mac, Refusal, Spot};
 
 // How many amounts the lent lists have room for: more than any chip needs.
@@ -10,8 +10,7 @@ const ROOM: usize = 800;
 
 // Positions from i on that are not 0,0 do not belong to an answer.
 fn print_rest(spots: [Spot; Mac::COUNT], from: usize) {
-    let mut i = from;
-    while i < Mac::COUNT {
+    for i in from..Mac::COUNT {
         let s = spots[i];
         if s.x != 0 {
             io::write_all(1, b", positions wrong");
@@ -19,7 +18,6 @@ fn print_rest(spots: [Spot; Mac::COUNT], from: usize) {
         if s.y != 0 {
             io::write_all(1, b", positions wrong");
         }
-        i += 1;
     }
 }
 
@@ -30,8 +28,7 @@ fn print_spot(s: Spot) {
 }
 
 fn print_spots(spots: [Spot; Mac::COUNT], n: usize) {
-    let mut i: usize = 0;
-    while i < Mac::COUNT {
+    for i in 0..Mac::COUNT {
         if i < n {
             if i == 0 {
                 io::write_all(1, b" at ");
@@ -40,7 +37,6 @@ fn print_spots(spots: [Spot; Mac::COUNT], n: usize) {
             }
             print_spot(spots[i]);
         }
-        i += 1;
     }
 }
 
@@ -84,18 +80,17 @@ fn print_letters(letters: &[u8]) {
 }
 
 fn print_answer(c: Chip, letters: &[u8], answer: FitAnswer, flow: &[u16]) {
-    let outcome = answer.outcome;
     let spots = answer.spots;
-    match outcome {
-        FitOutcome::Placed(f) => {
+    match answer.outcome {
+        Ok(Some(f)) => {
             print_placed(c, letters, f, spots, flow);
             print_rest(spots, c.n);
         }
-        FitOutcome::NoFit => {
+        Ok(None) => {
             print_chain(c, letters, flow);
             print_rest(spots, 0);
         }
-        FitOutcome::Refused(f) => {
+        Err(f) => {
             print_refused(f, flow);
             print_rest(spots, 0);
         }
@@ -155,11 +150,9 @@ fn letter(d: u64) -> u8 {
 // The letters of a number's digits to the base 5.
 fn spell(out: &mut [u8], number: u64) {
     let mut rest = number;
-    let mut i: usize = 0;
-    while i < out.len() {
+    for i in 0..out.len() {
         out[i] = letter(rest % 5);
         rest = rest / 5;
-        i += 1;
     }
 }
 
@@ -176,10 +169,8 @@ fn numbered(c: Chip, p: usize, number: u64) {
 pub(crate) fn strings(s: &[u8], c: Chip) {
     let p = number_at(s, 2) as usize;
     let count = number_at(s, 3);
-    let mut i: u64 = 0;
-    while i < count {
+    for i in 0..count {
         numbered(c, p, i);
-        i += 1;
     }
 }
 
@@ -212,12 +203,10 @@ fn print_amount(amount: u16) {
 }
 
 fn print_amounts(flow: &[u16], n: usize) {
-    let mut i: usize = 0;
-    while i < flow.len() {
+    for i in 0..flow.len() {
         if i < n {
             print_amount(flow[i]);
         }
-        i += 1;
     }
 }
 

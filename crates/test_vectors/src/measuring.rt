@@ -1,20 +1,20 @@
 // Positions measured, from an array and from a lent list.
 use crate::fields::{number_at, spots_at};
 use crate::report::print_numbers;
-use measure_held::MeasureAnswer;
-use model::Chip;
+use measure_held::Measurement;
+use model::{Chip, Refusal};
 
-fn print_measured(answer: MeasureAnswer) {
+fn print_measured(answer: Result<Measurement, Refusal>) {
     match answer {
-        MeasureAnswer::Measured(legal, wl) => {
-            if legal {
+        Ok(m) => {
+            if m.legal {
                 io::write_all(1, b"legal ");
             } else {
                 io::write_all(1, b"illegal ");
             }
-            io::print_decimal(1, wl);
+            io::print_decimal(1, m.length);
         }
-        MeasureAnswer::Refused(f) => print_numbers(f),
+        Err(f) => print_numbers(f),
     }
 }
 

@@ -1,17 +1,15 @@
 // Texts read, and written back.
 use crate::report::print_refusal;
-use chip_read::ChipAnswer;
-use model::WriteAnswer;
-use record_read::RecordAnswer;
+use model::Refusal;
 
 // Prints whether what was written is the text.
-fn print_written(answer: WriteAnswer, written: &[u8], text: &[u8]) {
+fn print_written(answer: Result<usize, Refusal>, written: &[u8], text: &[u8]) {
     match answer {
-        WriteAnswer::Refused(f) => {
+        Err(f) => {
             io::write_all(1, b"not written ");
             print_refusal(f);
         }
-        WriteAnswer::Text(n) => {
+        Ok(n) => {
             if is_text(written, n, text) {
                 io::write_all(1, b"ok\n");
             } else {
@@ -30,12 +28,9 @@ fn is_text(written: &[u8], n: usize, text: &[u8]) -> bool {
 }
 
 pub(crate) fn chip(text: &[u8]) {
-    let read = chip_read::read_chip(text);
-    let answer = read.answer;
-    let chip = read.chip;
-    match answer {
-        ChipAnswer::Refused(f) => print_refusal(f),
-        ChipAnswer::Accepted => {
+    match chip_read::read_chip(text) {
+        Err(f) => print_refusal(f),
+        Ok(chip) => {
             let mut out = io::buffer();
             let written = chip_write::write_chip(chip, &mut out);
             print_written(written, &out, text);
@@ -44,12 +39,9 @@ pub(crate) fn chip(text: &[u8]) {
 }
 
 pub(crate) fn record(text: &[u8]) {
-    let read = record_read::read_record(text);
-    let answer = read.answer;
-    let record = read.record;
-    match answer {
-        RecordAnswer::Refused(f) => print_refusal(f),
-        RecordAnswer::Accepted => {
+    match record_read::read_record(text) {
+        Err(f) => print_refusal(f),
+        Ok(record) => {
             let mut out = io::buffer();
             let written = record_write::write_record(record, &mut out);
             print_written(written, &out, text);

@@ -1,17 +1,15 @@
 // Answers as they are printed.
-use model::{Refusal, WriteAnswer};
+use model::Refusal;
 
 // What lent buffers hold before a call.
 pub(crate) const FILL: u8 = 35;
 
 // Whether the bytes from `from` on are as they were.
 pub(crate) fn untouched(out: &[u8], from: usize) -> bool {
-    let mut i: usize = from;
-    while i < out.len() {
+    for i in from..out.len() {
         if out[i] != FILL {
             return false;
         }
-        i += 1;
     }
     true
 }
@@ -36,14 +34,14 @@ fn print_unless_untouched(out: &[u8], from: usize) {
 }
 
 // Prints the length of a text that was written, or the refusal; and where bytes changed that should not have.
-pub(crate) fn print_length(answer: WriteAnswer, out: &[u8]) {
+pub(crate) fn print_length(answer: Result<usize, Refusal>, out: &[u8]) {
     match answer {
-        WriteAnswer::Text(n) => {
+        Ok(n) => {
             io::print_decimal(1, n as u64);
             io::write_all(1, b" bytes\n");
             print_unless_untouched(out, n);
         }
-        WriteAnswer::Refused(f) => {
+        Err(f) => {
             print_refusal(f);
             print_unless_untouched(out, 0);
         }
@@ -58,13 +56,13 @@ fn print_first(text: &[u8], n: usize) {
 }
 
 // Prints a text that was written, or the refusal; and where bytes changed that should not have.
-pub(crate) fn print_text(answer: WriteAnswer, out: &[u8]) {
+pub(crate) fn print_text(answer: Result<usize, Refusal>, out: &[u8]) {
     match answer {
-        WriteAnswer::Text(n) => {
+        Ok(n) => {
             print_first(out, n);
             print_unless_untouched(out, n);
         }
-        WriteAnswer::Refused(f) => {
+        Err(f) => {
             print_refusal(f);
             print_unless_untouched(out, 0);
         }

@@ -90,14 +90,12 @@ fn small_side(case: u64, place: u64, most: u64) -> u64 {
 // A macro may be larger than the die.
 fn macs_of(case: u64, most: u64) -> [Mac; Mac::COUNT] {
     let mut macs = [Mac { w: 1, h: 1 }; Mac::COUNT];
-    let mut i: usize = 0;
-    while i < Mac::COUNT {
+    for i in 0..Mac::COUNT {
         let at = 200 + 4 * i as u64;
         macs[i] = Mac {
             w: small_side(case, at, most),
             h: small_side(case, at + 2, most),
         };
-        i += 1;
     }
     macs
 }
@@ -184,10 +182,8 @@ fn pins_of(case: u64, n: usize) -> [Pin; Pin::COUNT] {
         xup: 4096,
         yup: 4096,
     }; Pin::COUNT];
-    let mut i: usize = 0;
-    while i < 16 {
+    for i in 0..16 {
         pins[i] = pin_of(case, 100 + 3 * i as u64, n);
-        i += 1;
     }
     pins
 }
@@ -195,19 +191,17 @@ fn pins_of(case: u64, n: usize) -> [Pin; Pin::COUNT] {
 // Weights 1 to 4. One net in seven has one pin, the others have two, three or four.
 fn nets_of(case: u64) -> [Net; Net::COUNT] {
     let mut nets = [Net { weight: 1, pins: 1 }; Net::COUNT];
-    let mut j: usize = 0;
-    while j < 4 {
+    for j in 0..4 {
         let at = 50 + 2 * j as u64;
         nets[j] = Net {
             weight: side(case, at, 4),
             pins: 1 + (side(case, at + 1, 7) / 2) as usize,
         };
-        j += 1;
     }
     nets
 }
 
-fn blank_chip(die: Die) -> Chip {
+pub(crate) fn blank_chip(die: Die) -> Chip {
     Chip {
         die,
         k: 0,

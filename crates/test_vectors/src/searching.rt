@@ -1,7 +1,7 @@
 // Records: what the programs print for a text, the record of a text, also from the quoting page or with the box of each net, and that of a chip as a value.
 use crate::fields::number_at;
 use crate::report::{FILL, print_text};
-use model::{Chip, WriteAnswer};
+use model::{Chip, Refusal};
 
 // How many bytes the lent buffers have room for: more than any record with its boxes needs.
 const ROOM: usize = 2048;
@@ -16,7 +16,7 @@ pub(crate) enum Service {
     Boxes,
 }
 
-pub(crate) fn answer_to(text: &[u8], service: Service, out: &mut [u8]) -> WriteAnswer {
+pub(crate) fn answer_to(text: &[u8], service: Service, out: &mut [u8]) -> Result<usize, Refusal> {
     match service {
         Service::Print => place_print::print_text(text, out),
         Service::PrintBoxes => place_boxes::print_boxes(text, out),

@@ -2,7 +2,6 @@
 ghost use Rattle.std.specs.Prelude.{◌+◌, ◌≤◌, ◌<◌, length};
 
 use crate::fields::{after, index_of, part};
-use num_text::Number;
 
 // One byte more, where there is room.
 fn put(out: &mut [u8], at: usize, b: u8) -> usize {
@@ -79,10 +78,8 @@ fn unescape(s: &[u8], out: &mut [u8], at: usize) -> usize {
 
 fn repeat(s: &[u8], times: u64, out: &mut [u8], at: usize) -> usize {
     let mut a = at;
-    let mut i: u64 = 0;
-    while i < times {
+    for i in 0..times {
         a = unescape(s, out, a);
-        i += 1;
     }
     a
 }
@@ -98,10 +95,10 @@ fn put_repeated(s: &[u8], j: usize, e: usize, out: &mut [u8], at: usize) -> usiz
     if star <= j {
         return at;
     }
-    let Number::Value(_, times) = num_text::read_number(&s[j + 1..star]) else {
+    let Some(times) = num_text::read_number(&s[j + 1..star]) else {
         return at;
     };
-    repeat(&s[star + 1..e], times, out, at)
+    repeat(&s[star + 1..e], times.magnitude, out, at)
 }
 
 // The text that a vector stands for; the answer is its length.

@@ -1,9 +1,7 @@
 // Values written into lent buffers, and constructors.
 use crate::fields::{is_at, number_at, signed_at, spots_at};
 use crate::report::{FILL, print_length};
-use model::{
-    Chip, Die, DieMade, Fix, FixMade, Mac, MacMade, Net, NetMade, Outcome, Pin, PinMade, Record,
-};
+use model::{Chip, Die, Fix, Mac, Net, Outcome, Pin, Record};
 
 fn write_chip(c: Chip, room: usize, out: &mut [u8]) {
     if room <= out.len() {
@@ -51,58 +49,23 @@ pub(crate) fn none(s: &[u8]) {
     record(r, number_at(s, 2) as usize);
 }
 
-fn die_made(w: u64, h: u64) -> bool {
-    match Die::new(w, h) {
-        DieMade::Made(_) => true,
-        DieMade::Outside => false,
-    }
-}
-
-fn fix_made(x: u64, y: u64, w: u64, h: u64) -> bool {
-    match Fix::new(x, y, w, h) {
-        FixMade::Made(_) => true,
-        FixMade::Outside => false,
-    }
-}
-
-fn mac_made(w: u64, h: u64) -> bool {
-    match Mac::new(w, h) {
-        MacMade::Made(_) => true,
-        MacMade::Outside => false,
-    }
-}
-
-fn net_made(weight: u64, pins: usize) -> bool {
-    match Net::new(weight, pins) {
-        NetMade::Made(_) => true,
-        NetMade::Outside => false,
-    }
-}
-
-fn pin_made(m: usize, x: i64, y: i64) -> bool {
-    match Pin::new(m, x, y) {
-        PinMade::Made(_) => true,
-        PinMade::Outside => false,
-    }
-}
-
 // Whether the thing of a line is made of its numbers.
 fn is_made(s: &[u8]) -> bool {
     let a = number_at(s, 3);
     let b = number_at(s, 4);
     if is_at(s, 2, b"die") {
-        return die_made(a, b);
+        return Die::new(a, b).is_some();
     }
     if is_at(s, 2, b"fix") {
-        return fix_made(a, b, number_at(s, 5), number_at(s, 6));
+        return Fix::new(a, b, number_at(s, 5), number_at(s, 6)).is_some();
     }
     if is_at(s, 2, b"mac") {
-        return mac_made(a, b);
+        return Mac::new(a, b).is_some();
     }
     if is_at(s, 2, b"net") {
-        return net_made(a, b as usize);
+        return Net::new(a, b as usize).is_some();
     }
-    pin_made(a as usize, signed_at(s, 4), signed_at(s, 5))
+    Pin::new(a as usize, signed_at(s, 4), signed_at(s, 5)).is_some()
 }
 
 // make NAME THING NUMBERS

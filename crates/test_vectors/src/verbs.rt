@@ -3,10 +3,11 @@ ghost use Rattle.std.specs.Prelude.{◌≤◌, length};
 
 use crate::blocks::Asked;
 use crate::fields::{index_of, is_at, number_at, print_at};
+use crate::rule::blank_chip;
 use crate::searching::Service;
 use crate::unfold::text_at;
 use crate::{besides, blocks, chips, fitting, measuring, reading, searching, values};
-use model::Chip;
+use model::{Chip, Die};
 
 // What the next lines are about: a chip, and the length of the text in the buffer beside it.
 #[derive(Clone, Copy)]
@@ -25,11 +26,13 @@ fn bytes_of(text: &[u8], n: usize) -> usize
     n
 }
 
-// The chip that the first n bytes of a text mean.
+// The chip that the first n bytes of a text mean, or one that holds nothing.
 fn chip_in(text: &[u8], n: usize) -> Chip {
     let e = bytes_of(text, n);
-    let read = chip_read::read_chip(&text[0..e]);
-    read.chip
+    match chip_read::read_chip(&text[0..e]) {
+        Ok(c) => c,
+        Err(_) => blank_chip(Die { w: 0, h: 0 }),
+    }
 }
 
 fn read_first(s: &[u8], text: &[u8], n: usize) {

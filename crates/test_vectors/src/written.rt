@@ -13,10 +13,8 @@ fn put_byte(out: &mut [u8], at: usize, b: u8) -> usize {
 
 fn put(out: &mut [u8], at: usize, text: &[u8]) -> usize {
     let mut a = at;
-    let mut i: usize = 0;
-    while i < text.len() {
+    for i in 0..text.len() {
         a = put_byte(out, a, text[i]);
-        i += 1;
     }
     a
 }
@@ -39,13 +37,11 @@ fn put_spot(out: &mut [u8], at: usize, m: u64, s: Spot) -> usize {
 
 fn put_spots(out: &mut [u8], at: usize, spots: [Spot; Mac::COUNT], n: usize) -> usize {
     let mut a = at;
-    let mut i: usize = 0;
-    while i < Mac::COUNT {
+    for i in 0..Mac::COUNT {
         if n <= i {
             return a;
         }
         a = put_spot(out, a, i as u64 + 1, spots[i]);
-        i += 1;
     }
     a
 }
@@ -92,8 +88,7 @@ fn put_boxes(out: &mut [u8], at: usize, c: Chip, spots: [Spot; Mac::COUNT]) -> u
     let t = c.t;
     let mut a = at;
     let mut from: usize = 0;
-    let mut j: usize = 0;
-    while j < Net::COUNT {
+    for j in 0..Net::COUNT {
         if t <= j {
             return a;
         }
@@ -101,7 +96,6 @@ fn put_boxes(out: &mut [u8], at: usize, c: Chip, spots: [Spot; Mac::COUNT]) -> u
         let e = extent_of(spots, pins, from, net.pins);
         a = put_box(out, a, j as u64 + 1, e);
         from = after(from, net);
-        j += 1;
     }
     a
 }

@@ -32,25 +32,6 @@ module _ {S : Type 0} where
 
 -- ---- the tests of a line, in the form of the needs of the function that makes them
 
-module _ (p r q : Bool) where
-  pub no_place : not p ≡ true → 5 ≡ entry_by p r q
-  unfolding entry_by
-  no_place h = rw (not-true p h)
-
-  module _ (placed : not p ≡ false) where
-    pub no_room : not r ≡ true → 6 ≡ entry_by p r q
-    unfolding entry_by
-    no_room h = rw (not-false p placed, not-true r h)
-
-    module _ (spaced : not r ≡ false) where
-      pub no_pin_law : not q ≡ true → 7 ≡ entry_by p r q
-      unfolding entry_by
-      no_pin_law h = rw (not-false p placed, not-false r spaced, not-true q h)
-
-      pub no_fault : not q ≡ false → 0 ≡ entry_by p r q
-      unfolding entry_by
-      no_fault h = rw (not-false p placed, not-false r spaced, not-false q h)
-
 -- ---- a line that passes
 
 module _ {W S : Type 0} (k : Kind W S) (s : S) (w : W) where

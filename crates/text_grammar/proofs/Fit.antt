@@ -10,8 +10,7 @@ use lib.Seq.{sets, sets-eq}
 use borrow.Author.Tests.{lt-leb, le-leb}
 use Rattle.num_text.specs.Held.{Wrote}
 use Rattle.model.specs.declared.Refusal.{Refusal}
-use Rattle.model.specs.declared.Tested.{Tested}
-use Rattle.model.specs.declared.Tested.TheVariants as tested
+use Rattle.std.specs.Prelude.{Result, Ok, Err}
 use Rattle.text_grammar.specs.Reading.{Reading, accepted}
 use Rattle.text_grammar.specs.Writing.{wrote, not_written, tested_as, refuse, if_room, write_text}
 
@@ -30,11 +29,11 @@ module _ (text x y b : List ℕ) (n : ℕ) (short : length text ≤ 65536) (told
       whole = rw zero-add at (sets-eq text b 0 (omega (arith, told.place)))
 
 -- a value whose text is read as the test of it says, in the form of the needs of its writer; an accepted text has at most `most` bytes
-module _ {A : Type 0} (read : List ℕ → Reading A) (most : ℕ) (short : (t : List ℕ) (a : A) → read t ≡ accepted a → length t ≤ most) (a : A) (text out : List ℕ) (r : Tested) (e : tested_as a r ≡ read text) where
-  pub test_refused : (f : Refusal) → r ≡ tested.Refused f → record { answer = not_written f.no f.line; buffer = out } ≡ write_text (read text) text out
+module _ {A : Type 0} (read : List ℕ → Reading A) (most : ℕ) (short : (t : List ℕ) (a : A) → read t ≡ accepted a → length t ≤ most) (a : A) (text out : List ℕ) (r : Result (Unit {0}) Refusal) (e : tested_as a r ≡ read text) where
+  pub test_refused : (f : Refusal) → r ≡ Err f → record { answer = not_written f.no f.line; buffer = out } ≡ write_text (read text) text out
   test_refused f p = rw (← e, p)
 
-  module _ (p : r ≡ tested.Passed) (few : most ≤ 65536) (b m : List ℕ) (n : ℕ) (w : Wrote b m text 0 n) where
+  module _ (p : r ≡ Ok tt) (few : most ≤ 65536) (b m : List ℕ) (n : ℕ) (w : Wrote b m text 0 n) where
     in_reach : length text ≤ 65536
     in_reach = let l = short text a (sym (rw p at e)) in omega arith
 

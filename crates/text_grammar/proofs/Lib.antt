@@ -17,5 +17,4 @@ pub mod Choice
 pub mod OneLine
 pub mod Lengths
 pub mod Numbers
-pub mod Strings
 pub mod SameText

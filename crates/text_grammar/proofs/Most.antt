@@ -8,12 +8,6 @@ use borrow.Author.Tests.{le-leb, lt-leb}
 use Rattle.text_grammar.specs.Steps.{need}
 
 module _ (f v most : ℕ) where
-  pub above : most < v → f ≡ need (leb v most) f 0
-  above h = rw (lt-leb v most h)
-
-  pub within : v ≤ most → 0 ≡ need (leb v most) f 0
-  within h = rw (le-leb v most h)
-
   module _ (n : ℕ) (e : n ≡ need (leb v most) f 0) where
     pub told_above : (n ≡ 0 → ⊥) → (n ≡ f) × (most < v)
     told_above z = by (dec_le v most)

@@ -1,6 +1,7 @@
 -- Lines and their fields. Document 01, "The chip file": lines end with LF; each line is a word, then each value after its field name,
 -- in fixed order, parted by commas.
 use Rattle.std.specs.Prelude.{ℕ, List, [], ◌∷◌, ◌++◌, Bool, true, false, ◌&&◌, ◌||◌, eqb, leb, length, ℤ}
+use Rattle.std.specs.List.{list_any}
 use Rattle.num_text.specs.Number.{Numeral, no_number, numeral_of, number_text, all_of}
 use Rattle.num_text.specs.Number as decimal
 use Rattle.model.specs.Step.{Step, next, fault, check, on_next}
@@ -64,8 +65,7 @@ numbered no_number r = fault 3
 
 -- b is one of the bytes of a set
 unfoldable pub is_of : List ℕ → ℕ → Bool
-is_of [] b = false
-is_of (a ∷ set) b = eqb b a || is_of set b
+is_of set b = list_any (eqb b) set
 
 -- s has bytes of the set only, and a length from lo to hi
 abbrev pub is_string : List ℕ → ℕ → ℕ → List ℕ → Bool

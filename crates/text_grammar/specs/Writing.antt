@@ -1,10 +1,7 @@
 -- What writing a value leaves in a lent buffer. Document 01: a value is tested first as its text would be, then 15; a refusal writes nothing;
 -- bytes past a written text are not touched.
-use Rattle.std.specs.Prelude.{ℕ, List, ◌++◌, Bool, true, false, leb, length, drop}
-use Rattle.model.specs.declared.WriteAnswer.{WriteAnswer}
-use Rattle.model.specs.declared.WriteAnswer.TheVariants as write
-use Rattle.model.specs.declared.Tested.{Tested}
-use Rattle.model.specs.declared.Tested.TheVariants as tested
+use Rattle.std.specs.Prelude.{ℕ, List, ◌++◌, Bool, true, false, leb, length, drop, Result, Ok, Err}
+use Rattle.model.specs.declared.Refusal.{Refusal}
 use Rattle.text_grammar.specs.Reading.{Reading, accepted, refused}
 
 -- what a writer answers: the length of the text written, or number and line
@@ -13,14 +10,14 @@ pub data Answer : Type 0 where
   not_written : ℕ → ℕ → Answer
 
 -- document 01's number and values for each case of the program's answer
-abbrev pub answer_of : WriteAnswer → Answer
-answer_of (write.Text n) = wrote n
-answer_of (write.Refused f) = not_written f.no f.line
+abbrev pub answer_of : Result ℕ Refusal → Answer
+answer_of (Ok n) = wrote n
+answer_of (Err f) = not_written f.no f.line
 
 -- the same for the answer of a test of the value a
-abbrev pub tested_as : {A : Type 0} → A → Tested → Reading A
-tested_as a tested.Passed = accepted a
-tested_as a (tested.Refused f) = refused f.no f.line
+abbrev pub tested_as : {A : Type 0} → A → Result (Unit {0}) Refusal → Reading A
+tested_as a (Ok _) = accepted a
+tested_as a (Err f) = refused f.no f.line
 
 -- the answer and the buffer that it leaves
 pub record Written : Type 0 where

@@ -2,6 +2,7 @@
 #![tactic(auto)]
 
 ghost use Rattle.std.specs.Prelude.{◌≡◌, leb, take};
+ghost use Rattle.num_text.specs.Number.{all_of};
 ghost use Rattle.text_grammar.specs.Line.{is_of, is_string};
 ghost use Rattle.text_grammar.specs.Steps.{need, entry_by};
 ghost use Rattle.text_grammar.specs.Follow.{followed_by, followed_by_none};
@@ -75,6 +76,7 @@ pub fn rest_fault(n: usize, a: usize) -> usize
 }
 
 // The first fault of a line before its fields, by the tests of place, count and pins: 5, 6, 7; or 0.
+#[tactic(auto, unfolding(crate::specs::Steps::entry_by))]
 pub fn entry_fault(placed: bool, room: bool, pinned: bool) -> usize
     ensures { result ≡ entry_by placed room pinned }
 {
@@ -104,56 +106,36 @@ pub fn name_fault(other: usize) -> usize
 pub fn is_absent(other: usize, v: u64) -> bool
     ensures { result ≡ is_absent other v }
 {
-    if other == 0 {
-        return false;
-    }
-    v == ABSENT
+    other != 0 && v == ABSENT
 }
 
 // The place of the rule after that at j: the next, or `other` places further on where the field is absent; at most RULES, where there is none.
 pub fn next_place(j: usize, other: usize, absent: bool) -> usize
     ensures { result ≡ next_place j other absent }
 {
-    if RULES <= j {
-        return RULES;
-    }
-    let next = j + 1;
-    if !absent {
-        return next;
-    }
-    if RULES - j < other {
-        return RULES;
-    }
-    j + other
+    let step = if absent { other } else { 1 };
+    j.saturating_add(step).min(RULES)
 }
 
 // Whether b is one of the first `letters` bytes of a set.
+#[tactic(auto, unfolding(crate::specs::Line::is_of))]
 fn is_of(set: [u8; 4], letters: usize, b: u8) -> bool
     ensures { result ≡ is_of (take letters set) b }
 {
-    let mut i: usize = 0;
-    while i < 4 {
-        if letters <= i {
-            return false;
-        }
-        if b == set[i] {
-            return true;
-        }
-        i += 1;
-    }
-    false
+    set.iter().take(letters).any(|a| b == *a)
+}
+
+// Whether s has only bytes of that set.
+#[tactic(auto, unfolding(num_text::specs::Number::all_of))]
+fn all_of(s: &[u8], set: [u8; 4], letters: usize) -> bool
+    ensures { result ≡ all_of (is_of (take letters set)) s.now }
+{
+    s.iter().all(|b| is_of(set, letters, *b))
 }
 
 // Whether s has only bytes of that set, and a length from least to most.
 pub fn is_string(s: &[u8], set: [u8; 4], letters: usize, least: u64, most: u64) -> bool
     ensures { result ≡ is_string (take letters set) least most s.now }
 {
-    let mut i: usize = 0;
-    while i < s.len() {
-        if !is_of(set, letters, s[i]) {
-            return false;
-        }
-        i += 1;
-    }
-    model::within(s.len() as u64, least, most)
+    all_of(s, set, letters) && model::within(s.len() as u64, least, most)
 }

@@ -10,6 +10,7 @@ use lib.ListN.{length, get_or, take, drop, set, replicate, drop_of_length-le}
 use lib.Seq.{drop-cons, get_or-set_same, get_or-set_other, take-suc-set}
 use mathlib.Core.Bool.{Bool, not, true, false}
 use borrow.Author.Tests.{le-leb, lt-leb, not-true}
+use Rattle.std.specs.Prelude.{Result, Ok, Err, Option, Some, None}
 use Rattle.model.specs.declared.Refusal.{Refusal}
 use Rattle.model.specs.Counted.{Holds}
 use Rattle.model.specs.Held.{filled}
@@ -21,10 +22,6 @@ use Rattle.model.specs.Step.{Step, next, fault}
 use Rattle.text_grammar.specs.Line.{comma, up_to, Value, number, string, absent, and_then, Form, over, fields, if_absent}
 use Rattle.text_grammar.specs.Choice.{is_absent, next_place}
 use Rattle.text_line.specs.declared.Rule.{Rule as HeldRule}
-use Rattle.text_line.specs.declared.Field.{Field}
-use Rattle.text_line.specs.declared.Field.TheVariants as field
-use Rattle.text_line.specs.declared.Fields.TheVariants as held
-use Rattle.text_line.specs.declared.FieldsRead.{FieldsRead}
 use Rattle.text_line.specs.Held.{lowered}
 use Rattle.text_line.specs.Layout.{rule_at, pick, is_number, way_of, form_at, value_in, place_after, values_at, numbers_at, form_of, values_of, is_layout, Laid, located, read_fields, FieldsOk}
 use Rattle.text_line.proofs.Ways.{form_ends, values_end, form_goes_on, values_go_on, way_taken}
@@ -62,9 +59,6 @@ prefixed_all (z ∷ zs) = rw (prefixed_all zs)
 
 -- ---- what the loop keeps
 
-pub read_place : (text : List ℕ) (a l v b : ℕ) (r : HeldRule) (f : Field) → FieldOk text a r l f → f ≡ field.Value v b → b ≤ length text
-read_place text a l v b r f one e = let g : Got text a r v b = subst (FieldOk text a r l) e one in g.place
-
 -- the first i fields have the values vs, and the next one begins at a and has its rule at place j
 pub record ReadTo (rs : List HeldRule) (text vs : List ℕ) (a j i : ℕ) : Type 0 where
   pub room : Holds 0 4 i vs
@@ -79,27 +73,27 @@ read_none rs text = record { room = holds_none 0 4; far = []; kept = refl; again
 
 -- ---- the whole answer, by what it means
 
-refused_answer : (rs : List HeldRule) (l : ℕ) (text : List ℕ) (r : Refusal) → refused r.no r.line ≡ read_fields rs l text → FieldsOk rs l text (record { answer = held.Refused r; values = 0 ∷ 0 ∷ 0 ∷ 0 ∷ [] })
+refused_answer : (rs : List HeldRule) (l : ℕ) (text : List ℕ) (r : Refusal) → refused r.no r.line ≡ read_fields rs l text → FieldsOk rs l text (Err r)
 refused_answer rs l text r e = record { meant = e; whole = rw (← e) }
 
-got_answer : (rs : List HeldRule) (l : ℕ) (text vs : List ℕ) (i : ℕ) → Holds 0 4 i vs → numbers_at rs text 0 0 (values_of rs text vs) ≡ take i vs → accepted (values_of rs text vs) ≡ read_fields rs l text → FieldsOk rs l text (record { answer = held.Got; values = vs })
-got_answer rs l text vs i h q e = record { meant = e; whole = rw (← e) (ap (λ (t : List ℕ). record { answer = held.Got; values = t }) (sym back)) }
+got_answer : (rs : List HeldRule) (l : ℕ) (text vs : List ℕ) (i : ℕ) → Holds 0 4 i vs → numbers_at rs text 0 0 (values_of rs text vs) ≡ take i vs → accepted (values_of rs text vs) ≡ read_fields rs l text → FieldsOk rs l text (Ok vs)
+got_answer rs l text vs i h q e = record { meant = e; whole = rw (← e) (ap Ok (sym back)) }
   where
     back : filled 4 0 (numbers_at rs text 0 0 (values_of rs text vs)) ≡ vs
     back = rw (q, ← first_take 0 i vs (holds_all h)) (filled_again 0 4 i vs h)
 
 -- a layout beyond the limits
-pub no_layout : (rs : List HeldRule) (l : ℕ) (text : List ℕ) (r : Bool) → r ≡ is_layout rs → not r ≡ true → FieldsOk rs l text (record { answer = held.Refused (record { no = 2; line = l }); values = 0 ∷ 0 ∷ 0 ∷ 0 ∷ [] })
+pub no_layout : (rs : List HeldRule) (l : ℕ) (text : List ℕ) (r : Bool) → r ≡ is_layout rs → not r ≡ true → FieldsOk rs l text ((Err (record { no = 2; line = l })))
 unfolding read_fields
 no_layout rs l text r e h = refused_answer rs l text (record { no = 2; line = l }) (rw (← e, not-true r h, read_fields))
 
 -- ---- the fault of leftover bytes
 
-pub left_over : (m l : ℕ) (vs : List ℕ) (n : ℕ) → n ≡ m → (n ≡ 0 → ⊥) → record { answer = held.Refused (record { no = n; line = l }); values = 0 ∷ 0 ∷ 0 ∷ 0 ∷ [] } ≡ end_answer m l vs
+pub left_over : (m l : ℕ) (vs : List ℕ) (n : ℕ) → n ≡ m → (n ≡ 0 → ⊥) → Err (record { no = n; line = l }) ≡ end_answer m l vs
 left_over zero l vs n e z = absurd (z e)
 left_over (suc m) l vs n e z = rw e
 
-pub none_left : (m l : ℕ) (vs : List ℕ) (n : ℕ) → n ≡ m → n ≡ 0 → record { answer = held.Got; values = vs } ≡ end_answer m l vs
+pub none_left : (m l : ℕ) (vs : List ℕ) (n : ℕ) → n ≡ m → n ≡ 0 → Ok vs ≡ end_answer m l vs
 none_left m l vs n e z = rw (← e, z)
 
 -- ---- the steps
@@ -109,10 +103,7 @@ module _ (rs : List HeldRule) (text vs : List ℕ) (a j i : ℕ) (inv : ReadTo r
   unfolding read_fields
   means = rw (ok.fine, read_fields)
 
-  module _ (r : HeldRule) (e : r ≡ rule_at rs j) (size : r.size ≡ 0 → ⊥) (h : i < 4) (f : Field) (one : FieldOk text a r l f) where
-    here : FieldOk text a (rule_at rs j) l f
-    here = subst (λ (r : HeldRule). FieldOk text a r l f) e one
-
+  module _ (r : HeldRule) (e : r ≡ rule_at rs j) (size : r.size ≡ 0 → ⊥) (h : i < 4) where
     there : (rule_at rs j).size ≡ 0 → ⊥
     there = rw e at size
 
@@ -129,14 +120,14 @@ module _ (rs : List HeldRule) (text vs : List ℕ) (a j i : ℕ) (inv : ReadTo r
     kept_here : fields (form_of rs) text ≡ prefixed inv.far (fields (way_of (rule_at rs j) first second) (drop a text))
     kept_here = let q : 4 - i ≡ suc more = omega arith in inv.kept ∙ rw (q, form_goes_on more rs j there)
 
-    pub read_refused : (x : Refusal) → f ≡ field.Refused x → FieldsOk rs l text (record { answer = held.Refused x; values = 0 ∷ 0 ∷ 0 ∷ 0 ∷ [] })
-    read_refused x q =
-        let g : Faulty text a (rule_at rs j) l x = subst (FieldOk text a (rule_at rs j) l) q here in
+    pub read_refused : (x : Refusal) → Faulty text a r l x → FieldsOk rs l text (Err x)
+    read_refused x one =
+        let g : Faulty text a (rule_at rs j) l x = subst (λ (r : HeldRule). Faulty text a r l x) e one in
         refused_answer rs l text x (rw (means, kept_here, g.read first second, prefixed_faulty, g.at))
 
-    pub read_more : (v b : ℕ) → f ≡ field.Value v b → (t : Bool) → t ≡ is_absent r.other v → (p : ℕ) → p ≡ next_place j r.other t → ReadTo rs text (set vs i v) b p (i + 1)
+    pub read_more : (v b : ℕ) → Got text a r v b → (t : Bool) → t ≡ is_absent r.other v → (p : ℕ) → p ≡ next_place j r.other t → ReadTo rs text (set vs i v) b p (i + 1)
     unfolding numbers_at
-    read_more v b q t u p w =
+    read_more v b one t u p w =
         let d = inv.room.long in
         record { room = holds_more inv.room v h; far = inv.far ++ (z ∷ []); kept = kept_on; again = again_on; held = held_on }
       where
@@ -144,7 +135,7 @@ module _ (rs : List HeldRule) (text vs : List ℕ) (a j i : ℕ) (inv : ReadTo r
         z = value_in text (rule_at rs j) v
 
         g : Got text a (rule_at rs j) v b
-        g = subst (FieldOk text a (rule_at rs j) l) q here
+        g = subst (λ (r : HeldRule). Got text a r v b) e one
 
         place : place_after rs j v ≡ p
         place = sym (w ∙ rw (u, e))
@@ -165,7 +156,7 @@ module _ (rs : List HeldRule) (text vs : List ℕ) (a j i : ℕ) (inv : ReadTo r
             (sym (append_assoc (take i vs) (v ∷ []) (numbers_at rs text p b zs)))
 
   -- no field is left
-  module _ (x : FieldsRead) (e : x ≡ end_answer (need (leb (length text) a) 2 0) l vs) where
+  module _ (x : Result (List ℕ) Refusal) (e : x ≡ end_answer (need (leb (length text) a) 2 0) l vs) where
     ended : form_at (4 - i) rs j ≡ over → values_at (4 - i) rs text vs j i ≡ [] → FieldsOk rs l text x
     unfolding fields numbers_at
     ended over-here none_here = by (dec_le (length text) a)

@@ -13,16 +13,6 @@ use Rattle.text_grammar.specs.Choice.{rule_room}
 use Rattle.text_line.specs.declared.Rule.{Rule as HeldRule}
 use Rattle.text_line.specs.Layout.{no_rule, rule_at, Sane, is_sane, is_layout, Laid}
 
--- past the last rule is none
-pub past_rules : (rs : List HeldRule) (j : ℕ) (r : HeldRule) → length rs ≡ rule_room → rule_room ≤ j → r ≡ no_rule → r ≡ rule_at rs j
-past_rules rs j r l h e = e ∙ sym (get_or-eq_default rs no_rule {n = j} (omega arith))
-
--- a place within the array is a rule of it
-pub rule_here : (rs : List HeldRule) (z : HeldRule) (j : ℕ) → j < length rs → get_or rs j z ≡ rule_at rs j
-rule_here [] z j h = absurd (omega arith)
-rule_here (r ∷ rs) z zero h = refl
-rule_here (r ∷ rs) z (suc j) h = rule_here rs z j (omega arith)
-
 both : (a b : Bool) → (a && b) ≡ true → (a ≡ true) × (b ≡ true)
 both true b e = (refl, e)
 both false b e = absurd (false≢true e)

@@ -6,7 +6,6 @@ pub mod Range
 pub mod OneField
 pub mod Ways
 pub mod AllFields
-pub mod Limits
 pub mod Find
 pub mod Layouts
 pub mod Worded

@@ -11,8 +11,8 @@ use lib.IntN.{pos, negsuc}
 use lib.ListN.{length, take, drop, length-drop}
 use lib.Seq.{drop-drop}
 use borrow.Author.Tests.{eq-eqb, ne_eqb, leb-true, not-true, not-false}
+use Rattle.std.specs.Prelude.{Result, Ok, Err, Option, Some, None}
 use Rattle.num_text.specs.declared.Number.{Number}
-use Rattle.num_text.specs.declared.Number.TheVariants as held
 use Rattle.num_text.specs.Number.{Numeral, number, no_number, numeral_of}
 use Rattle.num_text.specs.Held.{cap, held_number}
 use Rattle.model.specs.Held.{raised}
@@ -23,8 +23,8 @@ use Rattle.text_grammar.specs.Choice.{absent_held, name_fault, is_absent}
 use Rattle.text_grammar.proofs.Choice.{told_must, told_may, absent_is, value_is, place_is}
 use Rattle.text_grammar.proofs.FieldsText.{valued}
 use Rattle.text_grammar.proofs.Lacks.{and_right}
+use Rattle.model.specs.declared.Refusal.{Refusal}
 use Rattle.text_line.specs.declared.Rule.{Rule as HeldRule}
-use Rattle.text_line.specs.declared.Field.{Field}
 use Rattle.text_line.specs.Held.{lowered}
 use Rattle.text_line.specs.Layout.{mark_of, is_number, range_of, rule_of, must_stand, pick, end_from, Sane}
 use Rattle.text_line.specs.Steps.{Starts, if_in_range, within, Got, Faulty, FieldOk}
@@ -47,7 +47,7 @@ lowered_again zero v = omega arith
 lowered_again (suc u) v = raised_again (suc u) v
 
 module _ (text : List ℕ) (a : ℕ) (r : HeldRule) (l b v : ℕ) (h : b ≤ length text) (ends : end_from text (a + r.size) ≡ b) (ok : Sane r) (plain : r.letters ≡ 0) where
-  answered : (t : Bool) → within r v ≡ t → (f : Field) → f ≡ if_in_range t v b l → ((more : List ℕ → Step (List Value)) (else : Step (List Value)) → marked (strip (mark_of r) (drop a text)) (rule_of r) more else ≡ valued (ranged t (lowered r.up v)) (more (drop b text))) → FieldOk text a r l f
+  answered : (t : Bool) → within r v ≡ t → (f : Result (ℕ × ℕ) Refusal) → f ≡ if_in_range t v b l → ((more : List ℕ → Step (List Value)) (else : Step (List Value)) → marked (strip (mark_of r) (drop a text)) (rule_of r) more else ≡ valued (ranged t (lowered r.up v)) (more (drop b text))) → FieldOk text a r l f
   answered true q f e p = rw e (record { place = h; read = λ f g. way_read (must_stand r) (rule_of r) f g (drop a text) _ (p (λ t. fields f t)) ∙ rw (in_top r v ok q, number); held = rw (in_top r v ok q, number) (lowered_again r.up v); ends = rw (in_top r v ok q, number) ends })
     where
       number : is_number r ≡ true
@@ -121,25 +121,32 @@ module _ (text : List ℕ) (a : ℕ) (r : HeldRule) (t : Bool) (st : Starts r.ma
         read_number : (more : List ℕ → Step (List Value)) (else : Step (List Value)) → marked (strip (mark_of r) (drop a text)) (rule_of r) more else ≡ valued (numbered (numeral_of bytes) (range_of r)) (more (drop (past a r + n) text))
         read_number more else = read_value more else ∙ rw (eq-eqb r.letters 0 plain)
 
-        module _ (x : Number) (q : x ≡ held_number (numeral_of bytes)) (ok : Sane r) (l : ℕ) where
-          pub no_number_law : x ≡ held.Bad → Faulty text a r l (record { no = 3; line = l })
+        module _ (x : Option Number) (q : x ≡ held_number (numeral_of bytes)) (ok : Sane r) (l : ℕ) where
+          pub no_number_law : x ≡ None → Faulty text a r l (record { no = 3; line = l })
           no_number_law b = no_value l 3 (λ more. rw (eq-eqb r.letters 0 plain) (no_number_held r ok.top more (numeral_of bytes) (cc)))
 
-          module _ (g : Bool) (m : ℕ) (i : x ≡ held.Value g m) where
-            pub too_far_below : g ≡ true → r.up < m → Faulty text a r l (record { no = 4; line = l })
-            too_far_below s d = no_value l 4 (λ more. rw (eq-eqb r.letters 0 plain) (below_held r ok.top more (numeral_of bytes) m (cc) d))
+          module _ (m : Number) (i : x ≡ Some m) where
+            signed : (b : Bool) → m.negative ≡ b → Some (record { negative = b; magnitude = m.magnitude }) ≡ held_number (numeral_of bytes)
+            signed b e = rw (← e) (sym i ∙ q)
 
-            pub negative : (f : Field) → g ≡ true → m ≤ r.up → f ≡ if_in_range (within r (r.up - m)) (r.up - m) (past a r + n) l → FieldOk text a r l f
-            negative f s d w = answered text a r l (past a r + n) (r.up - m) field_end ends_at ok plain (within r (r.up - m)) refl f w (λ more else. read_number more else ∙ negative_held r ok.top (more (drop (past a r + n) text)) (numeral_of bytes) m (cc) ok.shift d)
+            pub too_far_below : m.negative ≡ true → r.up < m.magnitude → Faulty text a r l (record { no = 4; line = l })
+            too_far_below s d = no_value l 4 (λ more. rw (eq-eqb r.letters 0 plain) (below_held r ok.top more (numeral_of bytes) m.magnitude (signed true s) d))
 
-            pub positive : (f : Field) → g ≡ false → f ≡ if_in_range (within r (r.up + m)) (r.up + m) (past a r + n) l → FieldOk text a r l f
-            positive f s w = answered text a r l (past a r + n) (r.up + m) field_end ends_at ok plain (within r (r.up + m)) refl f w (λ more else. read_number more else ∙ positive_held r ok.top (more (drop (past a r + n) text)) (numeral_of bytes) m (cc))
+            pub negative : (f : Result (ℕ × ℕ) Refusal) → m.negative ≡ true → m.magnitude ≤ r.up → f ≡ if_in_range (within r (r.up - m.magnitude)) (r.up - m.magnitude) (past a r + n) l → FieldOk text a r l f
+            negative f s d w = answered text a r l (past a r + n) (r.up - m.magnitude) field_end ends_at ok plain (within r (r.up - m.magnitude)) refl f w (λ more else. read_number more else ∙ negative_held r ok.top (more (drop (past a r + n) text)) (numeral_of bytes) m.magnitude (signed true s) ok.shift d)
+
+            pub positive : (f : Result (ℕ × ℕ) Refusal) → m.negative ≡ false → f ≡ if_in_range (within r (r.up + m.magnitude)) (r.up + m.magnitude) (past a r + n) l → FieldOk text a r l f
+            positive f s w = answered text a r l (past a r + n) (r.up + m.magnitude) field_end ends_at ok plain (within r (r.up + m.magnitude)) refl f w (λ more else. read_number more else ∙ positive_held r ok.top (more (drop (past a r + n) text)) (numeral_of bytes) m.magnitude (signed false s))
 
 -- a magnitude stays in a machine word
-pub magnitude_fits : (s : List ℕ) (x : Number) (g : Bool) (m u : ℕ) → x ≡ held_number (numeral_of s) → x ≡ held.Value g m → u ≤ 4096 → Fits w64 (u + m)
-magnitude_fits s x g m u q i h = let k = by (numeral_of s) (sym i ∙ q) in omega arith
+pub magnitude_fits : (s : List ℕ) (x : Option Number) (m : Number) (u : ℕ) → x ≡ held_number (numeral_of s) → x ≡ Some m → u ≤ 4096 → Fits w64 (u + m.magnitude)
+magnitude_fits s x m u q i h = let k = by (numeral_of s) (sym i ∙ q) in omega arith
   where
-    by : (z : Numeral) → held.Value g m ≡ held_number z → m ≤ cap
-    by (number (pos n)) e = let w : m ≡ min cap n = cc in omega arith
-    by (number (negsuc n)) e = let w : m ≡ min cap (suc n) = cc in omega arith
-    by no_number e = never (cc)
+    size : Option Number → ℕ
+    size (Some o) = o.magnitude
+    size None = 0
+
+    by : (z : Numeral) → Some m ≡ held_number z → m.magnitude ≤ cap
+    by (number (pos n)) e = let w : m.magnitude ≡ min cap n = ap size e in omega arith
+    by (number (negsuc n)) e = let w : m.magnitude ≡ min cap (suc n) = ap size e in omega arith
+    by no_number e = let w : m.magnitude ≡ 0 = ap size e in omega arith

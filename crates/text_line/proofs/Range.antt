@@ -9,8 +9,10 @@ use lib.Dec.{leb}
 use lib.IntN.{ℤ, pos, negsuc}
 use lib.Signed.{le_z}
 use borrow.Author.Tests.{lt-leb, not-true, not-false}
+use Rattle.std.specs.Prelude.{Result, Ok, Err, Option, Some, None}
+use Rattle.std.proofs.lemmas.Option.{none-some}
+use Rattle.num_text.specs.declared.Number.{Number}
 use Rattle.num_laws.proofs.Differences.{sub_up, sub_down, shift_order}
-use Rattle.num_text.specs.declared.Number.TheVariants as held
 use Rattle.num_text.specs.Number.{Numeral, number, no_number}
 use Rattle.num_text.specs.Held.{cap, held_number}
 use Rattle.model.specs.Step.{Step, next, fault, check}
@@ -18,18 +20,11 @@ use Rattle.text_grammar.specs.Line.{Value, numbered}
 use Rattle.text_grammar.specs.Line as line
 use Rattle.text_grammar.proofs.FieldsText.{valued}
 use Rattle.model.specs.Limits.{is_within}
+use Rattle.model.specs.declared.Refusal.{Refusal}
 use Rattle.text_line.specs.declared.Rule.{Rule as HeldRule}
-use Rattle.text_line.specs.declared.Field.TheVariants as field
 use Rattle.text_line.specs.Held.{lowered}
 use Rattle.text_line.specs.Layout.{range_of}
 use Rattle.text_line.specs.Steps.{out_of_range, if_in_range, within}
-
-module _ (r : HeldRule) (v b l : ℕ) (t : Bool) (e : t ≡ within r v) where
-  pub out_of_range_law : not t ≡ true → out_of_range l ≡ if_in_range (within r v) v b l
-  out_of_range_law h = rw (← e, not-true t h)
-
-  pub in_range_law : not t ≡ false → field.Value v b ≡ if_in_range (within r v) v b l
-  in_range_law h = rw (← e, not-false t h)
 
 -- ---- held values are ordered as the numbers are
 
@@ -69,23 +64,34 @@ module _ (r : HeldRule) (k : r.most < cap) (more : Step (List Value)) where
       by (yes h) = ap (λ (x : ℕ). valued (ranged (within r (r.up + x)) (lowered r.up (r.up + x))) more) (omega arith)
       by (no h) = rw (lt-leb (r.up + n) r.most (omega arith), lt-leb (r.up + m) r.most (omega arith)) (simp and-false)
 
-  pub no_number_held : (q : Numeral) → held.Bad ≡ held_number q → valued (numbered q (range_of r)) more ≡ fault 3
-  no_number_held (number (pos n)) e = never (cc)
-  no_number_held (number (negsuc n)) e = never (cc)
+  pub no_number_held : (q : Numeral) → None ≡ held_number q → valued (numbered q (range_of r)) more ≡ fault 3
+  no_number_held (number (pos n)) e = absurd (none-some _ e)
+  no_number_held (number (negsuc n)) e = absurd (none-some _ e)
   no_number_held no_number e = refl
 
-  pub positive_held : (q : Numeral) (m : ℕ) → held.Value false m ≡ held_number q → valued (numbered q (range_of r)) more ≡ valued (ranged (within r (r.up + m)) (lowered r.up (r.up + m))) more
-  positive_held (number (pos n)) m e = cut_range n m (cc)
-  positive_held (number (negsuc n)) m e = never (cc)
-  positive_held no_number m e = never (cc)
+  -- the parts of an answer, 0 where there is none
+  size : Option Number → ℕ
+  size (Some o) = o.magnitude
+  size None = 0
+
+  sign : Option Number → Bool
+  sign (Some o) = o.negative
+  sign None = false
+
+  pub positive_held : (q : Numeral) (m : ℕ) → Some (record { negative = false; magnitude = m }) ≡ held_number q → valued (numbered q (range_of r)) more ≡ valued (ranged (within r (r.up + m)) (lowered r.up (r.up + m))) more
+  unfolding size sign
+  positive_held (number (pos n)) m e = cut_range n m (ap size e)
+  positive_held (number (negsuc n)) m e = never (sym (ap sign e))
+  positive_held no_number m e = absurd (none-some _ (sym e))
 
   -- a number below 0 that is held
-  pub negative_held : (q : Numeral) (m : ℕ) → held.Value true m ≡ held_number q → r.up ≤ 4096 → m ≤ r.up → valued (numbered q (range_of r)) more ≡ valued (ranged (within r (r.up - m)) (lowered r.up (r.up - m))) more
-  negative_held (number (pos n)) m e u h = never (cc)
+  pub negative_held : (q : Numeral) (m : ℕ) → Some (record { negative = true; magnitude = m }) ≡ held_number q → r.up ≤ 4096 → m ≤ r.up → valued (numbered q (range_of r)) more ≡ valued (ranged (within r (r.up - m)) (lowered r.up (r.up - m))) more
+  unfolding size sign
+  negative_held (number (pos n)) m e u h = never (ap sign e)
   negative_held (number (negsuc n)) m e u h =
-      let c : m ≡ min cap (suc n) = cc in
+      let c : m ≡ min cap (suc n) = ap size e in
       held_range (negsuc n) (r.up - m) (sym (lowered_below r.up (r.up - m) (omega arith) ∙ ap negsuc (omega arith)))
-  negative_held no_number m e u h = never (cc)
+  negative_held no_number m e u h = never (ap sign e)
 
   -- and one that is too far below
   far_below : (n : ℕ) → r.up ≤ n → le_z (lowered r.up r.least) (negsuc n) ≡ false
@@ -95,7 +101,8 @@ module _ (r : HeldRule) (k : r.most < cap) (more : Step (List Value)) where
       by (yes l) = rw (lowered_below r.up r.least l, lt-leb n (r.up - suc r.least) (omega arith))
       by (no l) = rw (lowered_above r.up r.least (omega arith))
 
-  pub below_held : (q : Numeral) (m : ℕ) → held.Value true m ≡ held_number q → r.up < m → valued (numbered q (range_of r)) more ≡ fault 4
-  below_held (number (pos n)) m e h = never (cc)
-  below_held (number (negsuc n)) m e h = let c : m ≡ min cap (suc n) = cc in rw (far_below n (omega arith))
-  below_held no_number m e h = never (cc)
+  pub below_held : (q : Numeral) (m : ℕ) → Some (record { negative = true; magnitude = m }) ≡ held_number q → r.up < m → valued (numbered q (range_of r)) more ≡ fault 4
+  unfolding size sign
+  below_held (number (pos n)) m e h = never (ap sign e)
+  below_held (number (negsuc n)) m e h = let c : m ≡ min cap (suc n) = ap size e in rw (far_below n (omega arith))
+  below_held no_number m e h = never (ap sign e)

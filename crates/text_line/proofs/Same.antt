@@ -1,31 +1,26 @@
--- The steps of the comparison of two texts.
-use mathlib.Core.Path.{◌≡◌, refl}
-use mathlib.Core.Bool.{true, false, and-false}
+-- Two texts are the same bytes where they are so place by place.
+use mathlib.Core.Path.{◌≡◌, refl, sym, ap, ◌∙◌}
+use mathlib.Core.Bool.{Bool, ◌&&◌}
 use mathlib.Core.List.{List, [], ◌∷◌}
-use Prim.Native.Nat.{ℕ, ◌+◌, ◌≤◌, ◌<◌}
-use native.Mathlib.Numerals.{add-one}
+use Prim.Native.Nat.{ℕ, ◌≤◌, min}
+use native.Mathlib.Decide.{dec_le}
 use native.Mathlib.Omega.{arith}
-use lib.ListN.{length, get_or, drop, drop_of_length-le}
-use lib.Seq.{drop-cons}
-use borrow.Author.Tests.{eq-eqb, ne_eqb}
+use lib.Dec.{eqb}
+use lib.ListN.{length, take}
+use lib.Seq.{take_all}
+use lib.Pointwise.{pointwise}
 use Rattle.text_grammar.specs.Words.{same}
 
-pub other_length_law : (s t : List ℕ) → (length s ≡ length t → ⊥) → false ≡ same s t
+same_points : (s t : List ℕ) → pointwise eqb s t ≡ same s t
 unfolding same
-other_length_law [] [] n = absurd (n refl)
-other_length_law [] (b ∷ t) n = refl
-other_length_law (a ∷ s) [] n = refl
-other_length_law (a ∷ s) (b ∷ t) n = rw (← other_length_law s t (λ e. n (omega arith)), and-false)
+same_points [] [] = refl
+same_points [] (b ∷ t) = refl
+same_points (a ∷ s) [] = refl
+same_points (a ∷ s) (b ∷ t) = ap (λ (r : Bool). eqb a b && r) (same_points s t)
 
-module _ (s t : List ℕ) (i : ℕ) (l : length s ≡ length t) (inv : same s t ≡ same (drop i s) (drop i t)) where
-  pub other_byte : i < length s → (get_or s i 0 ≡ get_or t i 0 → ⊥) → false ≡ same s t
-  unfolding same
-  other_byte h n = rw (inv, drop-cons s i 0 h, drop-cons t i 0 (omega arith), ne_eqb _ _ n)
-
-  pub same_byte : i < length s → get_or s i 0 ≡ get_or t i 0 → same s t ≡ same (drop (i + 1) s) (drop (i + 1) t)
-  unfolding same
-  same_byte h e = rw (inv, add-one, drop-cons s i 0 h, drop-cons t i 0 (omega arith), eq-eqb _ _ e)
-
-  pub all_same : length s ≤ i → true ≡ same s t
-  unfolding same
-  all_same h = rw (inv, drop_of_length-le s h, drop_of_length-le t {i = i} (omega arith))
+pub spelled_so : (bytes s : List ℕ) (size k : ℕ) → length bytes ≡ 5 → k ≡ min size 5 → pointwise eqb (take k bytes) s ≡ same (take size bytes) s
+spelled_so bytes s size k l e = same_points (take k bytes) s ∙ ap (λ (t : List ℕ). same t s) (by (dec_le size 5))
+  where
+    by : Dec (size ≤ 5) → take k bytes ≡ take size bytes
+    by (yes h) = ap (λ (n : ℕ). take n bytes) (omega arith)
+    by (no h) = take_all k bytes (omega arith) ∙ sym (take_all size bytes (omega arith))

@@ -1,8 +1,10 @@
 -- The fields of a line as the program holds them: the rules of a form in its order, each way ended by a rule without mark; past the last rule are only
 -- such. A rule says by `other` where the line goes on if its mark does not stand here (text_grammar/specs/Choice.antt), and by `letters` whether its field
 -- is a number or a string. A value is held as a number: that of a string is the place where it begins in the bytes after the line's word.
-use Rattle.std.specs.Prelude.{ℕ, zero, suc, ◌+◌, ◌≤◌, ◌<◌, List, [], ◌∷◌, ◌++◌, ◌≡◌, Bool, true, false, ◌&&◌, leb, ltb, eqb, length, get_or, take, drop, replicate, pos, nat_abs}
+use Rattle.std.specs.Prelude.{ℕ, zero, suc, ◌+◌, ◌≤◌, ◌<◌, List, [], ◌∷◌, ◌++◌, ◌≡◌, Bool, true, false, ◌&&◌, leb, ltb, eqb, length, get_or, take, drop, replicate, pos, nat_abs, Result, Ok, Err}
+use Rattle.model.specs.declared.Refusal.{Refusal}
 use Rattle.std.specs.Int.Signed.{le_z}
+use Rattle.std.specs.List.{list_all}
 use Rattle.model.specs.Limits.{Range}
 use Rattle.model.specs.Meaning.{pin_up}
 use Rattle.model.specs.Held.{filled, raised}
@@ -13,9 +15,6 @@ use Rattle.text_grammar.specs.Reading.{Reading, accepted, refused}
 use Rattle.text_grammar.specs.Choice.{rule_room, absent_held, is_absent, next_place}
 use Rattle.text_line.specs.declared.Rule.{Rule as HeldRule}
 use Rattle.text_line.specs.declared.Layout.{Layout}
-use Rattle.text_line.specs.declared.Fields.{Fields as HeldFields}
-use Rattle.text_line.specs.declared.Fields.TheVariants as held
-use Rattle.text_line.specs.declared.FieldsRead.{FieldsRead}
 use Rattle.text_line.specs.Held.{lowered}
 
 -- ---- what a layout means
@@ -172,8 +171,7 @@ is_sane r = leb r.size 4 && (leb r.up pin_up && ltb r.most cap)
 
 -- of a layout: each of its rules is so
 unfoldable pub is_layout : List HeldRule → Bool
-is_layout [] = true
-is_layout (r ∷ rs) = is_sane r && is_layout rs
+is_layout rs = list_all is_sane rs
 
 -- a layout that passes the test
 pub record Laid (rs : List HeldRule) : Type 0 where
@@ -191,24 +189,16 @@ unfoldable pub read_fields : List HeldRule → ℕ → List ℕ → Reading (Lis
 read_fields rs l s = elim (is_layout rs) [ true ↦ located l (fields (form_of rs) s) | false ↦ refused 2 l ]
 
 -- document 01's number and values for each case of the field reader's answer
-abbrev pub meant : List HeldRule → List ℕ → HeldFields → List ℕ → Reading (List Value)
-meant rs s held.Got vs = accepted (values_of rs s vs)
-meant rs s (held.Refused f) vs = refused f.no f.line
-
--- the same, of the answer and the values as one
-abbrev pub meant_fields : List HeldRule → List ℕ → FieldsRead → Reading (List Value)
-meant_fields rs s r = meant rs s r.answer r.values
-
--- the answer for a refusal
-abbrev pub refused_fields : ℕ → ℕ → FieldsRead
-refused_fields n l = record { answer = held.Refused (record { no = n; line = l }); values = replicate 4 0 }
+abbrev pub meant_fields : List HeldRule → List ℕ → Result (List ℕ) Refusal → Reading (List Value)
+meant_fields rs s (Ok vs) = accepted (values_of rs s vs)
+meant_fields rs s (Err f) = refused f.no f.line
 
 -- the whole answer for fields that are read so from the bytes s: the values as held, then 0
-abbrev pub fields_answer : List HeldRule → List ℕ → Reading (List Value) → FieldsRead
-fields_answer rs s (accepted vs) = record { answer = held.Got; values = filled 4 0 (numbers_at rs s 0 0 vs) }
-fields_answer rs s (refused n l) = refused_fields n l
+abbrev pub fields_answer : List HeldRule → List ℕ → Reading (List Value) → Result (List ℕ) Refusal
+fields_answer rs s (accepted vs) = Ok (filled 4 0 (numbers_at rs s 0 0 vs))
+fields_answer rs s (refused n l) = Err (record { no = n; line = l })
 
 -- r is the answer for the bytes s after the word in line l: what it means, and the whole of it
-pub record FieldsOk (rs : List HeldRule) (l : ℕ) (s : List ℕ) (r : FieldsRead) : Type 0 where
+pub record FieldsOk (rs : List HeldRule) (l : ℕ) (s : List ℕ) (r : Result (List ℕ) Refusal) : Type 0 where
   pub meant : meant_fields rs s r ≡ read_fields rs l s
   pub whole : r ≡ fields_answer rs s (read_fields rs l s)

@@ -1,7 +1,7 @@
 // One line of a text: where it ends, its word and its fields.
 #![tactic(auto)]
 
-ghost use Rattle.std.specs.Prelude.{◌≡◌, [], ◌∷◌, ◌≤◌, leb, length, take, drop};
+ghost use Rattle.std.specs.Prelude.{◌≡◌, ◌==◌, [], ◌∷◌, ◌≤◌, leb, length, take, drop, position};
 ghost use Rattle.text_grammar.specs.Line.{up_to};
 ghost use Rattle.text_grammar.specs.Steps.{line_end, need};
 ghost use Rattle.text_grammar.specs.Words.{same};
@@ -9,7 +9,6 @@ ghost use Rattle.text_line.specs.Layout.{short_rule, with_letters, with_other, n
 ghost use Rattle.text_line.specs.Steps.{Starts, if_in_range, within, FieldOk, end_answer};
 
 use model::{Pin, Refusal};
-use num_text::Number;
 use text_grammar::{ABSENT, RULES};
 
 // The spelling of a word: five bytes, and how many of them are the word's; the others are 0.
@@ -40,47 +39,18 @@ pub struct Layout {
     pub rules: [Rule; RULES],
 }
 
-// What one field holds: its value, as held, or ABSENT, and the place after it; or the refusal.
-#[derive(Clone, Copy)]
-pub(crate) enum Field {
-    Value(u64, usize),
-    Refused(Refusal),
-}
-
-// The fault of a line: none, or its refusal.
-#[derive(Clone, Copy)]
-pub enum Fault {
-    Clear,
-    Refused(Refusal),
-}
-
-// What reading the fields of a line answers.
-#[derive(Clone, Copy)]
-pub enum Fields {
-    Got,
-    Refused(Refusal),
-}
-
-// The answer with the values of the fields, x and y of a pin held 4,096 higher, a string by the place where it begins in the bytes that were read (it goes
-// up to the next comma); ABSENT for a field that is not there, 0 past the last field, and after a refusal.
-#[derive(Clone, Copy)]
-pub struct FieldsRead {
-    pub answer: Fields,
-    pub values: [u64; 4],
+// The place of the first d.
+fn first(s: &[u8], d: u8) -> Option<usize>
+    ensures { result ≡ position (λ b. b == d) s.now }
+{
+    s.iter().position(|b| *b == d)
 }
 
 // The number of bytes before the first d, or of all where there is no d.
 pub fn bytes_before(s: &[u8], d: u8) -> usize
     ensures { result ≡ length (up_to d s.now) }
 {
-    let mut i: usize = 0;
-    while i < s.len() {
-        if s[i] == d {
-            return i;
-        }
-        i += 1;
-    }
-    i
+    first(s, d).unwrap_or(s.len())
 }
 
 // The place of the first LF from a on, or the end of the text.
@@ -90,34 +60,14 @@ pub fn line_end(text: &[u8], a: usize) -> usize
     if text.len() < a {
         return text.len();
     }
-    a + bytes_before(&text[a..], 10)
-}
-
-// Whether two texts are the same bytes.
-fn same_bytes(s: &[u8], t: &[u8]) -> bool
-    ensures { result ≡ same s.now t.now }
-{
-    if s.len() != t.len() {
-        return false;
-    }
-    let mut i: usize = 0;
-    while i < s.len() {
-        if s[i] != t[i] {
-            return false;
-        }
-        i += 1;
-    }
-    true
+    a + bytes_before(&text[a..], b'\n')
 }
 
 // Whether the bytes s are the first `size` of those given.
 pub fn spells(bytes: [u8; 5], size: usize, s: &[u8]) -> bool
     ensures { result ≡ same (take size bytes) s.now }
 {
-    if 5 < size {
-        return same_bytes(&bytes, s);
-    }
-    same_bytes(&bytes[..size], s)
+    &bytes[..size.min(5)] == s
 }
 
 // A field whose name is the byte `name`.
@@ -125,7 +75,7 @@ pub fn short_rule(name: u8, up: u64, least: u64, most: u64) -> Rule
     ensures { result ≡ short_rule name up least most }
 {
     Rule {
-        mark: [44, name, 44, 0],
+        mark: [b',', name, b',', 0],
         size: 3,
         other: 0,
         up,
@@ -191,10 +141,7 @@ pub fn no_rule() -> Rule
 pub fn rule_at(rules: [Rule; RULES], j: usize) -> Rule
     ensures { result ≡ rule_at rules j }
 {
-    if RULES <= j {
-        return no_rule();
-    }
-    rules[j]
+    rules.get(j).copied().unwrap_or(no_rule())
 }
 
 // The layout of a line with one field, and of a line with none.
@@ -220,27 +167,15 @@ pub fn no_fields() -> Layout
 fn is_sane(rule: Rule) -> bool
     ensures { result ≡ is_sane rule }
 {
-    if 4 < rule.size {
-        return false;
-    }
-    if Pin::UP < rule.up {
-        return false;
-    }
-    rule.most < num_text::MOST
+    rule.size <= 4 && rule.up <= Pin::UP && rule.most < num_text::MOST
 }
 
 // Whether a layout is within the limits of reading and writing.
+#[tactic(auto, unfolding(crate::specs::Layout::is_layout))]
 pub fn is_layout(rules: [Rule; RULES]) -> bool
     ensures { result ≡ is_layout rules }
 {
-    let mut i: usize = 0;
-    while i < RULES {
-        if !is_sane(rules[i]) {
-            return false;
-        }
-        i += 1;
-    }
-    true
+    rules.iter().all(|rule| is_sane(*rule))
 }
 
 // Whether the first `size` bytes of the mark stand in the text from a on.
@@ -251,28 +186,32 @@ fn starts_at(text: &[u8], a: usize, mark: [u8; 4], size: usize) -> bool
     if text.len() - a < size {
         return false;
     }
-    let mut i: usize = 0;
-    while i < size {
+    for i in 0..size {
         if text[a + i] != mark[i] {
             return false;
         }
-        i += 1;
     }
     true
 }
 
-// The value v of a field that ends at b, if it is in the range.
-fn in_range(v: u64, b: usize, rule: Rule, line: usize) -> Field
+// The value v of a field that ends at b, and that place, if it is in the range.
+fn in_range(v: u64, b: usize, rule: Rule, line: usize) -> Result<(u64, usize), Refusal>
     ensures { result ≡ if_in_range (within rule v) v b line }
 {
     if !model::within(v, rule.least, rule.most) {
-        return Field::Refused(Refusal { no: 4, line });
+        return Err(Refusal { no: 4, line });
     }
-    Field::Value(v, b)
+    Ok((v, b))
 }
 
-// The field that begins in the text at a, with the comma before its name; where its name does not stand here and the line may go on without it, ABSENT.
-pub(crate) fn read_field(text: &[u8], a: usize, rule: Rule, line: usize) -> Field
+// The field that begins in the text at a, with the comma before its name: its value, as held, and the place after it; where its name does not stand here and the
+// line may go on without it, ABSENT.
+pub(crate) fn read_field(
+    text: &[u8],
+    a: usize,
+    rule: Rule,
+    line: usize,
+) -> Result<(u64, usize), Refusal>
     requires { (a ≤ length text.now) × Sane rule }
     ensures { FieldOk text.now a rule line result }
 {
@@ -281,92 +220,74 @@ pub(crate) fn read_field(text: &[u8], a: usize, rule: Rule, line: usize) -> Fiel
     if !starts_at(text, a, mark, size) {
         let no = text_grammar::name_fault(rule.other);
         if no != 0 {
-            return Field::Refused(Refusal { no, line });
+            return Err(Refusal { no, line });
         }
-        return Field::Value(ABSENT, a);
+        return Ok((ABSENT, a));
     }
     let p = a + size;
-    let b = p + bytes_before(&text[p..], 44);
+    let b = p + bytes_before(&text[p..], b',');
     if rule.letters != 0 {
         let set = rule.set;
         if !text_grammar::is_string(&text[p..b], set, rule.letters, rule.least, rule.most) {
-            return Field::Refused(Refusal { no: 3, line });
+            return Err(Refusal { no: 3, line });
         }
-        return Field::Value(p as u64, b);
+        return Ok((p as u64, b));
     }
-    let Number::Value(negative, magnitude) = num_text::read_number(&text[p..b]) else {
-        return Field::Refused(Refusal { no: 3, line });
+    let Some(number) = num_text::read_number(&text[p..b]) else {
+        return Err(Refusal { no: 3, line });
     };
     let up = rule.up;
-    if negative {
-        if up < magnitude {
-            return Field::Refused(Refusal { no: 4, line });
+    if number.negative {
+        if up < number.magnitude {
+            return Err(Refusal { no: 4, line });
         }
-        return in_range(up - magnitude, b, rule, line);
+        return in_range(up - number.magnitude, b, rule, line);
     }
-    in_range(up + magnitude, b, rule, line)
+    in_range(up + number.magnitude, b, rule, line)
 }
 
 // The answer for a line of n bytes after its word, whose fields have these values and end at a.
-fn end_fields(n: usize, a: usize, values: [u64; 4], line: usize) -> FieldsRead
+fn end_fields(n: usize, a: usize, values: [u64; 4], line: usize) -> Result<[u64; 4], Refusal>
     ensures { result ≡ end_answer (need (leb n a) 2 0) line values }
 {
     let no = text_grammar::rest_fault(n, a);
     if no != 0 {
-        return FieldsRead {
-            answer: Fields::Refused(Refusal { no, line }),
-            values: [0; 4],
-        };
+        return Err(Refusal { no, line });
     }
-    FieldsRead {
-        answer: Fields::Got,
-        values,
-    }
+    Ok(values)
 }
 
 // The fields by their rules, read from the bytes after a line's word.
-fn read_laid(text: &[u8], rules: [Rule; RULES], line: usize) -> FieldsRead
+fn read_laid(text: &[u8], rules: [Rule; RULES], line: usize) -> Result<[u64; 4], Refusal>
     requires { Laid rules }
     ensures { FieldsOk rules line text.now result }
 {
     let mut values = [0u64; 4];
     let mut a: usize = 0;
     let mut j: usize = 0;
-    let mut i: usize = 0;
-    while i < 4 {
+    for i in 0..4 {
         let rule = rule_at(rules, j);
         if rule.size == 0 {
             return end_fields(text.len(), a, values, line);
         }
-        match read_field(text, a, rule, line) {
-            Field::Value(v, b) => {
-                let absent = text_grammar::is_absent(rule.other, v);
-                j = text_grammar::next_place(j, rule.other, absent);
-                values[i] = v;
-                a = b;
-                i += 1;
-            }
-            Field::Refused(f) => {
-                return FieldsRead {
-                    answer: Fields::Refused(f),
-                    values: [0; 4],
-                };
-            }
-        }
+        let (v, b) = read_field(text, a, rule, line)?;
+        let absent = text_grammar::is_absent(rule.other, v);
+        j = text_grammar::next_place(j, rule.other, absent);
+        values[i] = v;
+        a = b;
     }
     end_fields(text.len(), a, values, line)
 }
 
-// The fields of a line with that layout, read from the bytes after its word; a layout beyond the limits is refused by 2.
-pub fn read_fields(text: &[u8], layout: Layout, line: usize) -> FieldsRead
+// The values of the fields of a line with that layout, read from the bytes after its word: x and y of a pin held 4,096 higher, a string by the place where it
+// begins in these bytes (it goes up to the next comma); ABSENT for a field that is not there, 0 past the last field. Or the refusal; a layout beyond the limits
+// is refused by 2.
+pub fn read_fields(text: &[u8], layout: Layout, line: usize) -> Result<[u64; 4], Refusal>
     ensures { FieldsOk layout.rules line text.now result }
 {
     let rules = layout.rules;
     if !is_layout(rules) {
-        return FieldsRead {
-            answer: Fields::Refused(Refusal { no: 2, line }),
-            values: [0; 4],
-        };
+        return Err(Refusal { no: 2, line });
     }
     read_laid(text, rules, line)
 }

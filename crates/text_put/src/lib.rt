@@ -15,8 +15,7 @@ fn put_fields(out: &mut [u8], at: usize, rules: [Rule; RULES], source: &[u8], v:
 {
     let mut a = at;
     let mut j: usize = 0;
-    let mut i: usize = 0;
-    while i < 4 {
+    for i in 0..4 {
         let rule = text_line::rule_at(rules, j);
         if rule.size == 0 {
             return a;
@@ -24,7 +23,6 @@ fn put_fields(out: &mut [u8], at: usize, rules: [Rule; RULES], source: &[u8], v:
         let absent = text_grammar::is_absent(rule.other, v[i]);
         a = text_field::put_field(out, a, rule, source, v[i], absent);
         j = text_grammar::next_place(j, rule.other, absent);
-        i += 1;
     }
     a
 }

@@ -1,4 +1,5 @@
 -- The line of a refusal: how it is written, and that it is short.
+use Rattle.std.specs.Prelude.{Ok, Err, Result}
 use Prim.Native.Nat.{ℕ, ◌≤◌, ◌<◌, ◌^◌}
 use mathlib.Core.Path.{◌≡◌, refl, ap, ◌∙◌}
 use mathlib.Core.Bool.{Bool, true, false}
@@ -12,8 +13,6 @@ use Rattle.num_text.proofs.Wrote.{wrote_then, wrote_length}
 use Rattle.text_grammar.specs.Line.{line_feed}
 use borrow.Author.Tests.{ne_eqb}
 use Rattle.model.specs.declared.Refusal.{Refusal}
-use Rattle.model.specs.declared.WriteAnswer.{WriteAnswer}
-use Rattle.model.specs.declared.WriteAnswer.TheVariants as write
 use Rattle.text_grammar.specs.Reading.{Reading, accepted, refused}
 use Rattle.text_grammar.specs.Writing.{Written, wrote, not_written, answer_of, refuse, if_room, write_read}
 use Rattle.text_grammar.proofs.Fit.{too_short, all_fits}
@@ -49,18 +48,6 @@ refusal_short n l h g =
     let b = digits_short l 4 (omega arith) in
     simp length-append (omega arith)
 
--- what is shown, by the answer
-module _ (a : WriteAnswer) (b : List ℕ) where
-  pub text_shown : (n : ℕ) → a ≡ write.Text n → record { answer = wrote n; buffer = b } ≡ shown (answer_of a) b
-  text_shown n q = rw q
-
-  module _ (f : Refusal) (q : a ≡ write.Refused f) where
-    pub room_shown : f.no ≡ 15 → record { answer = not_written f.no f.line; buffer = b } ≡ shown (answer_of a) b
-    room_shown z = rw (q, z)
-
-    pub line_shown : (f.no ≡ 15 → ⊥) → (w : WriteAnswer) (m : List ℕ) → record { answer = answer_of w; buffer = m } ≡ if_room (leb (length (refusal_line f.no f.line)) (length b)) (refusal_line f.no f.line) b → record { answer = answer_of w; buffer = m } ≡ shown (answer_of a) b
-    line_shown z w m p = p ∙ rw (q, ne_eqb f.no 15 z)
-
 -- ---- what is printed for a text that is read
 
 module _ {A : Type 0} (f : A → List ℕ) (r : Reading A) where
@@ -86,5 +73,5 @@ module _ {A : Type 0} (f : A → List ℕ) (r : Reading A) where
     read_shown (accepted a) q = stays (leb (length (f a)) (length b)) (f a) b
     read_shown (refused n l) q = rw (ne_eqb n 15 (told n l q))
 
-    pub read_printed : (m : List ℕ) (a : WriteAnswer) → record { answer = answer_of a; buffer = m } ≡ write_read f r b → (w : WriteAnswer) (z : List ℕ) → record { answer = answer_of w; buffer = z } ≡ shown (answer_of a) m → record { answer = answer_of w; buffer = z } ≡ if_room (leb (length (printed_for f r)) (length b)) (printed_for f r) b
+    pub read_printed : (m : List ℕ) (a : Result ℕ Refusal) → record { answer = answer_of a; buffer = m } ≡ write_read f r b → (w : Result ℕ Refusal) (z : List ℕ) → record { answer = answer_of w; buffer = z } ≡ shown (answer_of a) m → record { answer = answer_of w; buffer = z } ≡ if_room (leb (length (printed_for f r)) (length b)) (printed_for f r) b
     read_printed m a e w z p = p ∙ (ap shown_of e ∙ read_shown r refl)

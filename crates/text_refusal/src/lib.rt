@@ -7,7 +7,7 @@ ghost use Rattle.num_text.specs.Held.{Wrote};
 ghost use Rattle.text_grammar.specs.Writing.{answer_of, if_room};
 ghost use Rattle.text_refusal.specs.Refusal.{refusal_line, shown};
 
-use model::{Refusal, WriteAnswer};
+use model::Refusal;
 
 // Writes a mark and the decimal digits of n from `at` on, as far as the buffer goes, and answers the place after them.
 fn put_marked(out: &mut [u8], at: usize, mark: &[u8], n: u64) -> usize
@@ -27,28 +27,23 @@ fn put_refusal(out: &mut [u8], at: usize, f: Refusal) -> usize
 }
 
 // The line of a refusal: 15 where the buffer is shorter.
-pub fn write_refusal(f: Refusal, out: &mut [u8]) -> WriteAnswer
+pub fn write_refusal(f: Refusal, out: &mut [u8]) -> Result<usize, Refusal>
     ensures { record { answer = answer_of result; buffer = out.new } ≡ if_room (leb (length (refusal_line f.no f.line)) (length out.old)) (refusal_line f.no f.line) out.old }
 {
     let mut scratch = [0u8; 1];
     let n = put_refusal(&mut scratch, 0, f);
     if out.len() < n {
-        return WriteAnswer::Refused(Refusal { no: 15, line: 0 });
+        return Err(Refusal { no: 15, line: 0 });
     }
-    WriteAnswer::Text(put_refusal(out, 0, f))
+    Ok(put_refusal(out, 0, f))
 }
 
 // What is shown for an answer: the text that was written, or the line of the refusal; 15 is that of the buffer and stays.
-pub fn show_answer(answer: WriteAnswer, out: &mut [u8]) -> WriteAnswer
+pub fn show_answer(answer: Result<usize, Refusal>, out: &mut [u8]) -> Result<usize, Refusal>
     ensures { record { answer = answer_of result; buffer = out.new } ≡ shown (answer_of answer) out.old }
 {
     match answer {
-        WriteAnswer::Text(n) => WriteAnswer::Text(n),
-        WriteAnswer::Refused(f) => {
-            if f.no == 15 {
-                return WriteAnswer::Refused(f);
-            }
-            write_refusal(f, out)
-        }
+        Err(f) if f.no != 15 => write_refusal(f, out),
+        _ => answer,
     }
 }

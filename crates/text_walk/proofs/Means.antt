@@ -16,12 +16,12 @@ use Rattle.text_grammar.specs.Reading.{Kind, step_word, step_bytes, step_line}
 use Rattle.text_grammar.specs.Steps.{entry_fault, Entered, line_at}
 use Rattle.text_grammar.proofs.Entry.{found_or, step_word_law}
 use Rattle.text_line.specs.declared.Spelling.{Spelling}
-use Rattle.text_line.specs.declared.Fault.TheVariants as held
+use Rattle.std.specs.Prelude.{Result, Ok, Err}
 use Rattle.text_line.specs.Held.{spelled}
 use Rattle.text_line.specs.Steps.{LineOk}
 use Rattle.text_line.proofs.Find.{spelled_text}
 use Rattle.text_walk.specs.declared.Tests.{Tests}
-use Rattle.text_walk.specs.declared.WordWalked.{WordWalked}
+use Rattle.text_walk.specs.declared.Walked.{Walked}
 use Rattle.text_walk.specs.Walk.{Walk, word, stop, fault_at, find_in, unless_fault, if_known, walk_word, walk_bytes, walk_line, walk_of, WalkedOk}
 
 module _ {W S : Type 0} (k : Kind W S) (z : W) where
@@ -118,34 +118,34 @@ module _ {W S : Type 0} (k : Kind W S) (z : W) where
         by false = refl
 
     -- the answer of the program, r, for the line x
-    module _ (l : ℕ) (x : Line) (r : WordWalked) (ok : WalkedOk ps n fs l x r) where
-      meant : Means s (walk_of r.fault r.word (drop r.size x.bytes)) (step_line k s x)
+    module _ (l : ℕ) (x : Line) (r : Result Walked Refusal) (ok : WalkedOk ps n fs l x r) where
+      meant : Means s (walk_of r x.bytes) (step_line k s x)
       meant = subst (λ (w : Walk). Means s w (step_line k s x)) (sym ok.meant) (line_means x)
 
-      pub walked_stops : (f : Refusal) → r.fault ≡ held.Refused f → LineOk (held.Refused f) s l (step_line k s x)
+      pub walked_stops : (f : Refusal) → r ≡ Err f → LineOk {S = S} (Err f) l (step_line k s x)
       walked_stops f q = record { meant = rw q at meant; at = rw q at ok.at }
 
       -- a line without fault, with the word w
-      module _ (q : r.fault ≡ held.Clear) (w : W) (e : w ≡ get_or d.all r.word z) where
-        clear : WordMeans s r.word (drop r.size x.bytes) (step_line k s x)
+      module _ (p : Walked) (q : r ≡ Ok p) (w : W) (e : w ≡ get_or d.all p.word z) where
+        clear : WordMeans s p.word (drop p.size x.bytes) (step_line k s x)
         clear = rw q at meant
 
         pub walked_entered : Entered k s w
         walked_entered = subst (λ (w : W). Entered k s w) (sym e) clear.entered
 
-        pub walked_adds : on_next (fields (d.form w) (drop r.size x.bytes)) (k.add s w) ≡ step_line k s x
-        walked_adds = subst (λ (w : W). on_next (fields (d.form w) (drop r.size x.bytes)) (k.add s w) ≡ step_line k s x) (sym e) clear.adds
+        pub walked_adds : on_next (fields (d.form w) (drop p.size x.bytes)) (k.add s w) ≡ step_line k s x
+        walked_adds = subst (λ (w : W). on_next (fields (d.form w) (drop p.size x.bytes)) (k.add s w) ≡ step_line k s x) (sym e) clear.adds
 
 abbrev is_word : Walk → Bool
 is_word (word i s) = true
 is_word (stop m) = false
 
 -- a line that has a word has its LF, so it lies in the text
-pub walked_inside : (text : List ℕ) (a e : ℕ) (ps : List Spelling) (n : ℕ) (fs : Tests) (l : ℕ) (r : WordWalked) → WalkedOk ps n fs l (line_at text a e) r → r.fault ≡ held.Clear → e ≤ length text
-walked_inside text a e ps n fs l r ok q = by (ltb e (length text)) refl
+pub walked_inside : (text : List ℕ) (a e : ℕ) (ps : List Spelling) (n : ℕ) (fs : Tests) (l : ℕ) (r : Result Walked Refusal) → WalkedOk ps n fs l (line_at text a e) r → (p : Walked) → r ≡ Ok p → e ≤ length text
+walked_inside text a e ps n fs l r ok p q = by (ltb e (length text)) refl
   where
     by : (b : Bool) → ltb e (length text) ≡ b → e ≤ length text
     by true t = let h = ltb-true e (length text) t in omega arith
     by false t =
-        let z : word r.word (drop r.size (take (e - a) (drop a text))) ≡ stop 2 = rw (q, t) at ok.meant in
+        let z : word p.word (drop p.size (take (e - a) (drop a text))) ≡ stop 2 = rw (q, t) at ok.meant in
         absurd (true≢false (ap is_word z))

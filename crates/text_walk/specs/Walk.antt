@@ -1,17 +1,15 @@
 -- The walk through a line as far as its fields, for any kind of text, by a table of words: the spelling of each word and, as things stand, the tests
 -- before the fields of a line with the word.
-use Rattle.std.specs.Prelude.{ℕ, zero, suc, ◌≤◌, ◌≡◌, Bool, true, false, List, [], ◌∷◌, ltb, length, take, drop, get_or}
+use Rattle.std.specs.Prelude.{ℕ, zero, suc, ◌≤◌, ◌≡◌, Bool, true, false, List, [], ◌∷◌, ltb, length, take, drop, get_or, Result, Ok, Err}
 use Rattle.model.specs.declared.Refusal.{Refusal}
 use Rattle.text_grammar.specs.Line.{Line, comma, up_to, from}
 use Rattle.text_grammar.specs.Words.{same}
 use Rattle.text_grammar.specs.Steps.{entry_by}
 use Rattle.text_line.specs.declared.Spelling.{Spelling}
-use Rattle.text_line.specs.declared.Fault.{Fault}
-use Rattle.text_line.specs.declared.Fault.TheVariants as fault
 use Rattle.text_line.specs.Held.{text_of}
 use Rattle.text_line.specs.Steps.{line_of}
 use Rattle.text_walk.specs.declared.Tests.{Tests}
-use Rattle.text_walk.specs.declared.WordWalked.{WordWalked}
+use Rattle.text_walk.specs.declared.Walked.{Walked}
 
 -- a line: the number of its word and the bytes after it, or the number of its fault
 pub data Walk : Type 0 where
@@ -51,21 +49,22 @@ walk_line ps n t x = if_known x.ended (walk_bytes ps n t x.bytes)
 
 -- ---- the program's answer
 
--- a line with the fault f
-abbrev pub stopped_at : Refusal → WordWalked
-stopped_at f = record { fault = fault.Refused f; word = 0; size = 0 }
+-- what each case of the answer means for a line with the bytes b
+abbrev pub walk_of : Result Walked Refusal → List ℕ → Walk
+walk_of (Ok r) b = word r.word (drop r.size b)
+walk_of (Err f) b = stop f.no
 
--- what each case of the answer means, with the bytes s after the word
-abbrev pub walk_of : Fault → ℕ → List ℕ → Walk
-walk_of fault.Clear i s = word i s
-walk_of (fault.Refused f) i s = stop f.no
+-- how many bytes the word has
+abbrev pub size_in : Result Walked Refusal → ℕ
+size_in (Ok r) = r.size
+size_in (Err f) = 0
 
 -- r is the answer for line l, which is walked so and has the bytes b
-pub record WalkOk (l : ℕ) (b : List ℕ) (w : Walk) (r : WordWalked) : Type 0 where
-  pub meant : walk_of r.fault r.word (drop r.size b) ≡ w
-  pub fits : r.size ≤ length b
-  pub at : line_of r.fault l ≡ l
+pub record WalkOk (l : ℕ) (b : List ℕ) (w : Walk) (r : Result Walked Refusal) : Type 0 where
+  pub meant : walk_of r b ≡ w
+  pub fits : size_in r ≤ length b
+  pub at : line_of r l ≡ l
 
 -- r is the answer for the line x, number l, by the first n words of a table
-abbrev pub WalkedOk : List Spelling → ℕ → Tests → ℕ → Line → WordWalked → Type 0
+abbrev pub WalkedOk : List Spelling → ℕ → Tests → ℕ → Line → Result Walked Refusal → Type 0
 WalkedOk ps n t l x r = WalkOk l x.bytes (walk_line ps n t x) r

@@ -1,22 +1,13 @@
-use Rattle.axis_graph.proofs.Answers.{shows_no}
-use Rattle.axis_amounts.proofs.Gathers.{nets_spanned, flow_few, slots_modest, flows}
-use borrow.Author.Rules.{rules}
+use Rattle.axis_amounts.proofs.Gathers.{nets_spanned, flow_few}
 use Rattle.axis_amounts.proofs.carries.Goals as goal
+use Rattle.axis_amounts.proofs.carries.Goals.{then-within, else-within}
 
-pub total-requires : goal.total-requires
-total-requires c = search (rules, nets_spanned)
+pub total-requires-clause-spanned : goal.total-requires-clause-spanned
+total-requires-clause-spanned c = search nets_spanned
 
-pub returns-then-not-within : goal.returns-then-not-within
-returns-then-not-within c = search shows_no
-
-pub returns-then-not-idle_slots : goal.returns-then-not-idle_slots
-returns-then-not-idle_slots c = search shows_no
-
-pub slot_sums-b-requires : goal.slot_sums-b-requires
-slot_sums-b-requires c = search (rules, flow_few)
-
-pub net_sums-c-requires : goal.net_sums-c-requires
-net_sums-c-requires c = search (rules, slots_modest, flow_few, nets_spanned)
-
-pub returns : goal.returns
-returns c = search flows
+pub is_balanced-requires-clause-within : goal.is_balanced-requires-clause-within
+is_balanced-requires-clause-within c =
+    elim c.if-within.branch [
+      | then-within w ↦ flow_few _ c.requires.graph_within _ _ c.requires.spans_within c.requires.count_le_net_room _ _ c.total.ensures (c.within.ensures.shown w.if-within.true)
+      | else-within w ↦ cc
+    ]

@@ -33,19 +33,19 @@ start_values-z-requires c =
       nets_in = nets_in_law a (shape (goal.at.start_values-z-requires c).After-whole_graph-g) h c.args.x f _ s;
     }
 
-pub solve_axis-r-requires : goal.solve_axis-r-requires
-solve_axis-r-requires c =
+pub solve_axis-requires : goal.solve_axis-requires
+solve_axis-requires c =
     let a = c.args.a in
     let h = c.requires.held in
     let g = c.whole_graph-g.ensures.held h in
     record {
-      graph_within = nets_fine a (shape (goal.at.solve_axis-r-requires c).After-whole_graph-g) h _ g;
-      n_nonzero = nets_some a (shape (goal.at.solve_axis-r-requires c).After-whole_graph-g) h _ g;
-      feasible = nets_free a (shape (goal.at.solve_axis-r-requires c).After-whole_graph-g) h c.args.x c.requires.feasible _ c.rebase-y.ensures _ c.start_values-z.ensures _ g;
+      graph_within = nets_fine a (shape (goal.at.solve_axis-requires c).After-whole_graph-g) h _ g;
+      n_nonzero = nets_some a (shape (goal.at.solve_axis-requires c).After-whole_graph-g) h _ g;
+      feasible = nets_free a (shape (goal.at.solve_axis-requires c).After-whole_graph-g) h c.args.x c.requires.feasible _ c.rebase-y.ensures _ c.start_values-z.ensures _ g;
       count_le_net_room = h.nets;
-      nets = nets_given a (shape (goal.at.solve_axis-r-requires c).After-whole_graph-g) h _ g _ (c.net_spans-e.ensures.held c.requires.held);
+      nets = nets_given a (shape (goal.at.solve_axis-requires c).After-whole_graph-g) h _ g _ (c.net_spans-e.ensures.held c.requires.held);
     }
 
 pub returns : goal.returns
 returns c =
-    nets_solved c.args.a (shape (goal.at.returns c).After-whole_graph-g) c.requires.held _ (c.whole_graph-g.ensures.held c.requires.held) _ (c.net_spans-e.ensures.held c.requires.held) _ _ c.solve_axis-r.ensures _ c.coordinates-at.ensures
+    nets_solved c.args.a (shape (goal.at.returns c).After-whole_graph-g) c.requires.held _ (c.whole_graph-g.ensures.held c.requires.held) _ (c.net_spans-e.ensures.held c.requires.held) _ _ c.solve_axis.ensures _ c.coordinates.ensures

@@ -3,4 +3,4 @@ use Rattle.axis_solve.proofs.Large.{large_chain}
 use Rattle.axis_solve.proofs.too_large.Goals as goal
 
 pub returns : goal.returns
-returns c = search (shaped, large_chain)
+returns c = rw c.unsolvable.ensures (search (shaped, large_chain))

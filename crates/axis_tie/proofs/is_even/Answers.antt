@@ -1,20 +1,19 @@
-use borrow.Author.Rules.{rules}
-use Prim.Native.Nat.{◌-◌}
-use Rattle.axis_graph.proofs.Answers.{shows_no}
-use Rattle.axis_tie.proofs.Evens.{even_none, even_more, even_all}
+use mathlib.Core.Path.{◌≡◌, sym, ap, ◌∙◌}
+use mathlib.Core.Bool.{Bool, true}
+use mathlib.Core.List.{List}
+use Prim.Native.Nat.{ℕ}
+use lib.ListN.{get_or, take}
+use lib.Seq.{get_or-take}
+use Rattle.std.proofs.lemmas.Bool.Decides.{Decides-eqb}
+use Rattle.std.proofs.lemmas.Slice.Eq.{slice_eq-Decides}
+use Rattle.axis_graph.specs.Graph.{Shows}
+use Rattle.axis_tie.specs.Even.{Even}
 use Rattle.axis_tie.proofs.is_even.Goals as goal
 
-pub returns-then-n-gt-NODE_ROOM : goal.returns-then-n-gt-NODE_ROOM
-returns-then-n-gt-NODE_ROOM c = search shows_no
+-- equal parts at the front have the same numbers there
+even_by : (into out : List ℕ) (n : ℕ) (r : Bool) → (r ≡ true → take n into ≡ take n out) → Shows r (Even into out n)
+even_by into out n r h = record { shown = λ t. record { eq = λ k l. sym (get_or-take n into k 0 l) ∙ ap (λ (u : List ℕ). get_or u k 0) (h t) ∙ get_or-take n out k 0 l } }
 
-pub loop-k-init : goal.loop-k-init
-loop-k-init c = (search rules, search even_none)
-
-pub returns-then-into-k : goal.returns-then-into-k
-returns-then-into-k c = search shows_no
-
-pub loop-k-preserved : goal.loop-k-preserved
-loop-k-preserved c = (search rules, search even_more)
-
-pub returns : goal.returns
-returns c = search even_all
+pub returns-then-n-le-NODE_ROOM : goal.returns-then-n-le-NODE_ROOM
+returns-then-n-le-NODE_ROOM c =
+    even_by c.args.into c.args.out c.args.n _ (slice_eq-Decides Decides-eqb _ _ _ c.eq.ensures).0

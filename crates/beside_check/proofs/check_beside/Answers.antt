@@ -7,11 +7,11 @@ use Rattle.beside_check.proofs.check_beside.Goals as goal
 pub compared-requires : goal.compared-requires
 compared-requires c = search (rules, read_passed, whole)
 
-pub returns-in-Refused : goal.returns-in-Refused
-returns-in-Refused c = search chip_refused
+pub returns-in-Err : goal.returns-in-Err
+returns-in-Err c = search chip_refused
 
-pub returns-in-Refused-second : goal.returns-in-Refused-second
-returns-in-Refused-second c = search record_refused
+pub returns-in-Err-second : goal.returns-in-Err-second
+returns-in-Err-second c = search record_refused
 
-pub returns-in-Accepted-second : goal.returns-in-Accepted-second
-returns-in-Accepted-second c = search both_read
+pub returns-in-Ok-second : goal.returns-in-Ok-second
+returns-in-Ok-second c = search both_read

@@ -9,7 +9,7 @@ use Rattle.box_print.proofs.Printed.{box_more, boxes_all, boxes_most}
 use Rattle.box_print.proofs.put_boxes.Goals as goal
 
 pub loop-j-init : goal.loop-j-init
-loop-j-init c = (search rules, search rules, search none_before, search (rules, run_none box_words))
+loop-j-init c = (search rules, search none_before, search (rules, run_none box_words))
 
 pub shape_of-out-then-c-j : goal.shape_of-out-then-c-j
 shape_of-out-then-c-j c = search (rules, wrote_length)
@@ -18,7 +18,7 @@ pub returns-then-c-j : goal.returns-then-c-j
 returns-then-c-j c = search (rules, boxes_all)
 
 pub loop-j-preserved : goal.loop-j-preserved
-loop-j-preserved c = (search rules, search rules, search (rules, next_before), search (rules, box_more, pins_long, whole))
+loop-j-preserved c = (search rules, search (rules, next_before), search (rules, box_more, pins_long, whole))
 
 pub shape_of-out : goal.shape_of-out
 shape_of-out c = search (rules, wrote_length)

@@ -8,7 +8,4 @@ use Rattle.box_print.specs.Held.{box_line}
 use Rattle.box_print.proofs.put_boxes.Given as goal
 
 abbrev pub invariant-loop-j : goal.invariant-loop-j
-invariant-loop-j l = (l.j ≤ l.c.t) × (l.j ≤ 32) × Before l.nets l.from l.j × Wrote l.initial.out l.out (items_text box_words (run (box_line l.c l.spots) 0 l.j)) l.at l.a
-
-abbrev pub decreases-loop-j : goal.decreases-loop-j
-decreases-loop-j l = 32 - l.j
+invariant-loop-j l = (l.j ≤ l.c.t) × Before l.nets l.from l.j × Wrote l.initial.out l.out (items_text box_words (run (box_line l.c l.spots) 0 l.j)) l.at l.a

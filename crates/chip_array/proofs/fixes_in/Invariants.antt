@@ -5,7 +5,4 @@ use Rattle.chip_array.proofs.Tables.{Filled}
 use Rattle.chip_array.proofs.fixes_in.Given as goal
 
 abbrev pub invariant-loop-i : goal.invariant-loop-i
-invariant-loop-i l = (l.i ≤ most_fixes) × Filled (fix_in l.cs) most_fixes l.fixes l.i
-
-abbrev pub decreases-loop-i : goal.decreases-loop-i
-decreases-loop-i l = most_fixes - l.i
+invariant-loop-i l = Filled (fix_in l.cs) most_fixes l.fixes l.i

@@ -5,7 +5,4 @@ use Rattle.chip_array.proofs.Tables.{Filled}
 use Rattle.chip_array.proofs.macs_in.Given as goal
 
 abbrev pub invariant-loop-i : goal.invariant-loop-i
-invariant-loop-i l = (l.i ≤ most_macs) × Filled (mac_in l.cs) most_macs l.macs l.i
-
-abbrev pub decreases-loop-i : goal.decreases-loop-i
-decreases-loop-i l = most_macs - l.i
+invariant-loop-i l = Filled (mac_in l.cs) most_macs l.macs l.i

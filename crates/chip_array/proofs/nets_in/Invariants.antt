@@ -5,7 +5,4 @@ use Rattle.chip_array.proofs.Tables.{Filled}
 use Rattle.chip_array.proofs.nets_in.Given as goal
 
 abbrev pub invariant-loop-i : goal.invariant-loop-i
-invariant-loop-i l = (l.i ≤ most_nets) × Filled (net_in l.cs) most_nets l.nets l.i
-
-abbrev pub decreases-loop-i : goal.decreases-loop-i
-decreases-loop-i l = most_nets - l.i
+invariant-loop-i l = Filled (net_in l.cs) most_nets l.nets l.i

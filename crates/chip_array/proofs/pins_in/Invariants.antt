@@ -5,7 +5,4 @@ use Rattle.chip_array.proofs.Tables.{Filled}
 use Rattle.chip_array.proofs.pins_in.Given as goal
 
 abbrev pub invariant-loop-i : goal.invariant-loop-i
-invariant-loop-i l = (l.i ≤ most_pins) × Filled (pin_in l.cs) most_pins l.pins l.i
-
-abbrev pub decreases-loop-i : goal.decreases-loop-i
-decreases-loop-i l = most_pins - l.i
+invariant-loop-i l = Filled (pin_in l.cs) most_pins l.pins l.i

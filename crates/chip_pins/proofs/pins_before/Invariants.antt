@@ -1,10 +1,7 @@
-use Prim.Native.Nat.{◌-◌, ◌≤◌}
 use mathlib.Core.Path.{◌≡◌}
+use Prim.Native.Nat.{min}
 use Rattle.chip_text.specs.Valid.{pins_before}
 use Rattle.chip_pins.proofs.pins_before.Given as goal
 
 abbrev pub invariant-loop-k : goal.invariant-loop-k
-invariant-loop-k l = (l.k ≤ l.j) × (l.q ≡ pins_before l.k l.nets) × (l.q ≤ 128)
-
-abbrev pub decreases-loop-k : goal.decreases-loop-k
-decreases-loop-k l = 32 - l.k
+invariant-loop-k l = l.q ≡ min 129 (pins_before l.k l.nets)

@@ -5,10 +5,10 @@ use borrow.Author.Rules.{rules}
 use Rattle.chip_print.proofs.put_nets.Goals as goal
 
 pub loop-j-init : goal.loop-j-init
-loop-j-init c = (search rules, search pins_none, search (rules, nets_none))
+loop-j-init c = (search pins_none, search (rules, nets_none))
 
 pub loop-j-preserved : goal.loop-j-preserved
-loop-j-preserved c = (search rules, search (rules, pins_more), search (rules, net_more))
+loop-j-preserved c = (search (rules, pins_more), search (rules, net_more))
 
 pub shape_of-out : goal.shape_of-out
 shape_of-out c = search (rules, wrote_length)

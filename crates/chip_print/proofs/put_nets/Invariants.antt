@@ -5,7 +5,4 @@ use Rattle.num_text.specs.Held.{Wrote}
 use Rattle.chip_print.proofs.put_nets.Given as goal
 
 abbrev pub invariant-loop-j : goal.invariant-loop-j
-invariant-loop-j l = (l.j ≤ l.n) × (l.q ≡ pins_to l.c l.j) × Wrote l.initial.out l.out (net_lines l.c l.j) l.at l.a
-
-abbrev pub decreases-loop-j : goal.decreases-loop-j
-decreases-loop-j l = l.n - l.j
+invariant-loop-j l = (l.q ≡ pins_to l.c l.j) × Wrote l.initial.out l.out (net_lines l.c l.j) l.at l.a

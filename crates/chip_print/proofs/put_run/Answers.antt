@@ -6,10 +6,10 @@ use borrow.Author.Rules.{rules}
 use Rattle.chip_print.proofs.put_run.Goals as goal
 
 pub loop-i-init : goal.loop-i-init
-loop-i-init c = (search rules, search (rules, run_none chip_words))
+loop-i-init c = search (rules, run_none chip_words)
 
 pub loop-i-preserved : goal.loop-i-preserved
-loop-i-preserved c = (search rules, search (rules, run_more chip_words))
+loop-i-preserved c = search (rules, run_more chip_words)
 
 pub shape_of-out : goal.shape_of-out
 shape_of-out c = search (rules, wrote_length)

@@ -7,7 +7,4 @@ use Rattle.chip_print.specs.Items.{item_at}
 use Rattle.chip_print.proofs.put_run.Given as goal
 
 abbrev pub invariant-loop-i : goal.invariant-loop-i
-invariant-loop-i l = (l.i ≤ l.n) × Wrote l.initial.out l.out (items_text chip_words (run (item_at l.c l.w) l.q l.i)) l.at l.a
-
-abbrev pub decreases-loop-i : goal.decreases-loop-i
-decreases-loop-i l = l.n - l.i
+invariant-loop-i l = Wrote l.initial.out l.out (items_text chip_words (run (item_at l.c l.w) l.q l.i)) l.at l.a

@@ -5,7 +5,4 @@ use lib.Seq.{sets}
 use Rattle.chip_put.proofs.put.Given as goal
 
 abbrev pub invariant-loop-q : goal.invariant-loop-q
-invariant-loop-q l = (l.q ≤ l.w) × (l.cs ≡ sets l.initial.cs l.p (take l.q l.v))
-
-abbrev pub decreases-loop-q : goal.decreases-loop-q
-decreases-loop-q l = l.w - l.q
+invariant-loop-q l = l.cs ≡ sets l.initial.cs l.p (take l.q l.v)

@@ -9,7 +9,4 @@ use Rattle.chip_put.specs.Numbers.{fix_numbers}
 use Rattle.chip_put.proofs.put_fixes.Given as goal
 
 abbrev pub invariant-loop-i : goal.invariant-loop-i
-invariant-loop-i l = (l.i ≤ most_fixes) × (l.cs ≡ sets l.initial.cs fixes_at (flat_map fix_numbers (take l.i l.fixes)))
-
-abbrev pub decreases-loop-i : goal.decreases-loop-i
-decreases-loop-i l = most_fixes - l.i
+invariant-loop-i l = l.cs ≡ sets l.initial.cs fixes_at (flat_map fix_numbers (take l.i l.fixes))

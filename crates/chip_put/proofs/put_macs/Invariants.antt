@@ -9,7 +9,4 @@ use Rattle.chip_put.specs.Numbers.{mac_numbers}
 use Rattle.chip_put.proofs.put_macs.Given as goal
 
 abbrev pub invariant-loop-i : goal.invariant-loop-i
-invariant-loop-i l = (l.i ≤ most_macs) × (l.cs ≡ sets l.initial.cs macs_at (flat_map mac_numbers (take l.i l.macs)))
-
-abbrev pub decreases-loop-i : goal.decreases-loop-i
-decreases-loop-i l = most_macs - l.i
+invariant-loop-i l = l.cs ≡ sets l.initial.cs macs_at (flat_map mac_numbers (take l.i l.macs))

@@ -9,7 +9,4 @@ use Rattle.chip_put.specs.Numbers.{net_numbers}
 use Rattle.chip_put.proofs.put_nets.Given as goal
 
 abbrev pub invariant-loop-i : goal.invariant-loop-i
-invariant-loop-i l = (l.i ≤ most_nets) × (l.cs ≡ sets l.initial.cs nets_at (flat_map net_numbers (take l.i l.nets)))
-
-abbrev pub decreases-loop-i : goal.decreases-loop-i
-decreases-loop-i l = most_nets - l.i
+invariant-loop-i l = l.cs ≡ sets l.initial.cs nets_at (flat_map net_numbers (take l.i l.nets))

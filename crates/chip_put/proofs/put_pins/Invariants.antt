@@ -9,7 +9,4 @@ use Rattle.chip_put.specs.Numbers.{pin_numbers}
 use Rattle.chip_put.proofs.put_pins.Given as goal
 
 abbrev pub invariant-loop-i : goal.invariant-loop-i
-invariant-loop-i l = (l.i ≤ most_pins) × (l.cs ≡ sets l.initial.cs pins_at (flat_map pin_numbers (take l.i l.pins)))
-
-abbrev pub decreases-loop-i : goal.decreases-loop-i
-decreases-loop-i l = most_pins - l.i
+invariant-loop-i l = l.cs ≡ sets l.initial.cs pins_at (flat_map pin_numbers (take l.i l.pins))

@@ -11,5 +11,5 @@ read_lines-requires c = search (rules, length_fits chip_kind start)
 pub returns-then-no-ne0 : goal.returns-then-no-ne0
 unfolding read_chip
 returns-then-no-ne0 c =
-    let ok = refuses _ _ _ c.refused.ensures (length_fails chip_kind start _ _ c.length_fault-no.ensures _ c.if-no-ne0.true) in
+    let ok = refuses _ _ (length_fails chip_kind start _ _ c.length_fault-no.ensures _ c.if-no-ne0.true) in
     record { result_value = ok.meant; value = ok.whole }

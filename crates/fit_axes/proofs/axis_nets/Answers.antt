@@ -1,13 +1,8 @@
 use borrow.Author.Rules.{rules}
-use Prim.Native.Nat.{◌-◌}
-use Rattle.fit_axes.proofs.Copies.{copied_none, copied_all, net_more}
+use Rattle.model.specs.Meaning.{blank_net}
+use Rattle.fit_axes.specs.Axes.{held_net}
+use Rattle.fit_axes.proofs.Mapped.{mapped}
 use Rattle.fit_axes.proofs.axis_nets.Goals as goal
 
-pub loop-j-init : goal.loop-j-init
-loop-j-init c = (search rules, search (rules, copied_none))
-
-pub loop-j-preserved : goal.loop-j-preserved
-loop-j-preserved c = (search rules, search (rules, net_more))
-
 pub returns : goal.returns
-returns c = search (rules, copied_all)
+returns c = mapped held_net blank_net (held_net blank_net) _ _ (search rules) (λ i h. let k = c.map.ensures.items.at i blank_net (held_net blank_net) (search rules) in search rules)

@@ -1,13 +1,12 @@
 use borrow.Author.Rules.{rules}
-use Prim.Native.Nat.{◌-◌}
-use Rattle.fit_axes.proofs.Copies.{copied_none, copied_all, pin_more}
+use Rattle.model.specs.Meaning.{blank_pin}
+use Rattle.fit_slots.specs.declared.Direction.TheVariants.{Horizontal as horizontal, Vertical as vertical}
+use Rattle.fit_axes.specs.Axes.{held_pin}
+use Rattle.fit_axes.proofs.Mapped.{mapped}
 use Rattle.fit_axes.proofs.axis_pins.Goals as goal
 
-pub loop-i-init : goal.loop-i-init
-loop-i-init c = (search rules, search (rules, copied_none))
+pub returns-in-Horizontal : goal.returns-in-Horizontal
+returns-in-Horizontal c = rw c.in-Horizontal.is (mapped (held_pin horizontal) blank_pin (held_pin horizontal blank_pin) _ _ (search rules) (λ i h. let k = c.map.ensures.items.at i blank_pin (held_pin horizontal blank_pin) (search rules) in search rules))
 
-pub loop-i-preserved : goal.loop-i-preserved
-loop-i-preserved c = (search rules, search (rules, pin_more))
-
-pub returns : goal.returns
-returns c = search (rules, copied_all)
+pub returns-in-Vertical : goal.returns-in-Vertical
+returns-in-Vertical c = rw c.in-Vertical.is (mapped (held_pin vertical) blank_pin (held_pin vertical blank_pin) _ _ (search rules) (λ i h. let k = c.map-in-Vertical.ensures.items.at i blank_pin (held_pin vertical blank_pin) (search rules) in search rules))

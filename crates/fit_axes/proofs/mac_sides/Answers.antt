@@ -1,13 +1,12 @@
 use borrow.Author.Rules.{rules}
-use Prim.Native.Nat.{◌-◌}
-use Rattle.fit_axes.proofs.Copies.{copied_none, copied_all, side_more}
+use Rattle.model.specs.Meaning.{blank_mac}
+use Rattle.fit_slots.specs.declared.Direction.TheVariants.{Horizontal as horizontal, Vertical as vertical}
+use Rattle.fit_slots.specs.Slots.{mac_side}
+use Rattle.fit_axes.proofs.Mapped.{mapped}
 use Rattle.fit_axes.proofs.mac_sides.Goals as goal
 
-pub loop-i-init : goal.loop-i-init
-loop-i-init c = (search rules, search (rules, copied_none))
+pub returns-in-Horizontal : goal.returns-in-Horizontal
+returns-in-Horizontal c = rw c.in-Horizontal.is (mapped (mac_side horizontal) blank_mac 0 _ _ (search rules) (λ i h. let k = c.map.ensures.items.at i blank_mac 0 (search rules) in search rules))
 
-pub loop-i-preserved : goal.loop-i-preserved
-loop-i-preserved c = (search rules, search (rules, side_more))
-
-pub returns : goal.returns
-returns c = search (rules, copied_all)
+pub returns-in-Vertical : goal.returns-in-Vertical
+returns-in-Vertical c = rw c.in-Vertical.is (mapped (mac_side vertical) blank_mac 0 _ _ (search rules) (λ i h. let k = c.map-in-Vertical.ensures.items.at i blank_mac 0 (search rules) in search rules))

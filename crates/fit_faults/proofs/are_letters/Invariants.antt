@@ -5,7 +5,4 @@ use Prim.Native.Nat.{◌-◌, ◌≤◌}
 use Rattle.fit_faults.proofs.are_letters.Given as goal
 
 abbrev pub invariant-loop-i : goal.invariant-loop-i
-invariant-loop-i l = (l.i ≤ length l.letters) × (are_letters l.letters ≡ are_letters (drop l.i l.letters))
-
-abbrev pub decreases-loop-i : goal.decreases-loop-i
-decreases-loop-i l = length l.letters - l.i
+invariant-loop-i l = are_letters l.letters ≡ are_letters (drop l.i l.letters)

@@ -1,5 +1,4 @@
 use mathlib.Core.Path.{◌≡◌}
-use Prim.Native.Nat.{◌-◌, ◌≤◌}
 use mathlib.Core.List.{map}
 use lib.ListN.{take}
 use Rattle.fit_lists.specs.Lists.{low16}
@@ -7,7 +6,4 @@ use lib.Seq.{sets}
 use Rattle.fit_lists.proofs.put_amounts.Given as goal
 
 abbrev pub invariant-loop-i : goal.invariant-loop-i
-invariant-loop-i l = (l.i ≤ l.m) × (l.flow ≡ sets l.initial.flow l.at (take l.i (map low16 l.amounts)))
-
-abbrev pub decreases-loop-i : goal.decreases-loop-i
-decreases-loop-i l = l.m - l.i
+invariant-loop-i l = l.flow ≡ sets l.initial.flow l.at (take l.i (map low16 l.amounts))

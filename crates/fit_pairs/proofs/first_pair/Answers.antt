@@ -6,5 +6,5 @@ use Rattle.fit_pairs.proofs.first_pair.Goals as goal
 pub returns-then-n-ge2 : goal.returns-then-n-ge2
 returns-then-n-ge2 c = search (rules, macs_first_law, first_macs)
 
-pub returns : goal.returns
-returns c = search (rules, fixes_first_law, first_fixes)
+pub returns-else-n-ge2 : goal.returns-else-n-ge2
+returns-else-n-ge2 c = search (rules, fixes_first_law, first_fixes)

@@ -1,10 +1,14 @@
+use Rattle.std.proofs.Common.{rules}
+use Rattle.std.proofs.lemmas.Result.{err_from_is_err_and}
 use Rattle.chip_text.proofs.Passing.{whole, test_passed}
 use Rattle.fit_tests.proofs.Entering.{test_refused}
-use borrow.Author.Rules.{rules}
 use Rattle.fit_tests.proofs.test_letters.Goals as goal
 
 pub test_passed-requires : goal.test_passed-requires
-test_passed-requires c = search (rules, test_passed, whole)
+test_passed-requires c = let q = c.in_ok-test_chip.was in search (rules, test_passed, whole)
 
-pub returns-in-Refused : goal.returns-in-Refused
-returns-in-Refused c = search test_refused
+pub returns-in_err-test_chip : goal.returns-in_err-test_chip
+returns-in_err-test_chip c =
+    let q = c.in_err-test_chip.was in
+    let p = err_from_is_err_and c.from_residual.result c.from_residual.ensures.1 in
+    rw (p.1, p.2) (search test_refused)

@@ -1,34 +1,17 @@
-use borrow.Author.Rules.{rules}
-use Rattle.half_arrays.proofs.Answers.{says_no}
-use Rattle.half_reason.proofs.Reasoning.{bound_small, most_small, least_small, tight_follows, flow_follows, high_follows, low_follows}
+use Rattle.std.proofs.Common.{◌≡◌, true, ◌∙◌, sym, arith}
+use borrow.Author.Tests.{ltb-true}
+use Rattle.half_reason.proofs.Reasoning.{high_follows, low_follows}
 use Rattle.half_reason.proofs.follows.Goals as goal
+use Rattle.half_reason.proofs.follows.Goals.{then-amount-gt0, else-amount-gt0, then-amount-gt0-2, else-amount-gt0-2}
 
-pub even-requires : goal.even-requires
-even-requires c = search (rules, bound_small)
+pub returns-then-beside : goal.returns-then-beside
+returns-then-beside c = elim c.if-amount-gt0.branch [
+  | then-amount-gt0 w ↦ let e : w.beside.result ≡ true = cc in search high_follows
+  | else-amount-gt0 w ↦ absurd (let q = ltb-true 0 c.amount-in-High.result (sym w.value-is ∙ c.if-beside.true) in omega arith)
+]
 
-pub returns-then-how-eq0 : goal.returns-then-how-eq0
-returns-then-how-eq0 c = search tight_follows
-
-pub returns-then-how-eq65536 : goal.returns-then-how-eq65536
-returns-then-how-eq65536 c = search flow_follows
-
-pub returns-then-not-beside : goal.returns-then-not-beside
-returns-then-not-beside c = search says_no
-
-pub returns-then-amount-eq0 : goal.returns-then-amount-eq0
-returns-then-amount-eq0 c = search says_no
-
-pub even-requires-then-how-lt196608 : goal.even-requires-then-how-lt196608
-even-requires-then-how-lt196608 c = search (rules, most_small)
-
-pub returns-then-how-lt196608 : goal.returns-then-how-lt196608
-returns-then-how-lt196608 c = search high_follows
-
-pub returns-then-amount-eq0-2 : goal.returns-then-amount-eq0-2
-returns-then-amount-eq0-2 c = search says_no
-
-pub even-requires-2 : goal.even-requires-2
-even-requires-2 c = search (rules, least_small)
-
-pub returns : goal.returns
-returns c = search low_follows
+pub returns-then-beside-2 : goal.returns-then-beside-2
+returns-then-beside-2 c = elim c.if-amount-gt0-2.branch [
+  | then-amount-gt0-2 w ↦ let e : w.beside-then-amount-gt0-2.result ≡ true = cc in search low_follows
+  | else-amount-gt0-2 w ↦ absurd (let q = ltb-true 0 c.amount-in-Low.result (sym w.value-is ∙ c.if-beside-2.true) in omega arith)
+]

@@ -1,10 +1,9 @@
-use Prim.Native.Nat.{◌-◌}
-use borrow.Author.Rules.{rules}
 use Rattle.half_sums.proofs.Summing.{flows_none, flows_same, flows_more, flows_all, into_fits, out_fits, all_fits, bound_product, by_fits}
 use Rattle.half_sums.proofs.of_bounds.Goals as goal
+use Rattle.half_sums.proofs.of_bounds.Goals.{then-a-gt0, else-a-gt0}
 
 pub loop-c-init : goal.loop-c-init
-loop-c-init c = (search rules, search flows_none)
+loop-c-init c = search flows_none
 
 pub overflow_add-into : goal.overflow_add-into
 overflow_add-into c = search into_fits
@@ -21,11 +20,11 @@ overflow_mul-by c = search bound_product
 pub overflow_add-by : goal.overflow_add-by
 overflow_add-by c = search by_fits
 
-pub loop-c-preserved-then-a-gt0 : goal.loop-c-preserved-then-a-gt0
-loop-c-preserved-then-a-gt0 c = (search rules, search flows_more)
-
 pub loop-c-preserved : goal.loop-c-preserved
-loop-c-preserved c = (search rules, search flows_same)
+loop-c-preserved c = elim c.if-a-gt0.branch [
+  | then-a-gt0 w ↦ rw (w.into-is, w.out-is, w.all-is, w.by-is) (search flows_more)
+  | else-a-gt0 w ↦ rw (w.into-is, w.out-is, w.all-is, w.by-is) (search flows_same)
+]
 
 pub returns : goal.returns
 returns c = search flows_all

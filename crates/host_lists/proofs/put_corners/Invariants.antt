@@ -3,7 +3,4 @@ use Rattle.host_lists.proofs.CornersStored.{Stored}
 use Rattle.host_lists.proofs.put_corners.Given as goal
 
 abbrev pub invariant-loop-i : goal.invariant-loop-i
-invariant-loop-i l = (l.i ≤ 8) × (l.i ≤ l.n) × Stored l.initial.list l.spots l.list l.i
-
-abbrev pub decreases-loop-i : goal.decreases-loop-i
-decreases-loop-i l = 8 - l.i
+invariant-loop-i l = (l.i ≤ l.n) × Stored l.initial.list l.spots l.list l.i

@@ -3,7 +3,4 @@ use Rattle.host_measure.proofs.CornersRead.{CornersTo}
 use Rattle.host_measure.proofs.corners.Given as goal
 
 abbrev pub invariant-loop-i : goal.invariant-loop-i
-invariant-loop-i l = (l.i ≤ l.n) × CornersTo l.list l.spots l.i
-
-abbrev pub decreases-loop-i : goal.decreases-loop-i
-decreases-loop-i l = l.n - l.i
+invariant-loop-i l = CornersTo l.list l.spots l.i

@@ -1,9 +1,11 @@
+use mathlib.Core.Path.{refl}
+use Rattle.std.specs.Prelude.{Ok}
 use Rattle.chip_text.proofs.Passing.{Whole, whole}
 use Rattle.chip_read.proofs.Passing.{read_passed}
 use Rattle.host_measure.proofs.measure_text.Goals as goal
 
 pub measure_chip-requires : goal.measure_chip-requires
 measure_chip-requires c =
-    let g = c.read_chip-read.type_inv in
-    let w : Whole c.read_chip-read.result.chip = search whole in
-    read_passed _ _ c.read_chip-read.result.answer c.read_chip-read.ensures.result_value w c.in-Accepted.is
+    let g = c.type_inv in
+    let w : Whole c.in-Ok.c = search whole in
+    read_passed _ (Ok c.in-Ok.c) c.in-Ok.ensures.result_value c.in-Ok.c w refl

@@ -5,7 +5,4 @@ use Rattle.placement.specs.Legal.{boxes}
 use Rattle.legal.proofs.boxes_at.Given as goal
 
 abbrev pub invariant-loop-i : goal.invariant-loop-i
-invariant-loop-i l = (l.i ≤ 8) × (length l.bs ≡ 8) × (take l.i l.bs ≡ take l.i (boxes l.macs l.spots))
-
-abbrev pub decreases-loop-i : goal.decreases-loop-i
-decreases-loop-i l = 8 - l.i
+invariant-loop-i l = (length l.bs ≡ 8) × (take l.i l.bs ≡ take l.i (boxes l.macs l.spots))

@@ -4,7 +4,4 @@ use Rattle.legal.proofs.InTurn.{Left}
 use Rattle.legal.proofs.legal_first.Given as goal
 
 abbrev pub invariant-loop-i : goal.invariant-loop-i
-invariant-loop-i l = (l.i ≤ l.n) × Left 0 l.die (take l.k l.fs) l.bs l.n l.i
-
-abbrev pub decreases-loop-i : goal.decreases-loop-i
-decreases-loop-i l = l.n - l.i
+invariant-loop-i l = Left 0 l.die (take l.k l.fs) l.bs l.n l.i

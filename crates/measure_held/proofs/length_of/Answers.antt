@@ -5,13 +5,13 @@ use borrow.Author.Rules.{rules}
 use Rattle.measure_held.proofs.length_of.Goals as goal
 
 pub loop-j-init : goal.loop-j-init
-loop-j-init c = (search rules, search rules, search none_before, search none_summed)
+loop-j-init c = (search rules, search none_before, search none_summed)
 
 pub returns-then-c-j : goal.returns-then-c-j
 returns-then-c-j c = search all_summed
 
 pub loop-j-preserved : goal.loop-j-preserved
-loop-j-preserved c = (search rules, search rules, search (rules, next_before), search (one_summed, pins_long, whole))
+loop-j-preserved c = (search rules, search (rules, next_before), search (one_summed, pins_long, whole))
 
 pub returns : goal.returns
 returns c = search most_summed

@@ -3,7 +3,4 @@ use Rattle.measure_nets.proofs.Around.{Around}
 use Rattle.measure_nets.proofs.net_box.Given as goal
 
 abbrev pub invariant-loop-i : goal.invariant-loop-i
-invariant-loop-i l = (l.i ≤ l.to) × Around l.spots l.pins l.from l.to l.i l.b
-
-abbrev pub decreases-loop-i : goal.decreases-loop-i
-decreases-loop-i l = l.to - l.i
+invariant-loop-i l = Around l.spots l.pins l.from l.to l.i l.b

@@ -1,29 +1,21 @@
 -- A text that has no sign: the loop keeps the answer for the digits that are left.
-use borrow.Author.Rules.{rules}
-use Prim.Native.Nat.{◌-◌}
-use Rattle.num_text.proofs.Reading.{empty, only_zero, zero_first, begins, low_ends, high_ends, digit_more, all_read}
+use Rattle.std.proofs.Common.{rules}
+use borrow.Author.Tests.{tests}
+use Rattle.num_text.proofs.Reading.{empty, zero_first, begins, no_digit, digit_more, all_read}
 use Rattle.num_text.proofs.read_natural.Goals as goal
+use Rattle.num_text.proofs.read_natural.Goals.{then-is_empty-via-then-is_empty, then-is_empty-via-else-is_empty+then-s-ne1, then-s-eq48, else-s-eq48}
 
-pub returns-then-s-eq0 : goal.returns-then-s-eq0
-returns-then-s-eq0 c = search empty
+pub returns-then-is_empty : goal.returns-then-is_empty
+returns-then-is_empty c = elim c.then-is_empty.branch [ then-is_empty-via-then-is_empty w ↦ search (rules, tests, empty) | then-is_empty-via-else-is_empty+then-s-ne1 w ↦ search (rules, zero_first) ]
 
-pub returns-then-s-eq1 : goal.returns-then-s-eq1
-returns-then-s-eq1 c = search only_zero
+pub loop-b-init : goal.loop-b-init
+loop-b-init c = (search rules, search (rules, tests, begins))
 
-pub returns-then-s-eq48 : goal.returns-then-s-eq48
-returns-then-s-eq48 c = search zero_first
+pub returns-then-not-is_ascii_digit : goal.returns-then-not-is_ascii_digit
+returns-then-not-is_ascii_digit c = search (rules, no_digit)
 
-pub loop-i-init : goal.loop-i-init
-loop-i-init c = (search rules, search rules, search begins)
-
-pub returns-then-b-lt48 : goal.returns-then-b-lt48
-returns-then-b-lt48 c = search low_ends
-
-pub returns-then-b-gt57 : goal.returns-then-b-gt57
-returns-then-b-gt57 c = search high_ends
-
-pub loop-i-preserved : goal.loop-i-preserved
-loop-i-preserved c = (search rules, search rules, search digit_more)
+pub loop-b-preserved : goal.loop-b-preserved
+loop-b-preserved c = (search rules, search (rules, digit_more))
 
 pub returns : goal.returns
-returns c = search all_read
+returns c = search (rules, all_read)

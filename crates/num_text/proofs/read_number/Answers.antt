@@ -1,18 +1,19 @@
 -- A number: the sign, then the magnitude.
-use Rattle.num_text.proofs.Sign.{no_text, minus_bad, minus_zero, minus_value, no_minus}
+use Rattle.std.proofs.Common.{rules}
+use Rattle.num_text.proofs.Sign.{minus_none, minus_zero, minus_some, plain_none, plain_some}
 use Rattle.num_text.proofs.read_number.Goals as goal
 
-pub returns-then-s-eq0 : goal.returns-then-s-eq0
-returns-then-s-eq0 c = search no_text
+pub returns-in_err-magnitude : goal.returns-in_err-magnitude
+returns-in_err-magnitude c = search (rules, minus_none)
 
-pub returns-in_default : goal.returns-in_default
-returns-in_default c = search minus_bad
+pub returns-then-magnitude-eq0 : goal.returns-then-magnitude-eq0
+returns-then-magnitude-eq0 c = search (rules, minus_zero)
 
-pub returns-then-m-eq0 : goal.returns-then-m-eq0
-returns-then-m-eq0 c = search minus_zero
+pub returns-in-45 : goal.returns-in-45
+returns-in-45 c = search (rules, minus_some)
 
-pub returns-then-s-eq45 : goal.returns-then-s-eq45
-returns-then-s-eq45 c = search minus_value
+pub returns-in_err-magnitude-2 : goal.returns-in_err-magnitude-2
+returns-in_err-magnitude-2 c = search (rules, plain_none)
 
 pub returns : goal.returns
-returns c = search no_minus
+returns c = search (rules, plain_some)

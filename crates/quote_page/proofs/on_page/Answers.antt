@@ -5,4 +5,4 @@ use Rattle.quote_page.proofs.on_page.Goals as goal
 pub returns : goal.returns
 returns c =
     let w : Whole c.args.c = search whole in
-    page_held _ w _ c.pins_before-pins.ensures _ c.within_page.ensures
+    page_held _ w _ c.pins_before.ensures _ c.within_page.ensures

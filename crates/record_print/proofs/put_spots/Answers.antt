@@ -7,10 +7,10 @@ use borrow.Author.Rules.{rules}
 use Rattle.record_print.proofs.put_spots.Goals as goal
 
 pub loop-i-init : goal.loop-i-init
-loop-i-init c = (search rules, search (rules, run_none record_words))
+loop-i-init c = search (rules, run_none record_words)
 
 pub loop-i-preserved : goal.loop-i-preserved
-loop-i-preserved c = (search rules, search (rules, spot_more))
+loop-i-preserved c = search (rules, spot_more)
 
 pub shape_of-out : goal.shape_of-out
 shape_of-out c = search (rules, wrote_length)

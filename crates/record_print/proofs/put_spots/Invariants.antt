@@ -7,7 +7,4 @@ use Rattle.record_print.proofs.Printed.{spot_item}
 use Rattle.record_print.proofs.put_spots.Given as goal
 
 abbrev pub invariant-loop-i : goal.invariant-loop-i
-invariant-loop-i l = (l.i ≤ l.last) × Wrote l.initial.out l.out (items_text record_words (run (spot_item l.spots) 0 l.i)) l.at l.a
-
-abbrev pub decreases-loop-i : goal.decreases-loop-i
-decreases-loop-i l = l.last - l.i
+invariant-loop-i l = Wrote l.initial.out l.out (items_text record_words (run (spot_item l.spots) 0 l.i)) l.at l.a

@@ -1,8 +1,8 @@
 use Rattle.record_read.proofs.Lines.{least_held, none_held}
 use Rattle.record_read.proofs.record_of.Goals as goal
 
-pub returns-then-s : goal.returns-then-s
-returns-then-s c = search least_held
+pub returns-in-Some : goal.returns-in-Some
+returns-in-Some c = search least_held
 
-pub returns : goal.returns
-returns c = search none_held
+pub returns-in-None : goal.returns-in-None
+returns-in-None c = search none_held

@@ -8,13 +8,13 @@ pub returns-then-wl-gt-LENGTH_MOST : goal.returns-then-wl-gt-LENGTH_MOST
 returns-then-wl-gt-LENGTH_MOST c = search length_over
 
 pub loop-i-init : goal.loop-i-init
-loop-i-init c = (search rules, search rules, search length_passed)
+loop-i-init c = (search rules, search length_passed)
 
 pub returns-then-no-ne0 : goal.returns-then-no-ne0
 returns-then-no-ne0 c = search (rules, spot_refused)
 
 pub loop-i-preserved : goal.loop-i-preserved
-loop-i-preserved c = (search one_more, search rules, search (rules, spot_passed))
+loop-i-preserved c = (search one_more, search (rules, spot_passed))
 
 pub returns : goal.returns
 returns c = search (rules, all_passed)

@@ -4,7 +4,4 @@ use Rattle.record_test.proofs.SpotsRead.{LeftFrom}
 use Rattle.record_test.proofs.test_least.Given as goal
 
 abbrev pub invariant-loop-i : goal.invariant-loop-i
-invariant-loop-i l = (l.i ≤ 8) × (l.i ≤ l.n) × LeftFrom l.wl l.n l.spots l.i
-
-abbrev pub decreases-loop-i : goal.decreases-loop-i
-decreases-loop-i l = l.n - l.i
+invariant-loop-i l = (l.i ≤ 8) × LeftFrom l.wl l.n l.spots l.i

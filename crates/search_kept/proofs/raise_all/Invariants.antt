@@ -1,9 +1,5 @@
-use Prim.Native.Nat.{◌≤◌, ◌-◌}
 use Rattle.search_kept.specs.Differences.{Follows}
 use Rattle.search_kept.proofs.raise_all.Given as goal
 
 abbrev pub invariant-loop-p : goal.invariant-loop-p
-invariant-loop-p l = (l.p ≤ 9) × Follows l.initial.e l.u l.v l.b l.e
-
-abbrev pub decreases-loop-p : goal.decreases-loop-p
-decreases-loop-p l = 9 - l.p
+invariant-loop-p l = Follows l.initial.e l.u l.v l.b l.e

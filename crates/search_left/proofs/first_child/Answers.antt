@@ -1,13 +1,13 @@
-use Prim.Native.Nat.{◌-◌}
-use Rattle.search_left.proofs.FourChildren.{sought_start, sought_all, sought_taken, sought_left}
-use borrow.Author.Rules.{rules}
+use Rattle.search_left.proofs.FourChildren.{sought_start, sought_taken, sought_left}
 use Rattle.search_left.proofs.first_child.Goals as goal
+use Rattle.search_left.proofs.first_child.Goals.{then-replaces_best, else-replaces_best}
 
 pub loop-i-init : goal.loop-i-init
-loop-i-init c = (search rules, search sought_start)
+loop-i-init c = search sought_start
 
-pub loop-i-preserved-then-first : goal.loop-i-preserved-then-first
-loop-i-preserved-then-first c = (search rules, search sought_taken)
-
-pub returns : goal.returns
-returns c = search sought_all
+pub loop-i-preserved : goal.loop-i-preserved
+loop-i-preserved c =
+    elim c.if-replaces_best.branch [
+      | then-replaces_best w ↦ rw (w.best-is, w.at-is) (search sought_taken)
+      | else-replaces_best w ↦ rw (w.best-is, w.at-is) (search sought_left)
+    ]

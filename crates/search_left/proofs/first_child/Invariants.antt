@@ -1,10 +1,6 @@
-use Prim.Native.Nat.{◌≤◌, ◌-◌}
 use Rattle.search_left.specs.Left.{child_list}
 use Rattle.search_left.proofs.FourChildren.{Sought}
 use Rattle.search_left.proofs.first_child.Given as goal
 
 abbrev pub invariant-loop-i : goal.invariant-loop-i
-invariant-loop-i l = (l.i ≤ 4) × Sought (child_list l.left) l.best l.at l.i
-
-abbrev pub decreases-loop-i : goal.decreases-loop-i
-decreases-loop-i l = 4 - l.i
+invariant-loop-i l = Sought (child_list l.left) l.best l.at l.i

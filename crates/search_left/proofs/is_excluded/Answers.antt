@@ -1,11 +1,11 @@
-use Rattle.search_left.proofs.Differing.{excluded_over, excluded_across, excluded_up}
+use Rattle.std.proofs.Common.{◌≡◌}
+use Rattle.fit_slots.specs.declared.Direction.TheVariants.{Horizontal as horizontal, Vertical as vertical}
+use Rattle.search_node.specs.Letters.{way_at}
+use Rattle.search_left.proofs.Differing.{excluded_across, excluded_up}
 use Rattle.search_left.proofs.is_excluded.Goals as goal
 
-pub returns-then-is_over : goal.returns-then-is_over
-returns-then-is_over c = search excluded_over
+pub returns-in-Horizontal : goal.returns-in-Horizontal
+returns-in-Horizontal c = let e : horizontal ≡ way_at c.args.i = cc (c.in-Horizontal.ensures) in search excluded_across
 
-pub returns-then-i-lt2 : goal.returns-then-i-lt2
-returns-then-i-lt2 c = search excluded_across
-
-pub returns : goal.returns
-returns c = search excluded_up
+pub returns-in-Vertical : goal.returns-in-Vertical
+returns-in-Vertical c = let e : vertical ≡ way_at c.args.i = cc (c.in-Vertical.ensures) in search excluded_up

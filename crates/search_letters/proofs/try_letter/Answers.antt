@@ -7,5 +7,5 @@ returns-then-is_excluded c = search one_excluded
 pub returns-then-replaces_best : goal.returns-then-replaces_best
 returns-then-replaces_best c = search one_left
 
-pub returns : goal.returns
-returns c = search one_closed
+pub returns-else-replaces_best : goal.returns-else-replaces_best
+returns-else-replaces_best c = search one_closed

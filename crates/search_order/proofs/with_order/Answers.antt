@@ -1,5 +1,5 @@
 use Rattle.search_order.proofs.Ordering.{order_equal}
 use Rattle.search_order.proofs.with_order.Goals as goal
 
-pub returns : goal.returns
-returns c = search order_equal
+pub returns-then-alike : goal.returns-then-alike
+returns-then-alike c = search order_equal

@@ -24,11 +24,11 @@ returns-then-rule-ne0 c = search string_read
 pub returns-in_default : goal.returns-in_default
 returns-in_default c = search no_number_law
 
-pub returns-then-up-magnitude : goal.returns-then-up-magnitude
-returns-then-up-magnitude c = search too_far_below
+pub returns-then-up-number : goal.returns-then-up-number
+returns-then-up-number c = search too_far_below
 
-pub returns-then-negative : goal.returns-then-negative
-returns-then-negative c = search negative
+pub returns-then-number : goal.returns-then-number
+returns-then-number c = search negative
 
 pub overflow_add-up : goal.overflow_add-up
 overflow_add-up c = search (rules, magnitude_fits)

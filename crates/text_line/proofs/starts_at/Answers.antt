@@ -8,13 +8,13 @@ pub returns-then-text-a : goal.returns-then-text-a
 returns-then-text-a c = search (rules, too_short)
 
 pub loop-i-init : goal.loop-i-init
-loop-i-init c = (search rules, search (rules, at_start))
+loop-i-init c = search (rules, at_start)
 
 pub returns-then-text-a-2 : goal.returns-then-text-a-2
 returns-then-text-a-2 c = search (rules, other_byte)
 
 pub loop-i-preserved : goal.loop-i-preserved
-loop-i-preserved c = (search rules, search (rules, same_byte))
+loop-i-preserved c = search (rules, same_byte)
 
 pub returns : goal.returns
 returns c = search (rules, present)

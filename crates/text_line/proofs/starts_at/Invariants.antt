@@ -6,7 +6,4 @@ use Rattle.text_grammar.specs.Line.{strip}
 use Rattle.text_line.proofs.starts_at.Given as goal
 
 abbrev pub invariant-loop-i : goal.invariant-loop-i
-invariant-loop-i l = (l.i ≤ l.size) × (strip (take l.size l.mark) (drop l.a l.text) ≡ strip (drop l.i (take l.size l.mark)) (drop (l.a + l.i) l.text))
-
-abbrev pub decreases-loop-i : goal.decreases-loop-i
-decreases-loop-i l = l.size - l.i
+invariant-loop-i l = strip (take l.size l.mark) (drop l.a l.text) ≡ strip (drop l.i (take l.size l.mark)) (drop (l.a + l.i) l.text)

@@ -5,7 +5,7 @@ use Rattle.text_put.proofs.Fields.{no_field, field_more, no_rule_left, no_room_l
 use Rattle.text_put.proofs.put_fields.Goals as goal
 
 pub loop-i-init : goal.loop-i-init
-loop-i-init c = (search rules, search (rules, no_field))
+loop-i-init c = search (rules, no_field)
 
 pub shape_of-out-then-rule-eq0 : goal.shape_of-out-then-rule-eq0
 shape_of-out-then-rule-eq0 c = search (rules, wrote_length)
@@ -14,7 +14,7 @@ pub returns-then-rule-eq0 : goal.returns-then-rule-eq0
 returns-then-rule-eq0 c = search no_rule_left
 
 pub loop-i-preserved : goal.loop-i-preserved
-loop-i-preserved c = (search rules, search (rules, field_more))
+loop-i-preserved c = search (rules, field_more)
 
 pub shape_of-out : goal.shape_of-out
 shape_of-out c = search (rules, wrote_length)

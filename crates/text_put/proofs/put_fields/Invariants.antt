@@ -4,7 +4,4 @@ use Rattle.text_put.proofs.Fields.{PutTo}
 use Rattle.text_put.proofs.put_fields.Given as goal
 
 abbrev pub invariant-loop-i : goal.invariant-loop-i
-invariant-loop-i l = (l.i ≤ 4) × PutTo l.rules l.source l.v l.initial.out l.at l.out l.a l.j l.i
-
-abbrev pub decreases-loop-i : goal.decreases-loop-i
-decreases-loop-i l = 4 - l.i
+invariant-loop-i l = PutTo l.rules l.source l.v l.initial.out l.at l.out l.a l.j l.i

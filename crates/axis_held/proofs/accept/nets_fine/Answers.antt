@@ -1,25 +1,25 @@
-use Prim.Native.Nat.{◌-◌}
-use borrow.Author.Rules.{rules}
-use Rattle.axis_held.proofs.Accepting.{nets_none, nets_few, counts_no, counts_few, counts_fits, net_no, nets_more, nets_yes}
+use native.Mathlib.Omega.{arith}
+use lib.ListN.{length-take}
+use lib.Seq.{get_or-take}
+use Prim.Native.Nat.{◌<◌}
+use Rattle.axis_bounds.specs.Axis.{no_net}
+use Rattle.axis_held.proofs.Accepting.{nets_none, counts_no, net_no, nets_more}
 use Rattle.axis_held.proofs.accept.nets_fine.Goals as goal
+use Rattle.axis_held.proofs.accept.nets_fine.Goals.{then-not-counts_fine-via-then-not-counts_fine, then-not-counts_fine-via-else-not-counts_fine+then-not-pins_fine}
 
-pub loop-j-init : goal.loop-j-init
-loop-j-init c = (search rules, search nets_none)
-
-pub counts_fine-requires : goal.counts_fine-requires
-counts_fine-requires c = search nets_few
+pub loop-k-init : goal.loop-k-init
+loop-k-init c = search nets_none
 
 pub returns-then-not-counts_fine : goal.returns-then-not-counts_fine
-returns-then-not-counts_fine c = search counts_no
+returns-then-not-counts_fine c =
+    let l : c.loop-k.k-index < c.args.t = omega (arith, length-take c.args.t c.args.nets.now) in
+    let e = get_or-take c.args.t c.args.nets.now c.loop-k.k-index no_net l in
+    elim c.then-not-counts_fine.branch [
+      | then-not-counts_fine-via-then-not-counts_fine w ↦ counts_no _ _ _ _ _ _ c.loop-k.invariant l _ e _ c.counts_fine.ensures w.if-not-counts_fine.true
+      | then-not-counts_fine-via-else-not-counts_fine+then-not-pins_fine w ↦ net_no _ _ _ _ _ _ c.loop-k.invariant l _ e _ c.counts_fine.ensures w.if-not-counts_fine.false _ w.pins_fine.ensures w.if-not-pins_fine.true
+    ]
 
-pub overflow_add-to : goal.overflow_add-to
-overflow_add-to c = search counts_fits
-
-pub returns-then-not-pins_fine : goal.returns-then-not-pins_fine
-returns-then-not-pins_fine c = search net_no
-
-pub loop-j-preserved : goal.loop-j-preserved
-loop-j-preserved c = (search rules, search nets_more)
-
-pub returns : goal.returns
-returns c = search nets_yes
+pub loop-k-preserved : goal.loop-k-preserved
+loop-k-preserved c =
+    let l : c.loop-k.k-index < c.args.t = omega (arith, length-take c.args.t c.args.nets.now) in
+    nets_more _ _ _ _ _ _ c.loop-k.invariant l _ (get_or-take c.args.t c.args.nets.now c.loop-k.k-index no_net l) _ c.counts_fine.ensures c.if-not-counts_fine.false _ c.pins_fine.ensures c.if-not-pins_fine.false

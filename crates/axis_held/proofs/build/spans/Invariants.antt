@@ -1,4 +1,3 @@
-use Prim.Native.Nat.{◌≤◌, ◌-◌}
 use mathlib.Core.Path.{◌≡◌}
 use lib.ListN.{length}
 use Rattle.axis_graph.specs.Build.{SpansTo}
@@ -6,7 +5,4 @@ use Rattle.axis_held.proofs.build.spans.Given as goal
 
 -- the first j nets are written
 abbrev pub invariant-loop-j : goal.invariant-loop-j
-invariant-loop-j l = (l.j ≤ l.t) × (length l.r ≡ 32) × SpansTo l.n l.nets l.j l.r
-
-abbrev pub decreases-loop-j : goal.decreases-loop-j
-decreases-loop-j l = l.t - l.j
+invariant-loop-j l = (length l.r ≡ 32) × SpansTo l.n l.nets l.j l.r

@@ -1,11 +1,15 @@
-use Rattle.axis_held.proofs.HeldGraphs.{is_held, graph_beyond, graph_held}
+use mathlib.Core.Path.{◌∙◌}
+use Rattle.axis_bounds.specs.Held.{Held}
+use Rattle.axis_held.proofs.HeldAxes.{Shaped, shaped}
+use Rattle.axis_held.proofs.HeldGraphs.{macros_built, graph_held}
 use Rattle.axis_held.proofs.graphs.macro_graph.Goals as goal
+use Rattle.axis_held.proofs.graphs.macro_graph.Goals.{Then-is_held}
 
-pub returns-then-not-is_held : goal.returns-then-not-is_held
-returns-then-not-is_held c = search graph_beyond
+-- the axis's arrays are as long as its type says
+shape : (t : Then-is_held) → Shaped t.args.a
+shape t = search shaped
 
-pub macros-requires : goal.macros-requires
-macros-requires c = search is_held
-
-pub returns : goal.returns
-returns c = search graph_held
+pub returns-then-is_held : goal.returns-then-is_held
+returns-then-is_held c =
+    let h : Held c.args.a = c.is_held.ensures.holds c.if-is_held.true in
+    graph_held c.args.a _ _ h (c.small.ensures ∙ macros_built c.args.a (shape (goal.at.returns-then-is_held c).Then-is_held) h _ c.macro_slots.ensures)

@@ -4,4 +4,4 @@ use Rattle.axis_held.proofs.graphs.macro_slots.Goals as goal
 
 pub returns : goal.returns
 returns c =
-    all_are c.args.a (search shaped) c.requires _ c.die_slots-die.ensures _ c.put_pairs.ensures
+    all_are c.args.a (search shaped) c.requires _ c.die_slots.ensures _ c.put_pairs.ensures

@@ -1,25 +1,12 @@
-use Prim.Native.Nat.{◌-◌}
-use Rattle.axis_solve.proofs.AllBounds.{admitting_starts, admitting_fine, admitting_free, admitting_fresh, admitting_slot, admitting_net, admitting_more, admitting_refuted, admitting_all}
+use Rattle.std.proofs.lemmas.Result.{err_from_is_err_and}
+use Rattle.axis_solve.proofs.AllBounds.{admitting_more, admitting_refuted}
 use Rattle.axis_solve.proofs.admit.admit_all.Goals as goal
 
-pub loop-j-init : goal.loop-j-init
-loop-j-init c = search admitting_starts
-
-pub admit_slot-a-requires : goal.admit_slot-a-requires
-admit_slot-a-requires c =
-    record {
-      graph_within = search admitting_fine;
-      feasible = search admitting_free;
-      fresh = search admitting_fresh;
-      slot_within = search admitting_slot;
-      net = search admitting_net;
-    }
+pub returns-in_err-x : goal.returns-in_err-x
+returns-in_err-x c =
+    let p = err_from_is_err_and c.from_residual.result c.from_residual.ensures.1 in
+    rw (p.1, p.2) (admitting_refuted _ _ _ _ _ _ c.loop-j.invariant c.loop-j-test.true c.requires.to_le_slot_room _ c.in_err-x.ensures)
 
 pub loop-j-preserved : goal.loop-j-preserved
-loop-j-preserved c = search admitting_more
-
-pub returns-else-ok : goal.returns-else-ok
-returns-else-ok c = search admitting_refuted
-
-pub returns : goal.returns
-returns c = search admitting_all
+loop-j-preserved c =
+    admitting_more _ _ _ _ _ _ c.loop-j.invariant c.loop-j-test.true c.requires.to_le_slot_room _ c.in_ok-x.ensures

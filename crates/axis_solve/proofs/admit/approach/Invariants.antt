@@ -3,8 +3,8 @@ use Rattle.axis_solve.proofs.Reaches.{Reaching}
 use Rattle.axis_solve.proofs.admit.approach.Given as goal
 
 -- the growth goes on; nodes outside get fewer
-abbrev pub invariant-loop-v : goal.invariant-loop-v
-invariant-loop-v l = Reaching l.g l.f l.initial.v.start l.v
+abbrev pub invariant-loop-w : goal.invariant-loop-w
+invariant-loop-w l = Reaching l.g l.f l.fn.w.start l.w
 
-abbrev pub decreases-loop-v : goal.decreases-loop-v
-decreases-loop-v l = outside l.v.rank l.g.n
+abbrev pub decreases-loop-w : goal.decreases-loop-w
+decreases-loop-w l = outside l.w.rank l.g.n

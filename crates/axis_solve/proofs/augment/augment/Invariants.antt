@@ -1,9 +1,9 @@
 use Rattle.axis_solve.proofs.Turns.{Augmenting}
 use Rattle.axis_solve.proofs.augment.augment.Given as goal
 
--- r of the weight is left
-abbrev pub invariant-loop-r : goal.invariant-loop-r
-invariant-loop-r l = Augmenting l.g l.initial.h l.lo l.hi l.weight l.y l.h l.r
+-- what is left of the weight
+abbrev pub invariant-loop-weight : goal.invariant-loop-weight
+invariant-loop-weight l = Augmenting l.g l.fn.f l.lo l.hi l.fn.weight l.x l.f l.weight
 
-abbrev pub decreases-loop-r : goal.decreases-loop-r
-decreases-loop-r l = l.r
+abbrev pub decreases-loop-weight : goal.decreases-loop-weight
+decreases-loop-weight l = l.weight

@@ -1,22 +1,20 @@
-use Prim.Native.Nat.{◌-◌}
-use borrow.Author.Rules.{rules}
-use Rattle.axis_solve.proofs.AllNets.{flows_none, flows_sound, flows_net, flows_spare, flows_more, flows_all}
+use native.Mathlib.Omega.{arith}
+use Prim.Native.Nat.{◌<◌}
+use lib.ListN.{length-take}
+use lib.Seq.{get_or-take}
+use Rattle.axis_graph.specs.Solved.{no_span}
+use Rattle.axis_solve.proofs.AllNets.{flows_none, flows_spare, flows_more}
 use Rattle.axis_solve.proofs.solve.augment_all.Goals as goal
 
-pub loop-j-init : goal.loop-j-init
-loop-j-init c = (search rules, search flows_none)
+pub loop-p-init : goal.loop-p-init
+loop-p-init c = search flows_none
 
-pub augment-t-requires : goal.augment-t-requires
-augment-t-requires c =
-    record {
-      graph_within = search rules;
-      sound = search flows_sound;
-      spare = search flows_spare;
-      net = search flows_net;
-    }
+pub augment-t-requires-clause-spare : goal.augment-t-requires-clause-spare
+augment-t-requires-clause-spare c =
+    let l : c.loop-p.p-index < c.args.count = omega (arith, length-take c.args.count c.args.nets) in
+    rw (get_or-take c.args.count c.args.nets c.loop-p.p-index no_span l) (search flows_spare)
 
-pub loop-j-preserved : goal.loop-j-preserved
-loop-j-preserved c = (search rules, search flows_more)
-
-pub returns : goal.returns
-returns c = search flows_all
+pub loop-p-preserved : goal.loop-p-preserved
+loop-p-preserved c =
+    let l : c.loop-p.p-index < c.args.count = omega (arith, length-take c.args.count c.args.nets) in
+    flows_more _ _ _ _ _ c.loop-p.invariant _ _ (rw (get_or-take c.args.count c.args.nets c.loop-p.p-index no_span l) at c.augment-t.ensures)

@@ -1,10 +1,9 @@
-use Prim.Native.Nat.{◌-◌}
 use borrow.Author.Rules.{rules}
-use Rattle.axis_solve.proofs.Starts.{start_none, start_few, start_fits, start_pins, start_hi, start_lo, start_more, start_all}
+use Rattle.axis_solve.proofs.Starts.{start_none, start_few, start_fits, start_pins, start_more}
 use Rattle.axis_solve.proofs.start.start_values.Goals as goal
 
 pub loop-j-init : goal.loop-j-init
-loop-j-init c = (search rules, search (rules, start_none))
+loop-j-init c = search (rules, start_none)
 
 pub net_ends-e-requires : goal.net_ends-e-requires
 net_ends-e-requires c =
@@ -13,17 +12,8 @@ net_ends-e-requires c =
       pins_in = search start_pins;
     }
 
-pub overflow_sub-y : goal.overflow_sub-y
-overflow_sub-y c = search start_hi
-
-pub overflow_sub-y-in-loop-j : goal.overflow_sub-y-in-loop-j
-overflow_sub-y-in-loop-j c = search start_lo
-
 pub overflow_add-from : goal.overflow_add-from
 overflow_add-from c = search start_fits
 
 pub loop-j-preserved : goal.loop-j-preserved
-loop-j-preserved c = (search rules, search start_more)
-
-pub returns : goal.returns
-returns c = search start_all
+loop-j-preserved c = search start_more

@@ -1,11 +1,6 @@
-use Prim.Native.Nat.{◌-◌, ◌≤◌}
-use lib.ListN.{length}
 use Rattle.fit_axes.proofs.Pairing.{Writing}
 use Rattle.fit_axes.proofs.pairlist.pair_slots.Given as goal
 
 -- s slots are written, and the cursor is at the pair of letter s
 abbrev pub invariant-loop-s : goal.invariant-loop-s
-invariant-loop-s l = (l.s ≤ 120) × (l.s ≤ length l.letters) × Writing l.c l.letters l.d l.pairs l.at l.s
-
-abbrev pub decreases-loop-s : goal.decreases-loop-s
-decreases-loop-s l = 120 - l.s
+invariant-loop-s l = Writing l.c l.letters l.d l.pairs l.at l.s

@@ -11,8 +11,8 @@ use Rattle.search.proofs.branch.+search.Given as goal
 abbrev pub decreases-search : goal.decreases-search
 decreases-search l = undecided (letters_in l.node.letters l.p)
 
-abbrev pub invariant-loop-parts : goal.invariant-loop-parts
-invariant-loop-parts l = LeftOk (chip_in l.cs) l.p l.node l.s 4 l.left l.b × Grown (chip_in l.cs) l.initial.b l.b
+abbrev pub invariant-loop-i : goal.invariant-loop-i
+invariant-loop-i l = LeftOk (chip_in l.cs) l.p l.node l.pair.s 4 l.left l.b × Grown (chip_in l.cs) l.initial.b l.b
 
-abbrev pub decreases-loop-parts : goal.decreases-loop-parts
-decreases-loop-parts l = held_in (child_list l.left)
+abbrev pub decreases-loop-i : goal.decreases-loop-i
+decreases-loop-i l = held_in (child_list l.left)

@@ -4,5 +4,5 @@ use Rattle.search.proofs.branch.next_node.Goals as goal
 pub returns-then-i-lt2 : goal.returns-then-i-lt2
 returns-then-i-lt2 c = search of_across
 
-pub returns : goal.returns
-returns c = search of_up
+pub returns-else-i-lt2 : goal.returns-else-i-lt2
+returns-else-i-lt2 c = search of_up

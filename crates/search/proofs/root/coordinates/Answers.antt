@@ -1,14 +1,12 @@
-use Prim.Native.Nat.{◌-◌}
-use Rattle.fit_axes.proofs.Copies.{copied_none, copied_all}
-use Rattle.search_join.proofs.Cornering.{coordinates_more}
 use borrow.Author.Rules.{rules}
+use Rattle.model.specs.Meaning.{blank_spot}
+use Rattle.fit_slots.specs.declared.Direction.TheVariants.{Horizontal as horizontal, Vertical as vertical}
+use Rattle.fit_slots.specs.Axes.{corner_on}
+use Rattle.fit_axes.proofs.Mapped.{mapped}
 use Rattle.search.proofs.root.coordinates.Goals as goal
 
-pub loop-i-init : goal.loop-i-init
-loop-i-init c = (search rules, search (rules, copied_none))
+pub returns-in-Horizontal : goal.returns-in-Horizontal
+returns-in-Horizontal c = rw c.in-Horizontal.is (mapped (corner_on horizontal) blank_spot 0 _ _ (search rules) (λ i h. let k = c.map.ensures.items.at i blank_spot 0 (search rules) in search rules))
 
-pub loop-i-preserved : goal.loop-i-preserved
-loop-i-preserved c = (search rules, search (rules, coordinates_more))
-
-pub returns : goal.returns
-returns c = search (rules, copied_all)
+pub returns-in-Vertical : goal.returns-in-Vertical
+returns-in-Vertical c = rw c.in-Vertical.is (mapped (corner_on vertical) blank_spot 0 _ _ (search rules) (λ i h. let k = c.map-in-Vertical.ensures.items.at i blank_spot 0 (search rules) in search rules))

@@ -1,4 +1,5 @@
-use borrow.Author.Rules.{rules}
+use Rattle.std.proofs.Common.{rules}
+use Rattle.std.proofs.lemmas.Result.{err_from_is_err_and}
 use Rattle.chip_text.proofs.Passing.{Whole, whole, test_passed}
 use Rattle.search.proofs.Placing.{search_refused, record_searched}
 use Rattle.search.proofs.service.search_chip.Goals as goal
@@ -7,13 +8,15 @@ pub chip_record-requires : goal.chip_record-requires
 chip_record-requires c =
     let wf = c.well_formed in
     let w : Whole c.args.c = search whole in
-    test_passed _ w c.test_chip-tested.result c.test_chip-tested.ensures c.in-Passed.is
+    test_passed _ w c.test_chip.result c.test_chip.ensures c.in_ok-test_chip.was
 
-pub returns-in-Refused : goal.returns-in-Refused
-returns-in-Refused c = search_refused _ _ _ c.test_chip-tested.result c.test_chip-tested.ensures c.in-Refused.is
+pub returns-in_err-test_chip : goal.returns-in_err-test_chip
+returns-in_err-test_chip c =
+    let p = err_from_is_err_and c.from_residual.result c.from_residual.ensures.1 in
+    rw (p.1, p.2) (search_refused _ _ _ c.test_chip.result c.test_chip.ensures c.in_err-test_chip.was)
 
-pub returns-in-Passed : goal.returns-in-Passed
-returns-in-Passed c =
+pub returns : goal.returns
+returns c =
     let wf = c.well_formed in
     let w : Whole c.args.c = search whole in
-    record_searched _ (test_passed _ w c.test_chip-tested.result c.test_chip-tested.ensures c.in-Passed.is) _ c.chip_record.ensures _ _ c.write_record.ensures
+    record_searched _ (test_passed _ w c.test_chip.result c.test_chip.ensures c.in_ok-test_chip.was) _ c.chip_record.ensures _ _ c.write_record.ensures

@@ -1,5 +1,4 @@
 use borrow.Author.Rules.{rules}
-use Prim.Native.Nat.{◌-◌}
 use Rattle.search_equal.proofs.Pairing.{net_within}
 use Rattle.search_equal.proofs.mates.mate_of.Goals as goal
 

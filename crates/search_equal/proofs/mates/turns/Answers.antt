@@ -1,10 +1,6 @@
-use Rattle.search_equal.proofs.Turning.{no_says}
-use Rattle.search_equal.proofs.Pairing.{end_fits, net_ends, net_turns}
 use borrow.Author.Rules.{rules}
+use Rattle.search_equal.proofs.Pairing.{end_fits, net_ends, net_turns}
 use Rattle.search_equal.proofs.mates.turns.Goals as goal
-
-pub returns-then-not-same_weight : goal.returns-then-not-same_weight
-returns-then-not-same_weight c = search no_says
 
 pub overflow_add-from : goal.overflow_add-from
 overflow_add-from c = search end_fits
@@ -15,5 +11,5 @@ overflow_add-low c = search end_fits
 pub covers-requires : goal.covers-requires
 covers-requires c = search (rules, net_ends)
 
-pub returns : goal.returns
-returns c = search net_turns
+pub returns-then-same_weight : goal.returns-then-same_weight
+returns-then-same_weight c = search net_turns

@@ -1,6 +1,5 @@
 use mathlib.Core.Path.{refl}
 use Rattle.search_tables.proofs.NetTables.{nets_none, table_done}
-use borrow.Author.Rules.{rules}
 use Rattle.search_tables.proofs.entries.net_table.Goals as goal
 
 pub put_nets-e-requires-clause-nets_in : goal.put_nets-e-requires-clause-nets_in

@@ -4,7 +4,4 @@ use lib.ListN.{length}
 use Rattle.test_vectors.proofs.count.carry_all.Given as goal
 
 abbrev pub invariant-loop-s : goal.invariant-loop-s
-invariant-loop-s l = (l.s ≤ length l.part) × (length l.into ≡ length l.initial.into) × (length l.out ≡ length l.initial.out)
-
-abbrev pub decreases-loop-s : goal.decreases-loop-s
-decreases-loop-s l = length l.part - l.s
+invariant-loop-s l = (length l.into ≡ length l.initial.into) × (length l.out ≡ length l.initial.out)

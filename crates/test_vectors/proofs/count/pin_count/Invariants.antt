@@ -2,7 +2,4 @@ use Prim.Native.Nat.{◌≤◌, ◌-◌}
 use Rattle.test_vectors.proofs.count.pin_count.Given as goal
 
 abbrev pub invariant-loop-j : goal.invariant-loop-j
-invariant-loop-j l = (l.q ≤ 128) × (l.j ≤ 32)
-
-abbrev pub decreases-loop-j : goal.decreases-loop-j
-decreases-loop-j l = 32 - l.j
+invariant-loop-j l = l.q ≤ 128

@@ -4,7 +4,4 @@ use lib.ListN.{length}
 use Rattle.test_vectors.proofs.fitting.spell.Given as goal
 
 abbrev pub invariant-loop-i : goal.invariant-loop-i
-invariant-loop-i l = (l.i ≤ length l.initial.out) × (length l.out ≡ length l.initial.out)
-
-abbrev pub decreases-loop-i : goal.decreases-loop-i
-decreases-loop-i l = length l.initial.out - l.i
+invariant-loop-i l = length l.out ≡ length l.initial.out

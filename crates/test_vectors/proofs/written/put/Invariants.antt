@@ -4,7 +4,4 @@ use Prim.Native.Nat.{◌≤◌, ◌-◌}
 use Rattle.test_vectors.proofs.written.put.Given as goal
 
 abbrev pub invariant-loop-i : goal.invariant-loop-i
-invariant-loop-i l = (l.i ≤ length l.text) × (length l.out ≡ length l.initial.out)
-
-abbrev pub decreases-loop-i : goal.decreases-loop-i
-decreases-loop-i l = length l.text - l.i
+invariant-loop-i l = length l.out ≡ length l.initial.out

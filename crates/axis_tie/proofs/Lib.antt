@@ -1,2 +1,0 @@
-pub mod Ties
-pub mod Evens

@@ -1,7 +1,0 @@
-use Rattle.half_arrays.specs.State.{rank_at}
-use borrow.Author.Rules.{rules}
-use Rattle.half_arrays.proofs.rank.Goals as goal
-
-pub returns : goal.returns
-unfolding rank_at
-returns c = search rules

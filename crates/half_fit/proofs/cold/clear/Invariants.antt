@@ -1,8 +1,0 @@
-use Rattle.std.proofs.Common.{◌-◌, ◌≤◌}
-use Rattle.half_fit.proofs.cold.clear.Given as goal
-
-abbrev pub invariant-loop-i : goal.invariant-loop-i
-invariant-loop-i l = 0 ≤ 0
-
-abbrev pub decreases-loop-i : goal.decreases-loop-i
-decreases-loop-i l = 608 - l.i

@@ -1,8 +1,0 @@
-use Rattle.std.proofs.Common.{◌-◌, ◌≤◌}
-use Rattle.half_fit.proofs.none.shows_none.Given as goal
-
-abbrev pub invariant-loop-a : goal.invariant-loop-a
-invariant-loop-a l = 0 ≤ 0
-
-abbrev pub decreases-loop-a : goal.decreases-loop-a
-decreases-loop-a l = 9 - l.a

@@ -1,5 +1,0 @@
-use Rattle.text_line.proofs.Layouts.{fields_three}
-use Rattle.record_words.proofs.at_fields.Goals as goal
-
-pub returns : goal.returns
-returns c = search fields_three

@@ -1,5 +1,0 @@
-use Rattle.record_words.proofs.Table.{all_tests}
-use Rattle.record_words.proofs.entry_tests.Goals as goal
-
-pub returns : goal.returns
-returns c = search all_tests
