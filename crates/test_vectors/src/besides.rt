@@ -113,11 +113,10 @@ fn with_chip(t: Tally, c: Chip, chip: &[u8], case: u64) -> Tally {
     let mut spots = [Spot { x: 0, y: 0 }; Mac::COUNT];
     for i in 0..1000000 {
         t = with_placement(t, c, chip, spots, case);
-        let turn = next(spots, c.n, die);
-        if turn.over {
+        let Some(later) = next(spots, c.n, die) else {
             return t;
-        }
-        spots = turn.spots;
+        };
+        spots = later;
     }
     t
 }

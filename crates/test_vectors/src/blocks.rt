@@ -96,11 +96,10 @@ fn placed(answer: FitAnswer) -> Found {
     match answer.outcome {
         Ok(Some(f)) => first(spots, f.length),
         Ok(None) => nothing(),
-        Err(_) => {
-            let mut refused = nothing();
-            refused.whole = false;
-            refused
-        }
+        Err(_) => Found {
+            least: None,
+            whole: false,
+        },
     }
 }
 
@@ -110,13 +109,7 @@ fn fit_gives(c: Chip, expected: &[u8; ROOM], length: usize) -> bool {
     let found = placed(fit::fit_letters(c, b"", &mut flow));
     let mut out = [FILL; ROOM];
     let n = put_record(&mut out, found, c.n);
-    if !found.whole {
-        return false;
-    }
-    if n != length {
-        return false;
-    }
-    check::same(&out, expected)
+    found.whole && n == length && check::same(&out, expected)
 }
 
 // What belongs to what was found: its record, with the boxes where they are asked; the answer is its length.
@@ -131,16 +124,14 @@ fn put_asked(out: &mut [u8], c: Chip, asked: Asked, found: Found) -> usize {
 fn agrees(c: Chip, asked: Asked, found: Found) -> bool {
     let mut expected = [FILL; ROOM];
     let length = put_asked(&mut expected, c, asked, found);
-    if !found.whole {
-        return false;
-    }
-    match asked {
-        Asked::Record => search_gives(c, &expected, length),
-        Asked::Undecided => fit_gives(c, &expected, length),
-        Asked::Quote => service_gives(c, Service::Quote, &expected, length),
-        Asked::Boxes => service_gives(c, Service::Boxes, &expected, length),
-        Asked::Beside => false,
-    }
+    found.whole
+        && match asked {
+            Asked::Record => search_gives(c, &expected, length),
+            Asked::Undecided => fit_gives(c, &expected, length),
+            Asked::Quote => service_gives(c, Service::Quote, &expected, length),
+            Asked::Boxes => service_gives(c, Service::Boxes, &expected, length),
+            Asked::Beside => false,
+        }
 }
 
 fn is_undecided(asked: Asked) -> bool {
@@ -183,12 +174,12 @@ fn with_beyond(t: Tally, case: u64, c: Chip) -> Tally {
 // With what was found: no placement, or so many boxes, and whether several placements are least.
 fn with_found(t: Tally, found: Found, boxes: u64) -> Tally {
     let mut t = t;
-    if found.any {
-        t.boxes = sum(t.boxes, boxes);
-    } else {
+    let Some(least) = found.least else {
         t.none = more(t.none);
-    }
-    if 1 < found.count {
+        return t;
+    };
+    t.boxes = sum(t.boxes, boxes);
+    if 1 < least.count {
         t.several = more(t.several);
     }
     t

@@ -253,13 +253,7 @@ fn carry(slot: Slot, amount: u16, most: u16, into: &mut [u64], out: &mut [u64]) 
     if !slot.bound {
         return amount == 0;
     }
-    if most < amount {
-        return false;
-    }
-    if out.len() <= u {
-        return false;
-    }
-    if into.len() <= v {
+    if most < amount || out.len() <= u || into.len() <= v {
         return false;
     }
     out[u] = sum(out[u], amount as u64);
@@ -314,10 +308,8 @@ fn node_even(c: Chip, v: usize, into: u64, out: u64, chain: bool) -> bool {
 
 fn nodes_even(c: Chip, into: &[u64], out: &[u64], chain: bool) -> bool {
     for v in 0..into.len() {
-        if v < out.len() {
-            if !node_even(c, v, into[v], out[v], chain) {
-                return false;
-            }
+        if v < out.len() && !node_even(c, v, into[v], out[v], chain) {
+            return false;
         }
     }
     true
@@ -328,10 +320,8 @@ fn part_even(c: Chip, letters: &[u8], part: &[u16], vertical: bool, chain: bool)
     let mut into = [0u64; 73];
     let mut out = [0u64; 73];
     let most: u16 = if chain { 1 } else { 32000 };
-    if !carry_all(c, letters, part, most, vertical, &mut into, &mut out) {
-        return false;
-    }
-    nodes_even(c, &into, &out, chain)
+    carry_all(c, letters, part, most, vertical, &mut into, &mut out)
+        && nodes_even(c, &into, &out, chain)
 }
 
 // The sum of up x amount, or of down x amount, over a direction.
@@ -347,12 +337,7 @@ fn part_sum(c: Chip, letters: &[u8], part: &[u16], vertical: bool, of_up: bool) 
 
 // Whether all amounts are the one given.
 pub(crate) fn all_are(part: &[u16], amount: u16) -> bool {
-    for s in 0..part.len() {
-        if part[s] != amount {
-            return false;
-        }
-    }
-    true
+    part.iter().all(|a| *a == amount)
 }
 
 // The pins with those of one net more, at most 128.
@@ -419,19 +404,9 @@ pub(crate) fn slot_count(c: Chip, letters: &[u8]) -> usize
 
 // Both directions in balance; only one direction of a chain carries anything.
 fn both_even(c: Chip, letters: &[u8], across: &[u16], up: &[u16], chain: bool) -> bool {
-    if !part_even(c, letters, across, false, chain) {
-        return false;
-    }
-    if !part_even(c, letters, up, true, chain) {
-        return false;
-    }
-    if !chain {
-        return true;
-    }
-    if all_are(across, 0) {
-        return true;
-    }
-    all_are(up, 0)
+    part_even(c, letters, across, false, chain)
+        && part_even(c, letters, up, true, chain)
+        && (!chain || all_are(across, 0) || all_are(up, 0))
 }
 
 // The sum of a x amount is the length of a flow, and above 0 for a chain.
@@ -454,14 +429,8 @@ fn reaches(c: Chip, letters: &[u8], across: &[u16], up: &[u16], length: u64, cha
 pub(crate) fn list_right(c: Chip, letters: &[u8], flow: &[u16], length: u64, chain: bool) -> bool {
     let m = slot_count(c, letters);
     let e = m + m;
-    if flow.len() < e {
-        return false;
-    }
-    if !all_are(&flow[e..], FILL) {
-        return false;
-    }
-    if !both_even(c, letters, &flow[0..m], &flow[m..e], chain) {
-        return false;
-    }
-    reaches(c, letters, &flow[0..m], &flow[m..e], length, chain)
+    e <= flow.len()
+        && all_are(&flow[e..], FILL)
+        && both_even(c, letters, &flow[0..m], &flow[m..e], chain)
+        && reaches(c, letters, &flow[0..m], &flow[m..e], length, chain)
 }

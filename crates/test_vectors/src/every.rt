@@ -3,50 +3,28 @@ use crate::count::{product, sum};
 use geometry::Box;
 use model::{Chip, Die, Fix, Mac, Net, Pin, Spot};
 
-// The first of the least placements, and how many are as short; `whole` says that all positions were tried.
+// The first of the least placements, and how many are as short.
 #[derive(Clone, Copy)]
-pub(crate) struct Found {
-    pub any: bool,
+pub(crate) struct Least {
     pub length: u64,
     pub spots: [Spot; Mac::COUNT],
     pub count: u64,
-    pub whole: bool,
 }
 
-// Positions, or that there are no later ones.
+// What trying found; `whole` says that all positions were tried.
 #[derive(Clone, Copy)]
-pub(crate) struct Turn {
-    pub over: bool,
-    pub spots: [Spot; Mac::COUNT],
-}
-
-// What a is above b.
-fn above(a: u64, b: u64) -> u64 {
-    if b < a {
-        return a - b;
-    }
-    0
+pub(crate) struct Found {
+    pub least: Option<Least>,
+    pub whole: bool,
 }
 
 // Of two boxes one is left of, right of, below or above the other.
 fn apart(a: Box, b: Box) -> bool {
-    if sum(a.x, a.w) <= b.x {
-        return true;
-    }
-    if sum(b.x, b.w) <= a.x {
-        return true;
-    }
-    if sum(a.y, a.h) <= b.y {
-        return true;
-    }
-    sum(b.y, b.h) <= a.y
+    sum(a.x, a.w) <= b.x || sum(b.x, b.w) <= a.x || sum(a.y, a.h) <= b.y || sum(b.y, b.h) <= a.y
 }
 
 fn in_die(die: Die, b: Box) -> bool {
-    if die.w < sum(b.x, b.w) {
-        return false;
-    }
-    sum(b.y, b.h) <= die.h
+    sum(b.x, b.w) <= die.w && sum(b.y, b.h) <= die.h
 }
 
 fn fix_box(f: Fix) -> Box {
@@ -69,15 +47,9 @@ fn mac_box(m: Mac, s: Spot) -> Box {
 
 // Whether a box is apart from each of the first k fixes.
 fn clear_of_fixes(b: Box, fixes: [Fix; Fix::COUNT], k: usize) -> bool {
-    for i in 0..Fix::COUNT {
-        if k <= i {
-            return true;
-        }
-        if !apart(b, fix_box(fixes[i])) {
-            return false;
-        }
-    }
-    true
+    fixes[..k.min(Fix::COUNT)]
+        .iter()
+        .all(|f| apart(b, fix_box(*f)))
 }
 
 // Whether a fix is apart from each of the first k fixes.
@@ -103,28 +75,15 @@ fn clear_of_macs(c: Chip, spots: [Spot; Mac::COUNT], j: usize) -> bool {
 // Whether macro j lies in the die, and, unless every pair is undecided, is apart from the fixes and from the macros before it.
 fn allowed_macro(c: Chip, spots: [Spot; Mac::COUNT], j: usize, undecided: bool) -> bool {
     let macs = c.macs;
-    let fixes = c.fixes;
     if Mac::COUNT <= j {
         return true;
     }
     let b = mac_box(macs[j], spots[j]);
-    if !in_die(c.die, b) {
-        return false;
-    }
-    if undecided {
-        return true;
-    }
-    if !clear_of_fixes(b, fixes, c.k) {
-        return false;
-    }
-    clear_of_macs(c, spots, j)
+    in_die(c.die, b) && (undecided || clear_of_fixes(b, c.fixes, c.k) && clear_of_macs(c, spots, j))
 }
 
 pub(crate) fn allowed(c: Chip, spots: [Spot; Mac::COUNT], undecided: bool) -> bool {
-    for j in 0..Mac::COUNT {
-        if c.n <= j {
-            return true;
-        }
+    for j in 0..c.n.min(Mac::COUNT) {
         if !allowed_macro(c, spots, j, undecided) {
             return false;
         }
@@ -148,20 +107,6 @@ fn place_of(spots: [Spot; Mac::COUNT], p: Pin) -> Spot {
     }
 }
 
-pub(crate) fn lesser(a: u64, b: u64) -> u64 {
-    if a < b {
-        return a;
-    }
-    b
-}
-
-fn greater(a: u64, b: u64) -> u64 {
-    if a < b {
-        return b;
-    }
-    a
-}
-
 // The least and the greatest coordinates of some pins, 4,096 higher.
 #[derive(Clone, Copy)]
 pub(crate) struct Extent {
@@ -174,12 +119,12 @@ fn wider(e: Extent, p: Spot) -> Extent {
     let most = e.most;
     Extent {
         least: Spot {
-            x: lesser(least.x, p.x),
-            y: lesser(least.y, p.y),
+            x: least.x.min(p.x),
+            y: least.y.min(p.y),
         },
         most: Spot {
-            x: greater(most.x, p.x),
-            y: greater(most.y, p.y),
+            x: most.x.max(p.x),
+            y: most.y.max(p.y),
         },
     }
 }
@@ -209,7 +154,10 @@ pub(crate) fn extent_of(
 fn half_perimeter(e: Extent) -> u64 {
     let least = e.least;
     let most = e.most;
-    sum(above(most.x, least.x), above(most.y, least.y))
+    sum(
+        most.x.saturating_sub(least.x),
+        most.y.saturating_sub(least.y),
+    )
 }
 
 // The place after a net's pins.
@@ -241,55 +189,59 @@ pub(crate) fn length_of(c: Chip, spots: [Spot; Mac::COUNT]) -> u64 {
 }
 
 // The positions that come next: the last macro's y first, up to the die's sides.
-pub(crate) fn next(mut spots: [Spot; Mac::COUNT], n: usize, die: Die) -> Turn {
+pub(crate) fn next(
+    mut spots: [Spot; Mac::COUNT],
+    n: usize,
+    die: Die,
+) -> Option<[Spot; Mac::COUNT]> {
     for i in (0..n.min(Mac::COUNT)).rev() {
         let s = spots[i];
         if s.y < die.h {
             spots[i] = Spot { x: s.x, y: s.y + 1 };
-            return Turn { over: false, spots };
+            return Some(spots);
         }
         if s.x < die.w {
             spots[i] = Spot { x: s.x + 1, y: 0 };
-            return Turn { over: false, spots };
+            return Some(spots);
         }
         spots[i] = Spot { x: 0, y: 0 };
     }
-    Turn { over: true, spots }
+    None
 }
 
 pub(crate) fn nothing() -> Found {
     Found {
-        any: false,
-        length: 0,
-        spots: [Spot { x: 0, y: 0 }; Mac::COUNT],
-        count: 0,
+        least: None,
         whole: true,
     }
 }
 
 pub(crate) fn first(spots: [Spot; Mac::COUNT], length: u64) -> Found {
     Found {
-        any: true,
-        length,
-        spots,
-        count: 1,
+        least: Some(Least {
+            length,
+            spots,
+            count: 1,
+        }),
         whole: true,
     }
 }
 
 // With one placement more, which comes later.
 fn with_later(found: Found, spots: [Spot; Mac::COUNT], length: u64) -> Found {
-    if !found.any {
+    let Some(mut least) = found.least else {
+        return first(spots, length);
+    };
+    if length < least.length {
         return first(spots, length);
     }
-    if length < found.length {
-        return first(spots, length);
+    if length == least.length {
+        least.count = sum(least.count, 1);
     }
-    let mut found = found;
-    if length == found.length {
-        found.count = sum(found.count, 1);
+    Found {
+        least: Some(least),
+        whole: found.whole,
     }
-    found
 }
 
 fn tried(c: Chip, spots: [Spot; Mac::COUNT], undecided: bool, found: Found) -> Found {
@@ -306,11 +258,10 @@ pub(crate) fn try_every(c: Chip, undecided: bool) -> Found {
     let mut spots = [Spot { x: 0, y: 0 }; Mac::COUNT];
     for i in 0..1000000 {
         found = tried(c, spots, undecided, found);
-        let turn = next(spots, c.n, die);
-        if turn.over {
+        let Some(later) = next(spots, c.n, die) else {
             return found;
-        }
-        spots = turn.spots;
+        };
+        spots = later;
     }
     found.whole = false;
     found

@@ -56,10 +56,7 @@ fn print_chain(c: Chip, letters: &[u8], flow: &[u16]) {
 }
 
 fn flow_right(c: Chip, letters: &[u8], f: Fitted, flow: &[u16]) -> bool {
-    if f.slots != 2 * slot_count(c, letters) {
-        return false;
-    }
-    list_right(c, letters, flow, f.length, false)
+    f.slots == 2 * slot_count(c, letters) && list_right(c, letters, flow, f.length, false)
 }
 
 fn print_placed(c: Chip, letters: &[u8], f: Fitted, spots: [Spot; Mac::COUNT], flow: &[u16]) {

@@ -21,10 +21,7 @@ fn print_written(answer: Result<usize, Refusal>, written: &[u8], text: &[u8]) {
 
 // Whether the first n bytes are the text.
 fn is_text(written: &[u8], n: usize, text: &[u8]) -> bool {
-    if written.len() < n {
-        return false;
-    }
-    check::same(&written[0..n], text)
+    n <= written.len() && check::same(&written[0..n], text)
 }
 
 pub(crate) fn chip(text: &[u8]) {

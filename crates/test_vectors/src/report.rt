@@ -6,12 +6,7 @@ pub(crate) const FILL: u8 = 35;
 
 // Whether the bytes from `from` on are as they were.
 pub(crate) fn untouched(out: &[u8], from: usize) -> bool {
-    for i in from..out.len() {
-        if out[i] != FILL {
-            return false;
-        }
-    }
-    true
+    out.iter().skip(from).all(|b| *b == FILL)
 }
 
 // Prints number,line.

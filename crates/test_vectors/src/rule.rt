@@ -1,7 +1,7 @@
 // Small chips made by a rule from a case's number.
 ghost use Rattle.std.specs.Prelude.{◌≤◌};
 
-use crate::every::{clear, lesser};
+use crate::every::clear;
 use crate::fields::number_at;
 use model::{Chip, Die, Fix, Mac, Net, Pin};
 
@@ -82,7 +82,7 @@ fn die_of(case: u64, b: Block) -> Die {
 // A number from 1 to most, the smaller ones more often.
 fn small_side(case: u64, place: u64, most: u64) -> u64 {
     if place < 65536 {
-        return lesser(side(case, place, most), side(case, place + 1, most));
+        return side(case, place, most).min(side(case, place + 1, most));
     }
     1
 }
@@ -103,7 +103,7 @@ fn macs_of(case: u64, most: u64) -> [Mac; Mac::COUNT] {
 // The rest of a side from x on, at most 2.
 fn rest(whole: u64, x: u64) -> u64 {
     if x < whole {
-        return lesser(2, whole - x);
+        return (whole - x).min(2);
     }
     0
 }

@@ -64,75 +64,54 @@ fn chip_on(s: &[u8], text: &mut [u8]) -> State {
 fn about_values(s: &[u8], c: Chip) -> bool {
     if is_at(s, 0, b"write") {
         values::chip(s, c);
-        return true;
-    }
-    if is_at(s, 0, b"least") {
+    } else if is_at(s, 0, b"least") {
         values::least(s);
-        return true;
-    }
-    if is_at(s, 0, b"none") {
+    } else if is_at(s, 0, b"none") {
         values::none(s);
-        return true;
-    }
-    if is_at(s, 0, b"make") {
+    } else if is_at(s, 0, b"make") {
         values::make(s);
-        return true;
-    }
-    if is_at(s, 0, b"measure") {
+    } else if is_at(s, 0, b"measure") {
         measuring::measure(s, c);
-        return true;
+    } else {
+        return false;
     }
-    false
+    true
 }
 
 // Verbs about fits; whether s has one of them.
 fn about_fits(s: &[u8], c: Chip) -> bool {
     if is_at(s, 0, b"fit") {
         fitting::fit(s, c);
-        return true;
-    }
-    if is_at(s, 0, b"spoil") {
+    } else if is_at(s, 0, b"spoil") {
         fitting::spoil(s, c);
-        return true;
-    }
-    if is_at(s, 0, b"amounts") {
+    } else if is_at(s, 0, b"amounts") {
         fitting::amounts(s, c);
-        return true;
-    }
-    if is_at(s, 0, b"strings") {
+    } else if is_at(s, 0, b"strings") {
         fitting::strings(s, c);
-        return true;
+    } else {
+        return false;
     }
-    false
+    true
 }
 
 // Verbs about the text of a chip; whether s has one of them.
 fn about_texts(s: &[u8], text: &[u8]) -> bool {
     if is_at(s, 0, b"print") {
         searching::ask(s, text, Service::Print);
-        return true;
-    }
-    if is_at(s, 0, b"print-boxes") {
+    } else if is_at(s, 0, b"print-boxes") {
         searching::ask(s, text, Service::PrintBoxes);
-        return true;
-    }
-    if is_at(s, 0, b"place") {
+    } else if is_at(s, 0, b"place") {
         searching::ask(s, text, Service::Place);
-        return true;
-    }
-    if is_at(s, 0, b"quote") {
+    } else if is_at(s, 0, b"quote") {
         searching::ask(s, text, Service::Quote);
-        return true;
-    }
-    if is_at(s, 0, b"boxes") {
+    } else if is_at(s, 0, b"boxes") {
         searching::ask(s, text, Service::Boxes);
-        return true;
-    }
-    if is_at(s, 0, b"beside") {
+    } else if is_at(s, 0, b"beside") {
         besides::beside(s, text);
-        return true;
+    } else {
+        return false;
     }
-    false
+    true
 }
 
 // Verbs about records.
@@ -185,10 +164,7 @@ fn named(s: &[u8], text: &[u8], n: usize, c: Chip) {
 
 // Whether s is a case that is read and written back.
 fn is_text(s: &[u8]) -> bool {
-    if is_at(s, 0, b"chip") {
-        return true;
-    }
-    is_at(s, 0, b"record")
+    is_at(s, 0, b"chip") || is_at(s, 0, b"record")
 }
 
 // One line: what the next lines are about after it.
@@ -212,10 +188,7 @@ fn line(s: &[u8], text: &mut [u8], state: State) -> State {
 
 // A line that is not passed over: empty lines and lines that begin with # are.
 fn is_case(s: &[u8]) -> bool {
-    if s.len() == 0 {
-        return false;
-    }
-    s[0] != 35
+    s.len() != 0 && s[0] != b'#'
 }
 
 fn case(s: &[u8], text: &mut [u8], state: State) -> State {

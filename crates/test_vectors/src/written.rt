@@ -48,14 +48,13 @@ fn put_spots(out: &mut [u8], at: usize, spots: [Spot; Mac::COUNT], n: usize) -> 
 
 // The record of what was found for n macros; the answer is its length.
 pub(crate) fn put_record(out: &mut [u8], found: Found, n: usize) -> usize {
-    let spots = found.spots;
-    if !found.any {
+    let Some(least) = found.least else {
         return put(out, 0, b"none\ndone\n");
-    }
+    };
     let mut a = put(out, 0, b"least,wl,");
-    a = put_number(out, a, found.length);
+    a = put_number(out, a, least.length);
     a = put(out, a, b"\n");
-    a = put_spots(out, a, spots, n);
+    a = put_spots(out, a, least.spots, n);
     put(out, a, b"done\n")
 }
 
@@ -102,10 +101,9 @@ fn put_boxes(out: &mut [u8], at: usize, c: Chip, spots: [Spot; Mac::COUNT]) -> u
 
 // The record of what was found for a chip, then the box of each net there; the answer is their length.
 pub(crate) fn put_boxed(out: &mut [u8], found: Found, c: Chip) -> usize {
-    let spots = found.spots;
     let a = put_record(out, found, c.n);
-    if !found.any {
-        return a;
+    match found.least {
+        Some(least) => put_boxes(out, a, c, least.spots),
+        None => a,
     }
-    put_boxes(out, a, c, spots)
 }
