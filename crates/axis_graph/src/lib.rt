@@ -9,7 +9,6 @@ ghost use Rattle.axis_graph.specs.Limits.{slot_room};
 use axis_bounds::{Axis, Slot};
 
 pub mod above;
-pub mod bounds;
 pub mod fine;
 
 // The nodes and the slots that a graph has room for; its nets are those of an axis.

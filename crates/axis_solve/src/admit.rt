@@ -6,9 +6,9 @@ ghost use Rattle.axis_solve.specs.Growth.{Growing};
 ghost use Rattle.axis_solve.specs.Admit.{with_slot, target, Feasible, Fresh, Approached, Wanted, AdmitOk};
 
 use crate::growth::{Growth, grow_step, rebase, seed};
+use crate::keeps::is_kept;
 use crate::push::push;
 use axis_bounds::Slot;
-use axis_graph::bounds::is_kept;
 use axis_graph::{Graph, NODE_ROOM, SLOT_ROOM};
 
 // Grows until the bound of s holds, or its tail joins.

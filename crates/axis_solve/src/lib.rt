@@ -8,6 +8,7 @@
 mod admit;
 mod augment;
 mod growth;
+mod keeps;
 mod push;
 mod solve;
 mod start;

@@ -6,10 +6,10 @@
 #![tactic(auto)]
 
 ghost use Rattle.std.specs.Prelude.{◌<◌};
-ghost use Rattle.axis_graph.specs.Graph.{GraphWithin, ValuesWithin, Holds, Tights, Shows};
+ghost use Rattle.axis_graph.specs.Graph.{GraphWithin, SlotWithin, ValuesWithin, Holds, TightAt, Tights, Decides, Shows};
 ghost use Rattle.axis_values.specs.Values.{Kept, Parent, Rooted, Rests};
 
-use axis_graph::bounds::{is_kept, is_tight};
+use axis_bounds::Slot;
 use axis_graph::fine::is_fine;
 use axis_graph::{Graph, NODE_ROOM, NODES, PARENTS, SLOT_ROOM};
 use axis_tie::is_tied;
@@ -24,7 +24,7 @@ fn bounds_hold(g: Graph, x: [u64; NODE_ROOM]) -> bool
     ensures { Shows result (Holds g.slots g.m x) }
 {
     for s in &g.slots[..g.m] {
-        if !is_kept(*s, &x) {
+        if x[s.head] + s.minus < x[s.tail] + s.plus {
             return false;
         }
     }
@@ -37,6 +37,15 @@ fn keeps_all(g: Graph, x: [u64; NODE_ROOM]) -> bool
     ensures { Shows result (Kept g x) }
 {
     x.iter().all(|v| *v <= HIGHEST) && bounds_hold(g, x)
+}
+
+// Whether the bound of s is an equation at the values x.
+fn is_tight(s: Slot, x: &[u64; NODE_ROOM]) -> bool
+    requires slot_within { SlotWithin s }
+    requires values_within { ValuesWithin x.now }
+    ensures { Decides result (TightAt s x.now) }
+{
+    x[s.tail] + s.plus == x[s.head] + s.minus
 }
 
 // Whether every slot that carries something is tight.

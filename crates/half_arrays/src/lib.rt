@@ -127,7 +127,7 @@ pub const LOW: u32 = 196608;
 
 impl Origin {
     // The origin that is written as `how`.
-    pub fn of(how: u32) -> Origin {
+    fn of(how: u32) -> Origin {
         let i = (how / 256 % 128) as usize;
         let j = (how % 128) as usize;
         match how {

@@ -1,13 +1,13 @@
 // The push of an amount along the parents of a path.
 use crate::POOL;
 use crate::residual::{set_carried, set_flow};
-use crate::state::{End, FAR, PerNode, V, at, carried, cell, get};
+use crate::state::{End, FAR, PerNode, at, carried, cell, get};
 use crate::tables::Given;
-use half_arrays::{FLOWS, NODES, Origin};
+use half_arrays::{FLOWS, NODES, Origin, way};
 
 // How the residual bound from p to w arises.
 fn origin(s: &[u32; POOL], o: usize, p: usize, w: usize) -> Origin {
-    Origin::of(get(s, o, V, cell(p, w)))
+    way(s, o, cell(p, w))
 }
 
 // What the step from p to w can take.
