@@ -120,5 +120,7 @@ pub(crate) fn lack_of(s: &[u32; POOL], o: usize, u: usize, v: usize, b: u32) -> 
 pub(crate) fn copy(from: &[u32; POOL], a: usize, to: &mut [u32; POOL], o: usize) {
     let left = a % 4 * STATE;
     let right = o % 4 * STATE;
-    to[right..right + STATE].copy_from_slice(&from[left..left + STATE]);
+    for i in 0..STATE {
+        to[right + i] = from[left + i];
+    }
 }

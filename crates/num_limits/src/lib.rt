@@ -22,5 +22,5 @@ pub fn greater(a: u64, b: u64) -> u64
 pub fn sum(a: u64, b: u64) -> u64
     ensures { result ≡ min a 4294967296 + min b 4294967296 }
 {
-    a.min(LONGEST) + b.min(LONGEST)
+    lesser(a, LONGEST) + lesser(b, LONGEST)
 }

@@ -57,8 +57,8 @@ pub fn joined(s: Span, up: u64) -> Span
     if s.some {
         Span {
             some: true,
-            most: s.most.max(up),
-            least: s.least.min(up),
+            most: num_limits::greater(s.most, up),
+            least: num_limits::lesser(s.least, up),
         }
     } else {
         Span {

@@ -16,7 +16,7 @@ use axis_bounds::Slot;
 use chip_pins::pins_before;
 use fit_slots::Direction;
 use model::{Chip, Mac, Net, Pin};
-use search_numbers::bound_of;
+use search_numbers::{bound_of, greater};
 
 // The lengths of the arrays, which are those of half_arrays.
 pub const TAB: usize = half_arrays::TAB;
@@ -36,7 +36,7 @@ pub fn with_bound(arcs: [u32; ARCS], s: Slot) -> [u32; ARCS]
 {
     let mut with = arcs;
     let place = s.tail % 9 * 9 + s.head % 9;
-    with[place] = (arcs[place] % 33554432).max(bound_of(s.plus, s.minus));
+    with[place] = greater(arcs[place] % 33554432, bound_of(s.plus, s.minus));
     with
 }
 
