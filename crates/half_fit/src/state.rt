@@ -116,7 +116,7 @@ pub(crate) fn lack_of(s: &[u32; POOL], o: usize, u: usize, v: usize, b: u32) -> 
     need.saturating_sub(have)
 }
 
-// State a of another pool into state o of this one.
+// State a of another pool into state o of this one. Place by place: `copy_from_slice` makes the static library call `memmove`.
 pub(crate) fn copy(from: &[u32; POOL], a: usize, to: &mut [u32; POOL], o: usize) {
     let left = a % 4 * STATE;
     let right = o % 4 * STATE;
